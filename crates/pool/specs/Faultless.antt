@@ -1,0 +1,104 @@
+-- What has none of the listed faults, and what each fault is, said without the reader and the writer. Assumes nothing.
+use Prim.Native.Nat.{ℕ, _+_, _*_, _≤_, _<_}
+use mathlib.Core.Path.{_≡_}
+use mathlib.Core.List.{List}
+use lib.ListN.{length, getD}
+use Rattle.laws.specs.Below.{Once}
+use Rattle.laws.specs.Digits.{bigEndian}
+use Rattle.pool.specs.Pool.{Pair}
+use Rattle.pool.specs.Sheet.{pairPlace, sheetLength, pairsIn, pairAt, shuffleAt}
+use Rattle.pool.specs.Tables.{Fields, Tables, pairIn}
+
+-- ## Pairs and shuffle
+
+-- blood 0 to 3, age group 0 to 1
+pub record InRange (q : Pair) : Type 0 where
+  pub donorBlood : q .donorBlood ≤ 3
+  pub patientBlood : q .patientBlood ≤ 3
+  pub donorAge : q .donorAge ≤ 1
+  pub patientAge : q .patientAge ≤ 1
+
+-- "no two alike": the ids of two of the first n pairs differ
+abbrev pub Unlike : ℕ → (ℕ → Pair) → Type 0
+Unlike n pair = (i j : ℕ) → j < i → i < n → pair j .id ≡ pair i .id → ⊥
+
+-- "each of 0 to N − 1 exactly once"
+abbrev pub EachOnce : ℕ → (ℕ → ℕ) → Type 0
+EachOnce n s = (v : ℕ) → v < n → Once n s v
+
+-- n pairs and their shuffle
+pub record Faultless (n : ℕ) (pair : ℕ → Pair) (s : ℕ → ℕ) : Type 0 where
+  pub few : n ≤ 200
+  pub inRange : (i : ℕ) → i < n → InRange (pair i)
+  pub unlike : Unlike n pair
+  pub eachOnce : EachOnce n s
+
+-- ## A sheet
+
+-- a whole field at o, of this tag and length
+pub record Field (b : List ℕ) (o tag len : ℕ) : Type 0 where
+  pub whole : o + 3 + len ≤ length b
+  pub tagged : bigEndian 1 b o ≡ tag
+  pub sized : bigEndian 2 b (o + 1) ≡ len
+
+-- the fields where they are due, version 1, nothing after
+pub record FaultlessSheet (b : List ℕ) : Type 0 where
+  pub head : Field b 0 1 4
+  pub version : bigEndian 2 b 3 ≡ 1
+  pub pair : (i : ℕ) → i < pairsIn b → Field b (pairPlace i) 2 32
+  pub shuffle : Field b (pairPlace (pairsIn b)) 3 (2 * pairsIn b)
+  pub nothingAfter : length b ≡ sheetLength (pairsIn b)
+  pub pool : Faultless (pairsIn b) (pairAt b) (shuffleAt b (pairsIn b))
+
+-- a field that is due at a place, with its tag and length
+pub data Due (b : List ℕ) : ℕ → ℕ → ℕ → Type 0 where
+  head : Due b 0 1 4
+  pair : (i : ℕ) → i < pairsIn b → Due b (pairPlace i) 2 32
+  shuffle : Due b (pairPlace (pairsIn b)) 3 (2 * pairsIn b)
+
+-- fault k of a sheet, at place o
+pub data SheetFault (b : List ℕ) : ℕ → ℕ → Type 0 where
+  startCutOff : (o tag len : ℕ) → Due b o tag len → length b < o + 3 → SheetFault b 1 o
+  valueCutOff : (o tag len : ℕ) → Due b o tag len → bigEndian 1 b o ≡ tag → bigEndian 2 b (o + 1) ≡ len → length b < o + 3 + len → SheetFault b 1 o
+  wrongTag : (o tag len : ℕ) → Due b o tag len → o + 3 ≤ length b → (bigEndian 1 b o ≡ tag → ⊥) → SheetFault b 2 o
+  wrongLength : (o tag len : ℕ) → Due b o tag len → o + 3 ≤ length b → (bigEndian 2 b (o + 1) ≡ len → ⊥) → SheetFault b 2 o
+  wrongVersion : Field b 0 1 4 → (bigEndian 2 b 3 ≡ 1 → ⊥) → SheetFault b 3 0
+  tooManyPairs : Field b 0 1 4 → 200 < pairsIn b → SheetFault b 4 0
+  leftOver : Field b (pairPlace (pairsIn b)) 3 (2 * pairsIn b) → sheetLength (pairsIn b) < length b → SheetFault b 5 (sheetLength (pairsIn b))
+  outOfRange : (i : ℕ) → i < pairsIn b → Field b (pairPlace i) 2 32 → (InRange (pairAt b i) → ⊥) → SheetFault b 6 (pairPlace i)
+  repeatedId : (i j : ℕ) → j < i → i < pairsIn b → Field b (pairPlace i) 2 32 → pairAt b j .id ≡ pairAt b i .id → SheetFault b 7 (pairPlace i)
+  notAShuffle :
+      Field b (pairPlace (pairsIn b)) 3 (2 * pairsIn b)
+      → (EachOnce (pairsIn b) (shuffleAt b (pairsIn b)) → ⊥)
+      → SheetFault b 8 (pairPlace (pairsIn b))
+
+-- ## Lent tables
+
+-- none of the tables of the fields is shorter than n
+pub record FieldsHold (n : ℕ) (f : Fields) : Type 0 where
+  pub ids : n ≤ length (f .ids)
+  pub donorBlood : n ≤ length (f .donorBlood)
+  pub patientBlood : n ≤ length (f .patientBlood)
+  pub donorAge : n ≤ length (f .donorAge)
+  pub patientAge : n ≤ length (f .patientAge)
+  pub donorAntigens : n ≤ length (f .donorAntigens)
+  pub patientAntigens : n ≤ length (f .patientAntigens)
+  pub patientAntibodies : n ≤ length (f .patientAntibodies)
+
+pub record Hold (n : ℕ) (t : Tables) : Type 0 where
+  pub fields : FieldsHold n (t .fields)
+  pub shuffle : n ≤ length (t .shuffle)
+
+-- a pool in the first n entries of lent tables
+pub record FaultlessPool (n : ℕ) (t : Tables) : Type 0 where
+  pub hold : Hold n t
+  pub pool : Faultless n (pairIn (t .fields)) (λ j. getD (t .shuffle) j 0)
+
+-- fault k of writing it into a buffer of so many bytes
+pub data PoolFault (n : ℕ) (t : Tables) (space : ℕ) : ℕ → Type 0 where
+  tooManyPairs : 200 < n → PoolFault n t space 4
+  tableTooShort : (Hold n t → ⊥) → PoolFault n t space 9
+  outOfRange : (i : ℕ) → i < n → (InRange (pairIn (t .fields) i) → ⊥) → PoolFault n t space 6
+  repeatedId : (i j : ℕ) → j < i → i < n → pairIn (t .fields) j .id ≡ pairIn (t .fields) i .id → PoolFault n t space 7
+  notAShuffle : (EachOnce n (λ j. getD (t .shuffle) j 0) → ⊥) → PoolFault n t space 8
+  bufferTooShort : space < sheetLength n → PoolFault n t space 9

@@ -1,0 +1,9 @@
+-- Document 01's 'The pool sheet', 'Writer and printout' and 'Turned back'. Believe `Pool`, `Sheet`, `Tables`, `Turned` and `Calls`:
+-- the contracts cite them. `Faultless` says a second time, without them, what has none of the faults; `Promises` has the statements.
+pub mod Pool
+pub mod Sheet
+pub mod Tables
+pub mod Turned
+pub mod Calls
+pub mod Faultless
+pub mod Promises

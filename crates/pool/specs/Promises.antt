@@ -1,0 +1,58 @@
+-- What is promised of sheets, as statements: the proofs are in `proofs/`, and the contracts of `reader`, `writer` and `copies` carry them.
+-- Assumes nothing.
+use Prim.Native.Nat.{ℕ, _≤_, _<_}
+use mathlib.Core.Path.{_≡_}
+use mathlib.Core.List.{List}
+use lib.ListN.{length, getD, take}
+use Rattle.laws.specs.Lent.{filled}
+use Rattle.refusal.specs.Answer.{Answer, finished, refused, Outcome, outcome}
+use Rattle.pool.specs.Sheet.{sheetLength, pairsIn}
+use Rattle.pool.specs.Tables.{Fields, Tables, poolIn, filledTables}
+use Rattle.pool.specs.Calls.{reading, writing}
+use Rattle.pool.specs.Faultless.{FaultlessSheet, SheetFault, Hold, FaultlessPool, PoolFault}
+
+-- fault k of reading, at place o: one of the sheet's, or 9 with place 0 where a lent table can't hold its pairs
+pub data ReadFault (b : List ℕ) (t : Tables) : ℕ → ℕ → Type 0 where
+  sheet : (k o : ℕ) → SheetFault b k o → ReadFault b t k o
+  tableTooShort : FaultlessSheet b → (Hold (pairsIn b) t → ⊥) → ReadFault b t 9 0
+
+-- "Every sheet with none of the listed faults is accepted", and no other; a refusal names a fault that is there
+pub record ReadsRightly (b : List ℕ) (t : Tables) (a : Answer ℕ) : Type 0 where
+  pub accepts : FaultlessSheet b → Hold (pairsIn b) t → a ≡ finished (pairsIn b)
+  pub accepted : (n : ℕ) → a ≡ finished n → (n ≡ pairsIn b) × FaultlessSheet b × Hold n t
+  pub refuses : (k o : ℕ) → a ≡ refused k o → ReadFault b t k o
+
+-- "Every pool with none of the listed faults is accepted", and no other; a refusal names a fault that is there, with place 0
+pub record WritesRightly (n : ℕ) (t : Tables) (space : ℕ) (a : Answer ℕ) : Type 0 where
+  pub accepts : FaultlessPool n t → sheetLength n ≤ space → a ≡ finished (sheetLength n)
+  pub accepted : (m : ℕ) → a ≡ finished m → (m ≡ sheetLength n) × FaultlessPool n t × (m ≤ space)
+  pub refuses : (k o : ℕ) → a ≡ refused k o → (o ≡ 0) × PoolFault n t space k
+
+-- what the types of the slices give: each entry is below m
+abbrev pub Below : ℕ → List ℕ → Type 0
+Below m l = (i : ℕ) → getD l i 0 < m
+
+pub record Typed (t : Tables) : Type 0 where
+  pub ids : Below 4294967296 (t .fields .ids)
+  pub donorAntigens : Below 18446744073709551616 (t .fields .donorAntigens)
+  pub patientAntigens : Below 18446744073709551616 (t .fields .patientAntigens)
+  pub patientAntibodies : Below 18446744073709551616 (t .fields .patientAntibodies)
+  pub shuffle : Below 65536 (t .shuffle)
+
+-- "An accepted pool sheet read and written again is the same sheet"
+abbrev pub SheetComesBack : Type 0
+SheetComesBack =
+    (b : List ℕ) (t : Tables) (out : List ℕ) (n : ℕ)
+    → Below 256 b
+    → reading b t .answer ≡ finished n
+    → length b ≤ length out
+    → writing n (reading b t .lent) out ≡ outcome (finished (length b)) (filled b out)
+
+-- "A written pool reads back as that pool", into any tables that can hold it
+abbrev pub PoolComesBack : Type 0
+PoolComesBack =
+    (n : ℕ) (t : Tables) (out : List ℕ) (m : ℕ) (other : Tables)
+    → Typed t
+    → writing n t out .answer ≡ finished m
+    → Hold n other
+    → reading (take m (writing n t out .lent)) other ≡ outcome (finished n) (filledTables (poolIn n t) other)

@@ -1,0 +1,1 @@
+// The pool and its sheet: definitions and theorems. No code.

@@ -1,0 +1,49 @@
+// The refusals of document 01 by name, and each one's number there ('Turned back, by whom it is caused').
+ghost use mathlib.Core.Path.{_≡_};
+ghost use Rattle.refusal.specs.Number.{numberOf};
+
+pub enum Refusal {
+    // The sender of the sheet: a field's start or value is cut off or missing.
+    CutOff,
+    // The tag or the length is not the one due.
+    WrongField,
+    WrongVersion,
+    // N is above 200.
+    TooManyPairs,
+    // Bytes are left over.
+    LeftOver,
+    // The hospital: a blood group above 3 or an age group above 1.
+    OutOfRange,
+    // The id of an earlier pair.
+    RepeatedId,
+    // Whoever drew the shuffle: not each number once.
+    NotAShuffle,
+    // The calling program: a lent buffer or table is too short.
+    TooShort,
+    // A compatibility entry is above 1, or a pair's own is not 0.
+    NotCompatibility,
+}
+
+// What a check of one thing finds.
+pub enum Verdict {
+    Sound,
+    Faulty(Refusal),
+}
+
+// Document 01's number of a refusal.
+pub fn number(why: Refusal) -> u8
+    ensures { λ r. ⌜ r ≡ numberOf why ⌝ }
+{
+    match why {
+        Refusal::CutOff => 1,
+        Refusal::WrongField => 2,
+        Refusal::WrongVersion => 3,
+        Refusal::TooManyPairs => 4,
+        Refusal::LeftOver => 5,
+        Refusal::OutOfRange => 6,
+        Refusal::RepeatedId => 7,
+        Refusal::NotAShuffle => 8,
+        Refusal::TooShort => 9,
+        Refusal::NotCompatibility => 10,
+    }
+}
