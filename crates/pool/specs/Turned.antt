@@ -14,12 +14,12 @@ use Rattle.pool.specs.Tables.{Tables, room, pairIn}
 -- ## The hospital's, and whoever drew the shuffle's: in a sheet, and in lent tables
 
 -- "6 blood above 3 or age group above 1"
-unfoldable pub groupFault : ℕ → Pair → Fault
-groupFault o q =
-    refuse 6 o (ltb 3 (q .donorBlood))
-    then refuse 6 o (ltb 3 (q .patientBlood))
-    then refuse 6 o (ltb 1 (q .donorAge))
-    then refuse 6 o (ltb 1 (q .patientAge))
+unfoldable pub groupFault : ℕ → ℕ → ℕ → ℕ → ℕ → Fault
+groupFault o donorBlood patientBlood donorAge patientAge =
+    refuse 6 o (ltb 3 donorBlood)
+    then refuse 6 o (ltb 3 patientBlood)
+    then refuse 6 o (ltb 1 donorAge)
+    then refuse 6 o (ltb 1 patientAge)
 
 -- "7 id of an earlier pair"
 unfoldable pub idFault : ℕ → (ℕ → ℕ) → ℕ → Fault
@@ -27,7 +27,8 @@ idFault o id i = refuse 7 o (anyBelow i (λ j. eqb (id j) (id i)))
 
 -- "6 and 7 pair by pair": those of pair i, whose place is o
 unfoldable pub pairFault : ℕ → (ℕ → Pair) → ℕ → Fault
-pairFault o pair i = groupFault o (pair i) then idFault o (λ j. pair j .id) i
+pairFault o pair i =
+    groupFault o (pair i .donorBlood) (pair i .patientBlood) (pair i .donorAge) (pair i .patientAge) then idFault o (λ j. pair j .id) i
 
 -- "8 not each number once" among s 0, .., s (n - 1)
 unfoldable pub shuffleFault : ℕ → ℕ → (ℕ → ℕ) → Fault

@@ -1,0 +1,2 @@
+-- `Found`: what the checks find, as document 01's faults.
+pub mod Found

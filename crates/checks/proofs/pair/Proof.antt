@@ -1,0 +1,48 @@
+-- `checks::pair` meets its contract. Assumes nothing.
+use borrow.Author.Needs.{needs}
+use Rattle.checks.proofs.Found.{pair-group, pair-again, pair-sound}
+use Rattle.checks.proofs.pair.Statement.{statement}
+use Rattle.checks.proofs.pair.Tie as tie
+
+groups-requires : tie.Need-groups-requires
+groups-requires c κs = search needs
+
+enum-known-why : tie.Need-enum-known-why
+enum-known-why c = search needs
+
+enum-told : tie.Need-enum-told
+enum-told c = search needs
+
+repeated-requires : tie.Need-repeated-requires
+repeated-requires c κs = search needs
+
+returns : tie.Need-returns
+returns c o p a =
+    let g = c .before .before .before .groups in
+    pair-group o p _ _ _ _ _ _ a (g .result) (g .ensures o) _ (c .before .why .given .1)
+
+returns-2 : tie.Need-returns-2
+returns-2 c o p a =
+    let d = c .before .before in
+    let g = d .before .before .groups in
+    let r = c .before .repeated in
+    pair-again o p _ _ _ _ _ _ a (g .result) (g .ensures o) (d .enum-told .given .1) (r .result) (r .ensures) (c .if1 .taken)
+
+returns-3 : tie.Need-returns-3
+returns-3 c o p a =
+    let d = c .before .before in
+    let g = d .before .before .groups in
+    let r = c .before .repeated in
+    pair-sound o p _ _ _ _ _ _ a (g .result) (g .ensures o) (d .enum-told .given .1) (r .result) (r .ensures) (c .if1 .left)
+
+pub pair-spec : {M : Type 1} → statement M
+pair-spec =
+    tie.close
+    (tie.spec
+    groups-requires
+    enum-known-why
+    enum-told
+    repeated-requires
+    returns
+    returns-2
+    returns-3)

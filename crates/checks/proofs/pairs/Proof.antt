@@ -1,0 +1,102 @@
+-- `checks::pairs` meets its contract. The loop's invariant: the pairs passed have no fault. Assumes nothing.
+use Prim.Native.Nat.{ℕ, _-_, _≤_}
+use mathlib.Core.Path.{_≡_, refl}
+use mathlib.Core.List.{List}
+use native.Mathlib.Omega.{arith}
+use borrow.Author.Needs.{needs}
+use Rattle.refusal.specs.Fault.{none, firstBelow}
+use Rattle.refusal.proofs.Faults.{first-more, sound-none}
+use Rattle.pool.specs.Tables.{fields, pairIn}
+use Rattle.pool.specs.Turned.{pairFault}
+use Rattle.checks.proofs.Found.{agree-in, pairs-many, pairs-short, pairs-found, pairs-sound}
+use Rattle.checks.proofs.pairs.Statement.{statement}
+use Rattle.checks.proofs.pairs.Tie as tie
+
+abbrev Inv-loop : tie.InvT-loop
+Inv-loop n space ids donor-blood patient-blood donor-age patient-age i₀ i =
+    (i ≤ n) × ((f g h : List ℕ) → firstBelow i (pairFault 0 (pairIn (fields ids donor-blood patient-blood donor-age patient-age f g h))) ≡ none)
+
+abbrev μ-loop : tie.MeasureT-loop
+μ-loop n space ids donor-blood patient-blood donor-age patient-age i₀ i = n - i
+
+returns : tie.Need-returns Inv-loop μ-loop
+returns c f g h = pairs-many _ _ _ (c .if1 .taken)
+
+returns-2 : tie.Need-returns-2 Inv-loop μ-loop
+returns-2 c f g h = pairs-short _ _ _ (c .before .if1 .left) (c .if2 .taken)
+
+loop-holds : tie.Need-loop-holds Inv-loop μ-loop
+unfolding firstBelow
+loop-holds c = (omega arith, λ f g h. refl)
+
+shared-slice-read-pair : tie.Need-shared-slice-read-pair Inv-loop μ-loop
+shared-slice-read-pair c = search needs
+
+shared-slice-read-pair-2 : tie.Need-shared-slice-read-pair-2 Inv-loop μ-loop
+shared-slice-read-pair-2 c = search needs
+
+shared-slice-read-pair-3 : tie.Need-shared-slice-read-pair-3 Inv-loop μ-loop
+shared-slice-read-pair-3 c = search needs
+
+shared-slice-read-pair-4 : tie.Need-shared-slice-read-pair-4 Inv-loop μ-loop
+shared-slice-read-pair-4 c = search needs
+
+pair-requires : tie.Need-pair-requires Inv-loop μ-loop
+pair-requires c κs = search needs
+
+enum-known-why : tie.Need-enum-known-why Inv-loop μ-loop
+enum-known-why c = search needs
+
+returns-3 : tie.Need-returns-3 Inv-loop μ-loop
+returns-3 c f g h =
+    let d = c .before .before .before in
+    let t = d .before .before .before .before .before in
+    let l = t .before .loop in
+    pairs-found _ _ _ (t .before .before .before .if1 .left) (t .before .before .if2 .left) (l .i) (t .loop-test .taken) (l .inv .1 f g h) (d .pair .result)
+    (d .pair .ensures 0 _ (agree-in _ _ _ _ _ f g h (l .i))) _ (c .before .why .given .1)
+
+enum-told : tie.Need-enum-told Inv-loop μ-loop
+enum-told c = search needs
+
+add-i : tie.Need-add-i Inv-loop μ-loop
+add-i c = search needs
+
+loop-less : tie.Need-loop-less Inv-loop μ-loop
+loop-less c = search needs
+
+loop-again : tie.Need-loop-again Inv-loop μ-loop
+loop-again c =
+    let d = c .before .before in
+    let l = d .before .before .before .before .before .before .loop in (
+      omega arith,
+      λ f g h.
+          first-more (l .i) _ (l .inv .1 f g h)
+          (sound-none 0 (d .pair .result) (d .pair .ensures 0 _ (agree-in _ _ _ _ _ f g h (l .i))) (c .enum-told .given .1)),
+    )
+
+returns-4 : tie.Need-returns-4 Inv-loop μ-loop
+returns-4 c f g h =
+    let l = c .before .loop in
+    pairs-sound _ _ _ (c .before .before .before .if1 .left) (c .before .before .if2 .left) (l .i) (omega arith) (l .inv .1 f g h)
+
+pub pairs-spec : {M : Type 1} → statement M
+pairs-spec =
+    tie.close
+    (tie.spec
+    Inv-loop
+    μ-loop
+    returns
+    returns-2
+    loop-holds
+    shared-slice-read-pair
+    shared-slice-read-pair-2
+    shared-slice-read-pair-3
+    shared-slice-read-pair-4
+    pair-requires
+    enum-known-why
+    returns-3
+    enum-told
+    add-i
+    loop-less
+    loop-again
+    returns-4)

@@ -1,0 +1,2 @@
+-- What the checks ask of their arguments.
+pub mod Agree

@@ -1,0 +1,169 @@
+// What reading, writing, building and planning check alike: 4, 6, 7, 8, and 9 of the tables of the fields.
+use refusal::Refusal;
+use refusal::Verdict;
+ghost use mathlib.Core.Path.{_≡_};
+ghost use mathlib.Core.List.{List};
+ghost use Prim.Native.Nat.{ℕ, _+_, _≤_, _<_, min};
+ghost use lib.ListN.{length, getD};
+ghost use lib.Dec.{eqb};
+ghost use Rattle.laws.specs.Below.{anyBelow, countBelow};
+ghost use Rattle.refusal.specs.Number.{faultAt};
+ghost use Rattle.pool.specs.Pool.{Pair};
+ghost use Rattle.pool.specs.Tables.{fields, pairIn};
+ghost use Rattle.pool.specs.Turned.{groupFault, pairFault, pairsFault, shuffleFault};
+ghost use Rattle.checks.specs.Agree.{Agree, Spaced};
+
+// The lesser of two lengths.
+pub fn lesser(x: usize, y: usize) -> usize
+    ensures { λ r. ⌜ r ≡ min x y ⌝ }
+{
+    if x < y { x } else { y }
+}
+
+// How many pairs the shortest of the eight tables can hold, by their lengths.
+pub fn room(
+    ids: usize,
+    donor_blood: usize,
+    patient_blood: usize,
+    donor_age: usize,
+    patient_age: usize,
+    donor_antigens: usize,
+    patient_antigens: usize,
+    patient_antibodies: usize,
+) -> usize
+    ensures { λ r. ⌜ r ≡ min ids (min «donor_blood» (min «patient_blood» (min «donor_age» (min «patient_age» (min «donor_antigens» (min «patient_antigens» «patient_antibodies»)))))) ⌝ }
+{
+    let tissue = lesser(donor_antigens, lesser(patient_antigens, patient_antibodies));
+    let ages = lesser(donor_age, lesser(patient_age, tissue));
+    let bloods = lesser(donor_blood, lesser(patient_blood, ages));
+    lesser(ids, bloods)
+}
+
+// 6: a blood group above 3 or an age group above 1.
+fn groups(donor_blood: u8, patient_blood: u8, donor_age: u8, patient_age: u8) -> Verdict
+    ensures { λ r. ⌜ ((o : ℕ) → faultAt o r ≡ groupFault o «donor_blood» «patient_blood» «donor_age» «patient_age») ⌝ }
+{
+    if donor_blood > 3 {
+        return Verdict::Faulty(Refusal::OutOfRange);
+    }
+    if patient_blood > 3 {
+        return Verdict::Faulty(Refusal::OutOfRange);
+    }
+    if donor_age > 1 {
+        return Verdict::Faulty(Refusal::OutOfRange);
+    }
+    if patient_age > 1 {
+        return Verdict::Faulty(Refusal::OutOfRange);
+    }
+    Verdict::Sound
+}
+
+// Has pair i the id of an earlier one?
+fn repeated(ids: &[u32], i: usize) -> bool
+    requires { ⌜ i < length (now ids) ⌝ }
+    ensures { λ r. ⌜ r ≡ anyBelow i (λ j. eqb (getD (now (ids .entry)) j 0) (getD (now (ids .entry)) i 0)) ⌝ }
+{
+    let id = ids[i];
+    let mut j: usize = 0;
+    while j < i {
+        if ids[j] == id {
+            return true;
+        }
+        j += 1;
+    }
+    false
+}
+
+// 6 and 7 of pair i, whose groups are these and whose id stands at i, after those of the earlier pairs.
+pub fn pair(
+    i: usize,
+    ids: &[u32],
+    donor_blood: u8,
+    patient_blood: u8,
+    donor_age: u8,
+    patient_age: u8,
+) -> Verdict
+    requires { ⌜ i < length (now ids) ⌝ }
+    ensures { λ r. ⌜ ((o : ℕ) (p : ℕ → Pair) → Agree p i (now (ids .entry)) «donor_blood» «patient_blood» «donor_age» «patient_age» → faultAt o r ≡ pairFault o p i) ⌝ }
+{
+    match groups(donor_blood, patient_blood, donor_age, patient_age) {
+        Verdict::Faulty(why) => Verdict::Faulty(why),
+        Verdict::Sound => {
+            if repeated(ids, i) {
+                Verdict::Faulty(Refusal::RepeatedId)
+            } else {
+                Verdict::Sound
+            }
+        }
+    }
+}
+
+// The first n pairs of lent tables, of which the shortest of all has `space` entries: 4, 9, then 6 and 7 pair by pair.
+pub fn pairs(
+    n: usize,
+    space: usize,
+    ids: &[u32],
+    donor_blood: &[u8],
+    patient_blood: &[u8],
+    donor_age: &[u8],
+    patient_age: &[u8],
+) -> Verdict
+    requires { ⌜ Spaced space (now ids) (now «donor_blood») (now «patient_blood») (now «donor_age») (now «patient_age») ⌝ }
+    ensures { λ r. ⌜ ((f g h : List ℕ) → faultAt 0 r ≡ pairsFault n space (pairIn (fields (now (ids .entry)) (now («donor_blood» .entry)) (now («patient_blood» .entry)) (now («donor_age» .entry)) (now («patient_age» .entry)) f g h))) ⌝ }
+{
+    if n > 200 {
+        return Verdict::Faulty(Refusal::TooManyPairs);
+    }
+    if space < n {
+        return Verdict::Faulty(Refusal::TooShort);
+    }
+    let mut i: usize = 0;
+    while i < n {
+        match pair(
+            i,
+            ids,
+            donor_blood[i],
+            patient_blood[i],
+            donor_age[i],
+            patient_age[i],
+        ) {
+            Verdict::Faulty(why) => {
+                return Verdict::Faulty(why);
+            }
+            Verdict::Sound => {}
+        }
+        i += 1;
+    }
+    Verdict::Sound
+}
+
+// How often v stands among the first n numbers.
+fn times(s: &[u16], n: usize, v: usize) -> usize
+    requires { ⌜ n ≤ length (now s) ⌝ }
+    ensures { λ r. ⌜ r ≡ countBelow n (λ j. eqb (getD (now (s .entry)) j 0) v) ⌝ }
+{
+    let mut count: usize = 0;
+    let mut j: usize = 0;
+    while j < n {
+        if s[j] as usize == v {
+            count += 1;
+        }
+        j += 1;
+    }
+    count
+}
+
+// 8: not each of 0 .. n - 1 once among the first n numbers.
+pub fn shuffle(s: &[u16], n: usize) -> Verdict
+    requires { ⌜ n ≤ length (now s) ⌝ }
+    ensures { λ r. ⌜ ((o : ℕ) → faultAt o r ≡ shuffleFault o n (λ j. getD (now (s .entry)) j 0)) ⌝ }
+{
+    let mut v: usize = 0;
+    while v < n {
+        if times(s, n, v) != 1 {
+            return Verdict::Faulty(Refusal::NotAShuffle);
+        }
+        v += 1;
+    }
+    Verdict::Sound
+}

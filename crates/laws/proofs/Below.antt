@@ -1,0 +1,200 @@
+-- Laws of `specs/Below.antt`. Assumes nothing.
+use mathlib.Core.Path.{_≡_, refl, sym, ap, ap₂, _∙_, subst}
+use mathlib.Core.Bool.{Bool, true, false, not}
+use mathlib.Core.List.{List, [], _∷_, _++_, map, map-append}
+use Prim.Native.Nat.{ℕ, zero, suc, _+_, _≤_, _<_}
+use native.Mathlib.Nat.{add-zero}
+use native.Mathlib.Numerals.{add-one}
+use native.Mathlib.Omega.{arith}
+use native.Mathlib.Decide.{decLt}
+use borrow.Author.Tests.{eqb-true, eqb-false, eq-eqb, ne-eqb}
+use lib.Dec.{eqb}
+use lib.ListN.{length, getD, length-append, List·getD-append}
+use lib.Seq.{getD-at, ext-getD}
+use Rattle.laws.specs.Below.{table, either, anyBelow, one, countBelow, Once}
+
+-- i < n + 1 is i < n, or n
+pub below-suc : {P : ℕ → Type 0} (n : ℕ) → ((i : ℕ) → i < n → P i) → P n → (i : ℕ) → i < suc n → P i
+below-suc {P} n h z i l = go (decLt i n)
+  where
+    go : Dec (i < n) → P i
+    go (yes k) = h i k
+    go (no k) =
+        let e : n ≡ i = omega arith in
+        subst P e z
+
+-- a test that is both
+pub true-false : {A : Type 0} {t : Bool} → t ≡ true → t ≡ false → A
+true-false e f =
+    let z : _≡_ {A = ℕ} 0 1 = cc in
+    absurd (omega arith)
+
+-- ## either
+
+pub either-false : (s t : Bool) → either s t ≡ false → (s ≡ false) × (t ≡ false)
+unfolding either
+either-false true t e = true-false refl e
+either-false false t e = (refl, e)
+
+pub either-true : (s : Bool) → either s true ≡ true
+unfolding either
+either-true true = refl
+either-true false = refl
+
+-- ## anyBelow
+
+pub any-none : (n : ℕ) (p : ℕ → Bool) → anyBelow n p ≡ false → (i : ℕ) → i < n → p i ≡ false
+unfolding anyBelow
+any-none zero p e i l = absurd (omega arith)
+any-none (suc n) p e i l =
+    let h = either-false (anyBelow n p) (p n) e in
+    below-suc {P = λ i. p i ≡ false} n (any-none n p (h .0)) (h .1) i l
+
+pub none-any : (n : ℕ) (p : ℕ → Bool) → ((i : ℕ) → i < n → p i ≡ false) → anyBelow n p ≡ false
+unfolding anyBelow either
+none-any zero p h = refl
+none-any (suc n) p h = rw (none-any n p (λ i l. h i (omega arith)), h n (omega arith))
+
+pub any-hit : (n : ℕ) (p : ℕ → Bool) (i : ℕ) → i < n → p i ≡ true → anyBelow n p ≡ true
+unfolding anyBelow either
+any-hit zero p i l e = absurd (omega arith)
+any-hit (suc n) p i l e = go (λ k. any-hit n p i k e) (decLt i n)
+  where
+    go : (i < n → anyBelow n p ≡ true) → Dec (i < n) → either (anyBelow n p) (p n) ≡ true
+    go r (yes k) = rw (r k)
+    go r (no k) =
+        let q : n ≡ i = omega arith in
+        rw (ap p q ∙ e) (either-true (anyBelow n p))
+
+-- where any holds, one is found
+pub any-found : (n : ℕ) (p : ℕ → Bool) → anyBelow n p ≡ true → (i : ℕ) × (i < n) × (p i ≡ true)
+unfolding anyBelow either
+any-found zero p e = true-false e refl
+any-found (suc n) p e = go (any-found n p) (anyBelow n p) refl e
+  where
+    go : (anyBelow n p ≡ true → (i : ℕ) × (i < n) × (p i ≡ true)) → (t : Bool) → anyBelow n p ≡ t → either t (p n) ≡ true
+        → (i : ℕ) × (i < suc n) × (p i ≡ true)
+    go r true h f = (r h .0, omega (arith, r h .1), r h .2)
+    go r false h f = (n, omega arith, f)
+
+pub any-cong : (n : ℕ) (p q : ℕ → Bool) → ((i : ℕ) → i < n → p i ≡ q i) → anyBelow n p ≡ anyBelow n q
+unfolding anyBelow
+any-cong zero p q h = refl
+any-cong (suc n) p q h = ap₂ either (any-cong n p q (λ i l. h i (omega arith))) (h n (omega arith))
+
+-- a turn of a loop that looks for one
+pub any-more : (n : ℕ) (p : ℕ → Bool) → anyBelow n p ≡ false → p n ≡ false → anyBelow (n + 1) p ≡ false
+unfolding anyBelow either
+any-more n p h e = rw (add-one, h, e)
+
+-- ## countBelow
+
+pub count-cong : (n : ℕ) (p q : ℕ → Bool) → ((i : ℕ) → i < n → p i ≡ q i) → countBelow n p ≡ countBelow n q
+unfolding countBelow
+count-cong zero p q h = refl
+count-cong (suc n) p q h = ap₂ (λ (a : ℕ) (t : Bool). a + one t) (count-cong n p q (λ i l. h i (omega arith))) (h n (omega arith))
+
+-- a turn of a loop that counts
+pub count-more : (n : ℕ) (p : ℕ → Bool) → countBelow (n + 1) p ≡ countBelow n p + one (p n)
+unfolding countBelow
+count-more n p = ap (λ (k : ℕ). countBelow k p) (add-one n)
+
+pub count-hit : (n : ℕ) (p : ℕ → Bool) (x : ℕ) → p n ≡ true → x ≡ countBelow n p → x + 1 ≡ countBelow (n + 1) p
+unfolding one
+count-hit n p x e h = rw (count-more, e, h)
+
+pub count-miss : (n : ℕ) (p : ℕ → Bool) (x : ℕ) → p n ≡ false → x ≡ countBelow n p → x ≡ countBelow (n + 1) p
+unfolding one
+count-miss n p x e h = rw (count-more, e, h) (sym (add-zero (countBelow n p)))
+
+-- nowhere, and only at one place
+pub count-none : (n : ℕ) (p : ℕ → Bool) → ((i : ℕ) → i < n → p i ≡ false) → countBelow n p ≡ 0
+unfolding countBelow one
+count-none zero p h = refl
+count-none (suc n) p h = rw (count-none n p (λ i l. h i (omega arith)), h n (omega arith))
+
+pub none-count : (n : ℕ) (p : ℕ → Bool) → countBelow n p ≡ 0 → (i : ℕ) → i < n → p i ≡ false
+unfolding countBelow one
+none-count zero p e i l = absurd (omega arith)
+none-count (suc n) p e i l = go (none-count n p) (p n) refl
+  where
+    go : (countBelow n p ≡ 0 → (i : ℕ) → i < n → p i ≡ false) → (t : Bool) → p n ≡ t → p i ≡ false
+    go r true h = absurd (omega (arith, rw h at e))
+    go r false h = below-suc {P = λ i. p i ≡ false} n (r (omega arith)) h i l
+
+-- ## Once: by counting, and without
+
+module _ (f : ℕ → ℕ) (v : ℕ) where
+  pub once-count : (n : ℕ) → Once n f v → countBelow n (λ j. eqb (f j) v) ≡ 1
+  unfolding countBelow one
+  once-count zero w = absurd (omega (arith, w .below))
+  once-count (suc n) w = go (once-count n) (decLt (w .at) n)
+    where
+      go : (Once n f v → countBelow n (λ j. eqb (f j) v) ≡ 1) → Dec (w .at < n) → countBelow n (λ j. eqb (f j) v) + one (eqb (f n) v) ≡ 1
+      go r (yes k) =
+          let miss : eqb (f n) v ≡ false = ne-eqb (f n) v (λ e. let q : n ≡ w .at = w .only n (omega arith) e in omega arith) in
+          rw (r (record { at = w .at; below = k; there = w .there; only = λ i l. w .only i (omega arith) }), miss)
+      go r (no k) =
+          let q : w .at ≡ n = omega (arith, w .below) in
+          let hit : eqb (f n) v ≡ true = eq-eqb (f n) v (ap f (sym q) ∙ w .there) in
+          let z : countBelow n (λ j. eqb (f j) v) ≡ 0 =
+          count-none n (λ j. eqb (f j) v)
+          (λ i l. ne-eqb (f i) v (λ e. let y : i ≡ w .at = w .only i (omega arith) e in omega arith)) in
+          rw (z, hit)
+
+  pub count-once : (n : ℕ) → countBelow n (λ j. eqb (f j) v) ≡ 1 → Once n f v
+  unfolding countBelow one
+  count-once zero e = absurd (omega arith)
+  count-once (suc n) e = go (count-once n) (eqb (f n) v) refl
+    where
+      go : (countBelow n (λ j. eqb (f j) v) ≡ 1 → Once n f v) → (t : Bool) → eqb (f n) v ≡ t → Once (suc n) f v
+      go r true h =
+          let z : countBelow n (λ j. eqb (f j) v) ≡ 0 = omega (arith, rw h at e) in
+          record {
+            at = n;
+            below = omega arith;
+            there = eqb-true (f n) v h;
+            only =
+                below-suc {P = λ i. f i ≡ v → i ≡ n} n
+                (λ i l g. absurd (eqb-false (f i) v (none-count n (λ j. eqb (f j) v) z i l) g))
+                (λ g. refl);
+          }
+      go r false h =
+          let w = r (omega (arith, rw h at e)) in
+          record {
+            at = w .at;
+            below = omega (arith, w .below);
+            there = w .there;
+            only = below-suc {P = λ i. f i ≡ v → i ≡ w .at} n (w .only) (λ g. absurd (eqb-false (f n) v h g));
+          }
+
+-- ## table
+
+pub length-table : {A : Type 0} (n : ℕ) (f : ℕ → A) → length (table n f) ≡ n
+unfolding table
+length-table zero f = refl
+length-table (suc n) f = length-append (table n f) (f n ∷ []) ∙ add-one (length (table n f)) ∙ ap suc (length-table n f)
+
+pub getD-table : {A : Type 0} (n : ℕ) (f : ℕ → A) (d : A) (i : ℕ) → i < n → getD (table n f) i d ≡ f i
+unfolding table
+getD-table zero f d i l = absurd (omega arith)
+getD-table (suc n) f d i l =
+    below-suc {P = λ i. getD (table n f ++ (f n ∷ [])) i d ≡ f i} n
+    (λ j m. List·getD-append (table n f) (f n ∷ []) d j (rw length-table m) ∙ getD-table n f d j m)
+    (getD-at (table n f) (f n) [] d n (length-table n f)) i l
+
+pub table-cong : {A : Type 0} (n : ℕ) (f g : ℕ → A) → ((i : ℕ) → i < n → f i ≡ g i) → table n f ≡ table n g
+unfolding table
+table-cong zero f g h = refl
+table-cong {A} (suc n) f g h = ap₂ (λ (l : List A) (a : A). l ++ (a ∷ [])) (table-cong n f g (λ i l. h i (omega arith))) (h n (omega arith))
+
+-- a list is the table of its entries
+pub table-getD : {A : Type 0} (d : A) (l : List A) (n : ℕ) (f : ℕ → A) → length l ≡ n → ((i : ℕ) → i < n → f i ≡ getD l i d) → table n f ≡ l
+table-getD d l n f e h =
+    ext-getD d (table n f) l (length-table n f ∙ sym e)
+    (λ i k. let m : i < n = rw length-table at k in getD-table n f d i m ∙ h i m)
+
+pub map-table : {A B : Type 0} (g : A → B) (n : ℕ) (f : ℕ → A) → map g (table n f) ≡ table n (λ i. g (f i))
+unfolding table
+map-table g zero f = refl
+map-table {A} {B} g (suc n) f = map-append g (table n f) (f n ∷ []) ∙ ap (λ (l : List B). l ++ (g (f n) ∷ [])) (map-table g n f)

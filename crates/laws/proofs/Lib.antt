@@ -1,0 +1,5 @@
+-- `Below`: tables, tests and counts over 0 .. n - 1. `Lists`: parts of a list, and lists joined. `Digits`: numbers in bytes. `Lent`: tables that are filled.
+pub mod Below
+pub mod Lists
+pub mod Digits
+pub mod Lent

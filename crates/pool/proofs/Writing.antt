@@ -1,0 +1,109 @@
+-- Writing's promise: every pool with none of the faults is accepted, and no other; a refusal names a fault that is there. Assumes nothing.
+use mathlib.Core.Path.{_≡_, refl, sym, ap, _∙_}
+use mathlib.Core.List.{List}
+use Prim.Native.Nat.{ℕ, _+_, _*_, _≤_, _<_}
+use native.Mathlib.Omega.{arith}
+use borrow.Author.Tests.{le-ltb, ltb-true, ltb-false}
+use lib.ListN.{length, getD}
+use Rattle.laws.specs.Lent.{filled}
+use Rattle.refusal.specs.Fault.{Fault, none, fault, refuse, _then_, firstBelow}
+use Rattle.refusal.specs.Answer.{Answer, finished, refused, Outcome, outcome, unless}
+use Rattle.refusal.proofs.Faults.{then-none, none-then, refuse-none, none-refuse, first-none, none-first, by-refuse, by-then, by-first, unless-none, finished-none, refused-fault}
+use Rattle.pool.specs.Pool.{Pair}
+use Rattle.pool.specs.Sheet.{sheetLength, sheetOf}
+use Rattle.pool.specs.Tables.{Fields, Tables, room, pairIn, poolIn}
+use Rattle.pool.specs.Turned.{pairFault, pairsFault, poolFault, roomFault, shuffleFault}
+use Rattle.pool.specs.Calls.{writing}
+use Rattle.pool.specs.Faultless.{InRange, Unlike, Faultless, FaultlessPool, PoolFault, Hold}
+use Rattle.pool.specs.Promises.{WritesRightly}
+use Rattle.pool.proofs.Lengths.{length-sheetIn}
+use Rattle.pool.proofs.Rooms.{room-hold, hold-room}
+use Rattle.pool.proofs.Pairs.{pair-none, pair-passed, pair-fault, shuffle-none, shuffle-passed, shuffle-fault}
+use Rattle.pool.proofs.Reading.{room-none, room-passed, room-fault}
+
+-- ## 4, 9, 6 and 7 of n pairs in tables of `space` entries
+
+module _ (n space : ℕ) (pair : ℕ → Pair) where
+  pub pairs-none : n ≤ 200 → n ≤ space → ((i : ℕ) → i < n → InRange (pair i)) → Unlike n pair → pairsFault n space pair ≡ none
+  unfolding pairsFault
+  pairs-none few held r u =
+      none-then _ _ (none-refuse 4 0 _ (le-ltb 200 n few))
+      ∙ none-then _ _ (room-none space n held)
+      ∙ none-first n (pairFault 0 pair) (λ i l. pair-none 0 pair i (r i l) (λ j k. u i j k l))
+
+  pub pairs-passed : pairsFault n space pair ≡ none → (n ≤ 200) × (n ≤ space) × ((i : ℕ) → i < n → InRange (pair i)) × Unlike n pair
+  unfolding pairsFault
+  pairs-passed e =
+      let s = then-none _ _ e in
+      let r = then-none _ _ (s .1) in
+      let at : (i : ℕ) → i < n → pairFault 0 pair i ≡ none = first-none n (pairFault 0 pair) (r .1) in (
+        ltb-false _ _ (refuse-none _ _ _ (s .0)),
+        room-passed space n (r .0),
+        λ i l. pair-passed 0 pair i (at i l) .0,
+        λ i j k l. pair-passed 0 pair i (at i l) .1 j k,
+      )
+
+  pub pairs-fault : (P : ℕ → ℕ → Type 0) → (200 < n → P 4 0) → (space < n → P 9 0) → ((i : ℕ) → i < n → (InRange (pair i) → ⊥) → P 6 0)
+      → ((i j : ℕ) → j < i → i < n → pair j .id ≡ pair i .id → P 7 0) → (k o : ℕ) → pairsFault n space pair ≡ fault k o → P k o
+  unfolding pairsFault
+  pairs-fault P four nine six seven =
+      by-then P _ _ (by-refuse P 4 0 _ (λ e. four (ltb-true _ _ e)))
+      (λ _. by-then P _ _ (room-fault P space n nine)
+      (λ _. by-first P n (pairFault 0 pair) (λ i l. pair-fault 0 pair i P (six i l) (λ j k e. seven i j k l e))))
+
+-- ## A pool
+
+module _ (n : ℕ) (t : Tables) where
+  pub pool-none : FaultlessPool n t → poolFault n t ≡ none
+  unfolding poolFault
+  pool-none w =
+      none-then _ _ (pairs-none n (room t) (pairIn (t .fields)) (w .pool .few) (hold-room n t (w .hold)) (w .pool .inRange) (w .pool .unlike))
+      ∙ shuffle-none 0 n _ (w .pool .eachOnce)
+
+  pub pool-passed : poolFault n t ≡ none → FaultlessPool n t
+  unfolding poolFault
+  pool-passed e =
+      let s = then-none _ _ e in
+      let p = pairs-passed n (room t) (pairIn (t .fields)) (s .0) in
+      record {
+        hold = room-hold n t (p .1);
+        pool = record { few = p .0; inRange = p .2; unlike = p .3; eachOnce = shuffle-passed 0 n _ (s .1) };
+      }
+
+-- ## The call
+
+module _ (n : ℕ) (t : Tables) (out : List ℕ) where
+  pub writing-none : FaultlessPool n t → sheetLength n ≤ length out
+      → writing n t out ≡ outcome (finished (length (sheetOf (poolIn n t)))) (filled (sheetOf (poolIn n t)) out)
+  unfolding writing
+  writing-none w l =
+      unless-none _ _ _ _ (none-then _ _ (pool-none n t w) ∙ room-none (length out) _ (rw (length-sheetIn n t) l))
+
+  pub writing-passed : (m : ℕ) → writing n t out .answer ≡ finished m → (m ≡ sheetLength n) × FaultlessPool n t × (m ≤ length out)
+  unfolding writing
+  writing-passed m e =
+      let f = finished-none _ _ _ _ e in
+      let s = then-none _ _ (f .0) in
+      (sym (f .1) ∙ length-sheetIn n t, pool-passed n t (s .0), rw (← f .1) (room-passed (length out) _ (s .1)))
+
+  writing-fault : (k o : ℕ) → writing n t out .answer ≡ refused k o → (o ≡ 0) × PoolFault n t (length out) k
+  unfolding writing poolFault
+  writing-fault k o e =
+      let P : ℕ → ℕ → Type 0 = λ k o. (o ≡ 0) × PoolFault n t (length out) k in
+      by-then P _ _
+      (by-then P _ _
+      (pairs-fault n (room t) (pairIn (t .fields)) P (λ l. (refl, PoolFault.tooManyPairs l))
+      (λ l. (refl, PoolFault.tableTooShort (λ h. omega (arith, l, hold-room n t h))))
+      (λ i l h. (refl, PoolFault.outOfRange i l h))
+      (λ i j k l e. (refl, PoolFault.repeatedId i j k l e)))
+      (λ _. shuffle-fault 0 n _ P (λ h. (refl, PoolFault.notAShuffle h))))
+      (λ _. room-fault P (length out) _ (λ l. (refl, PoolFault.bufferTooShort (rw (length-sheetIn n t) at l)))) k o
+      (refused-fault _ _ _ _ e)
+
+  pub writes-rightly : WritesRightly n t (length out) (writing n t out .answer)
+  writes-rightly =
+      record {
+        accepts = λ w l. ap (λ (r : Outcome ℕ (List ℕ)). r .answer) (writing-none w l) ∙ ap finished (length-sheetIn n t);
+        accepted = writing-passed;
+        refuses = writing-fault;
+      }

@@ -1,0 +1,2 @@
+-- Laws of `specs/Fault.antt`, `specs/Answer.antt` and `specs/Number.antt`.
+pub mod Faults
