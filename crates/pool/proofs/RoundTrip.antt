@@ -1,24 +1,27 @@
 -- There and back: an accepted sheet, read and written again, is that sheet; a written pool reads back as that pool. Assumes nothing.
-use mathlib.Core.Path.{_≡_, refl, sym, ap, ap₂, _∙_}
-use mathlib.Core.List.{List, [], _∷_, map}
-use Prim.Native.Nat.{ℕ, zero, suc, _+_, _≤_, _<_}
+use mathlib.Core.Path.{_≡_, sym, ap, ap₂, _∙_}
+use mathlib.Core.List.{List, map}
+use Prim.Native.Nat.{ℕ, _≤_, _<_}
 use native.Mathlib.Omega.{arith}
-use lib.ListN.{length, getD, take, length-map, List·getD-map}
+use lib.ListN.{length, getD, take, length-map}
 use Rattle.laws.specs.Below.{table}
 use Rattle.laws.specs.Lent.{filled}
 use Rattle.laws.proofs.Below.{length-table, getD-table, table-cong, map-table}
 use Rattle.laws.proofs.Lent.{length-filled, getD-filled, take-filled}
-use Rattle.refusal.specs.Answer.{Outcome, finished, outcome}
+use Rattle.refusal.specs.Answer.{Outcome, finished, unless}
+use Rattle.refusal.proofs.Faults.{unless-none, unless-then}
 use Rattle.pool.specs.Pool.{Pair, Pool}
-use Rattle.pool.specs.Sheet.{sheetOf, sheetLength, pairsIn, pairAt, shuffleAt, poolOf}
-use Rattle.pool.specs.Tables.{Fields, Tables, tables, pairIn, poolIn, filledFields, filledTables}
+use Rattle.pool.specs.Sheet.{sheetOf, pairsIn, pairAt, shuffleAt, poolOf}
+use Rattle.pool.specs.Tables.{Fields, Tables, room, pairIn, poolIn, filledFields, filledTables}
+use Rattle.pool.specs.Turned.{roomFault}
 use Rattle.pool.specs.Calls.{reading, writing}
 use Rattle.pool.specs.Faultless.{FieldsHold, Hold, FaultlessSheet, FaultlessPool, Faultless}
 use Rattle.pool.specs.Promises.{Below, Typed, SheetComesBack, PoolComesBack}
 use Rattle.pool.proofs.Lengths.{length-sheetIn}
 use Rattle.pool.proofs.Pairs.{faultless-cong}
-use Rattle.pool.proofs.Reading.{reading-none, reading-passed}
-use Rattle.pool.proofs.Writing.{writing-none, writing-passed}
+use Rattle.pool.proofs.Rooms.{hold-room}
+use Rattle.pool.proofs.Reading.{room-none, sheet-none, reading-none, reading-passed}
+use Rattle.pool.proofs.Writing.{pool-none, writing-none, writing-passed}
 use Rattle.pool.proofs.Read.{sheet-back}
 use Rattle.pool.proofs.Written.{Fits, written, sheet-written, says-pairs, says-pool, written-faultless}
 
@@ -106,11 +109,12 @@ typed-fits t y i =
       patientAntibodies = y .patientAntibodies i;
     }
 
--- ## The two theorems
+-- ## There and back, whatever the buffer or the other tables can hold
 
-pub sheet-comes-back : SheetComesBack
-unfolding poolOf
-sheet-comes-back b t out n bytes e l =
+pub sheet-again : (b : List ℕ) (t : Tables) (out : List ℕ) (n : ℕ) → Below 256 b → reading b t .answer ≡ finished n
+    → writing n (reading b t .lent) out ≡ unless (roomFault (length out) (length b)) (length b) (filled b out) out
+unfolding poolOf writing
+sheet-again b t out n bytes e =
     let r = reading-passed b t n e in
     let s : FaultlessSheet b = r .1 in
     let h : Hold (pairsIn b) t = rw (← r .0) (r .2) in
@@ -119,14 +123,14 @@ sheet-comes-back b t out n bytes e l =
     let w : FaultlessPool (pairsIn b) t′ = faultless-filled (pairsIn b) (pairAt b) (shuffleAt b (pairsIn b)) t h (s .pool) in
     let again : sheetOf (poolIn (pairsIn b) t′) ≡ b =
     ap sheetOf (pool-in-filled (pairsIn b) (pairAt b) (shuffleAt b (pairsIn b)) t) ∙ sheet-back b bytes s in
-    let fits : sheetLength (pairsIn b) ≤ length out = omega (arith, s .nothingAfter, l) in
     rw (left, r .0)
-    (writing-none (pairsIn b) t′ out w fits
-    ∙ ap (λ (x : List ℕ). outcome (finished (length x)) (filled x out)) again)
+    (unless-then _ _ _ _ _ (pool-none (pairsIn b) t′ w)
+    ∙ ap (λ (x : List ℕ). unless (roomFault (length out) (length x)) (length x) (filled x out) out) again)
 
-pub pool-comes-back : PoolComesBack
-unfolding poolIn
-pool-comes-back n t out m other y e h =
+pub pool-again : (n : ℕ) (t : Tables) (out : List ℕ) (m : ℕ) (other : Tables) → Typed t → writing n t out .answer ≡ finished m
+    → reading (take m (writing n t out .lent)) other ≡ unless (roomFault (room other) n) n (filledTables (poolIn n t) other) other
+unfolding poolIn reading
+pool-again n t out m other y e =
     let r = writing-passed n t out m e in
     let w : FaultlessPool n t = r .1 in
     let pair : ℕ → Pair = pairIn (t .fields) in
@@ -139,7 +143,16 @@ pool-comes-back n t out m other y e h =
     ap₂ (λ (k : ℕ) (c : List ℕ). take k c) (sym size) left ∙ take-filled x out ∙ sheet-written n pair s in
     let fits : (i : ℕ) → i < n → Fits (pair i) = λ i l. typed-fits t y i in
     let small : (j : ℕ) → j < n → s j < 65536 = λ j l. y .shuffle j in
-    let many : pairsIn (written n pair s) ≡ n = says-pairs n pair s (w .pool) fits small in
     rw cut
-    (reading-none (written n pair s) other (written-faultless n pair s (w .pool) fits small) (rw many h)
-    ∙ ap₂ (λ (k : ℕ) (p : Pool). outcome (finished k) (filledTables p other)) many (says-pool n pair s (w .pool) fits small))
+    (unless-then _ _ _ _ _ (sheet-none (written n pair s) (written-faultless n pair s (w .pool) fits small))
+    ∙ ap₂ (λ (k : ℕ) (p : Pool). unless (roomFault (room other) k) k (filledTables p other) other)
+    (says-pairs n pair s (w .pool) fits small) (says-pool n pair s (w .pool) fits small))
+
+-- ## The two theorems
+
+pub sheet-comes-back : SheetComesBack
+sheet-comes-back b t out n bytes e l = sheet-again b t out n bytes e ∙ unless-none _ _ _ _ (room-none (length out) (length b) l)
+
+pub pool-comes-back : PoolComesBack
+pool-comes-back n t out m other y e h =
+    pool-again n t out m other y e ∙ unless-none _ _ _ _ (room-none (room other) n (hold-room n other h))

@@ -147,6 +147,12 @@ module _ {Result Lent : Type 0} (f : Fault) (result : Result) (new old : Lent) w
   unfolding unless
   unless-fault k o e = rw e
 
+-- what has no fault says nothing of what follows
+pub unless-then : {Result Lent : Type 0} (f g : Fault) (result : Result) (new old : Lent) → f ≡ none
+    → unless (f then g) result new old ≡ unless g result new old
+unfolding _then_
+unless-then f g result new old e = rw e
+
 pub finished-none : {Result Lent : Type 0} (f : Fault) (result : Result) (new old : Lent) {r : Result}
     → unless f result new old .answer ≡ finished r → (f ≡ none) × (result ≡ r)
 unfolding unless
