@@ -64,12 +64,12 @@ fn repeated(ids: &[u32], i: usize) -> bool
     ensures { λ r. ⌜ r ≡ anyBelow i (λ j. eqb (getD (now (ids .entry)) j 0) (getD (now (ids .entry)) i 0)) ⌝ }
 {
     let id = ids[i];
-    let mut j: usize = 0;
-    while j < i {
-        if ids[j] == id {
+    let mut earlier: usize = 0;
+    while earlier < i {
+        if ids[earlier] == id {
             return true;
         }
-        j += 1;
+        earlier += 1;
     }
     false
 }

@@ -1,2 +1,3 @@
 -- Laws of `specs/Fault.antt`, `specs/Answer.antt` and `specs/Number.antt`.
 pub mod Faults
+pub mod Numbers

@@ -18,10 +18,10 @@ abbrev same : List ℕ → ℕ → ℕ → Bool
 same ids i k = eqb (getD ids k 0) (getD ids i 0)
 
 abbrev Inv-loop : tie.InvT-loop
-Inv-loop ids i id j₀ j = (j ≤ i) × (anyBelow j (same ids i) ≡ false)
+Inv-loop ids i id earlier₀ earlier = (earlier ≤ i) × (anyBelow earlier (same ids i) ≡ false)
 
 abbrev μ-loop : tie.MeasureT-loop
-μ-loop ids i id j₀ j = i - j
+μ-loop ids i id earlier₀ earlier = i - earlier
 
 mul-id : tie.Need-mul-id Inv-loop μ-loop
 mul-id c = search needs
@@ -43,10 +43,10 @@ returns : tie.Need-returns Inv-loop μ-loop
 returns c =
     let s = c .before .before .before .before .before .args in
     let l = c .before .before .before .loop in
-    sym (any-hit (s .i) (same (s .ids .now) (s .i)) (l .j) (c .before .before .loop-test .taken) (eq-eqb _ _ (c .if1 .taken)))
+    sym (any-hit (s .i) (same (s .ids .now) (s .i)) (l .earlier) (c .before .before .loop-test .taken) (eq-eqb _ _ (c .if1 .taken)))
 
-add-j : tie.Need-add-j Inv-loop μ-loop
-add-j c = search needs
+add-earlier : tie.Need-add-earlier Inv-loop μ-loop
+add-earlier c = search needs
 
 loop-less : tie.Need-loop-less Inv-loop μ-loop
 loop-less c = search needs
@@ -55,13 +55,13 @@ loop-again : tie.Need-loop-again Inv-loop μ-loop
 loop-again c =
     let s = c .before .before .before .before .before .args in
     let l = c .before .before .before .loop in
-    (omega arith, any-more (l .j) (same (s .ids .now) (s .i)) (l .inv .1) (ne-eqb _ _ (c .if1 .left)))
+    (omega arith, any-more (l .earlier) (same (s .ids .now) (s .i)) (l .inv .1) (ne-eqb _ _ (c .if1 .left)))
 
 returns-2 : tie.Need-returns-2 Inv-loop μ-loop
 returns-2 c =
     let s = c .before .before .before .args in
     let l = c .before .loop in
-    let e : l .j ≡ s .i = omega arith in
+    let e : l .earlier ≡ s .i = omega arith in
     sym (l .inv .1) ∙ ap (λ (k : ℕ). anyBelow k (same (s .ids .now) (s .i))) e
 
 pub repeated-spec : {M : Type 1} → statement M
@@ -76,7 +76,7 @@ repeated-spec =
     mul-if1
     shared-slice-read-if1
     returns
-    add-j
+    add-earlier
     loop-less
     loop-again
     returns-2)
