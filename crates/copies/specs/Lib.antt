@@ -1,0 +1,2 @@
+-- What a copy of a sheet and a copy of a pool are.
+pub mod Copies

@@ -1,0 +1,2 @@
+-- What reading's promise gives to whoever prints the pool.
+pub mod Few

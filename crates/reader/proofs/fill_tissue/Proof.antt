@@ -1,0 +1,76 @@
+-- `reader::fill_tissue` meets its contract. The loop's invariant: the table is filled to i. Assumes nothing.
+use Prim.Native.Nat.{_+_, _-_, _≤_}
+use native.Mathlib.Omega.{arith}
+use borrow.Author.Needs.{needs}
+use Rattle.laws.specs.Digits.{bigEndian}
+use Rattle.laws.proofs.Lent.{Filling, filling-none, filling-more, filling-all}
+use Rattle.pool.specs.Sheet.{pairPlace}
+use Rattle.reader.proofs.fill_tissue.Statement.{statement}
+use Rattle.reader.proofs.fill_tissue.Tie as tie
+
+abbrev Inv-loop : tie.InvT-loop
+Inv-loop b n at t₀ i₀ t i = (i ≤ n) × Filling i (λ k. bigEndian 8 b (pairPlace k + at)) t₀ t
+
+abbrev μ-loop : tie.MeasureT-loop
+μ-loop b n at t₀ i₀ t i = n - i
+
+loop-holds : tie.Need-loop-holds Inv-loop μ-loop
+loop-holds c = (omega arith, filling-none _ _)
+
+mul-number : tie.Need-mul-number Inv-loop μ-loop
+mul-number c = search needs
+
+add-number : tie.Need-add-number Inv-loop μ-loop
+add-number c = search needs
+
+add-number-2 : tie.Need-add-number-2 Inv-loop μ-loop
+add-number-2 c = search needs
+
+number-requires : tie.Need-number-requires Inv-loop μ-loop
+number-requires c κs = search needs
+
+mul-t : tie.Need-mul-t Inv-loop μ-loop
+mul-t c = search needs
+
+slice-write-t : tie.Need-slice-write-t Inv-loop μ-loop
+slice-write-t c = search needs
+
+add-i : tie.Need-add-i Inv-loop μ-loop
+add-i c = search needs
+
+loop-less : tie.Need-loop-less Inv-loop μ-loop
+loop-less c = search needs
+
+loop-again : tie.Need-loop-again Inv-loop μ-loop
+loop-again c =
+    let s = c .before .before .before .before .before .args in
+    let l = c .before .before .loop in
+    (omega arith, filling-more (l .i) (λ k. bigEndian 8 (s .b .now) (pairPlace k + s .at)) (s .t .now) (l .t) _ (l .inv .1) (c .number .ensures) (omega arith))
+
+same-length : tie.Need-same-length Inv-loop μ-loop
+same-length c = search needs
+
+returns : tie.Need-returns Inv-loop μ-loop
+returns c =
+    let s = c .before .before .before .before .args in
+    let l = c .before .loop in
+    filling-all (l .i) (s .n) (λ k. bigEndian 8 (s .b .now) (pairPlace k + s .at)) (s .t .now) (l .t) (l .inv .1) (omega arith)
+
+pub fill-tissue-spec : {M : Type 1} → statement M
+fill-tissue-spec =
+    tie.close
+    (tie.spec
+    Inv-loop
+    μ-loop
+    loop-holds
+    mul-number
+    add-number
+    add-number-2
+    number-requires
+    mul-t
+    slice-write-t
+    add-i
+    loop-less
+    loop-again
+    same-length
+    returns)

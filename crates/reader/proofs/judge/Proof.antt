@@ -1,0 +1,54 @@
+-- `reader::judge` meets its contract. Assumes nothing.
+use mathlib.Core.Path.{_≡_, sym, ap, _∙_}
+use native.Mathlib.Omega.{arith}
+use borrow.Author.Needs.{needs}
+use lib.Dec.{lit≤}
+use Rattle.refusal.specs.Answer.{finished}
+use Rattle.refusal.specs.Fault.{none}
+use Rattle.pool.specs.Sheet.{pairsIn}
+use Rattle.pool.specs.Turned.{sheetFault}
+use Rattle.pool.proofs.Reading.{sheet-passed}
+use Rattle.reader.specs.Said.{said}
+use Rattle.reader.proofs.Forward.{nothing-none, found-fault}
+use Rattle.reader.proofs.Answers.{answers-fault, answers-short, answers-pairs}
+use Rattle.reader.proofs.judge.Statement.{statement}
+use Rattle.reader.proofs.judge.Tie as tie
+use Rattle.reader.proofs.judge.Reads as reads
+use Rattle.reader.proofs.judge.Lts as lts
+use Rattle.reader.proofs.check.Reads as check-reads
+use Rattle.reader.proofs.number.Reads as number-reads
+
+-- past the match, the sheet has no fault
+passed : (c : tie.After-enum-told) → sheetFault (c .before .before .before .before .args .b .now) ≡ none
+passed c = nothing-none _ (c .before .before .check .ensures) (c .enum-told .given .1)
+
+check-requires : tie.Need-check-requires
+check-requires c κs = search needs
+
+enum-known-why : tie.Need-enum-known-why
+enum-known-why c = search needs
+
+enum-told : tie.Need-enum-told
+enum-told c = search needs
+
+number-requires : tie.Need-number-requires
+number-requires c κs = (lit≤ tt, sheet-passed _ (passed c) .head .whole)
+
+returns : tie.Need-returns
+unfolding said
+returns c = λ t e. answers-fault _ t (found-fault _ (c .before .before .before .check .ensures) _ _ (c .before .why .given .1))
+
+returns-2 : tie.Need-returns-2
+unfolding said pairsIn
+returns-2 c = λ t e. answers-short _ t (passed (c .before .before)) (omega (arith, c .if1 .taken))
+
+returns-3 : tie.Need-returns-3
+unfolding said pairsIn
+returns-3 c =
+    λ t e.
+    ap finished (c .before .number .ensures) ∙ answers-pairs _ t (passed (c .before .before)) (omega (arith, c .if1 .left))
+
+pub judge-spec : {M : Type 1} → statement M
+judge-spec =
+    tie.close
+    (tie.spec check-requires enum-known-why enum-told number-requires returns returns-2 returns-3)

@@ -1,0 +1,79 @@
+-- `reader::shuffle_field` meets its contract. Assumes nothing.
+use mathlib.Core.Path.{_∙_}
+use borrow.Author.Needs.{needs}
+use Rattle.refusal.specs.Number.{faultAt}
+use Rattle.refusal.proofs.Faults.{sound-none}
+use Rattle.pool.specs.Turned.{shuffleFieldFault}
+use Rattle.pool.proofs.Fields.{field-passed}
+use Rattle.pool.proofs.Pairs.{shuffle-cong}
+use Rattle.reader.proofs.Forward.{sound-then, faulty-then}
+use Rattle.reader.proofs.Columns.{filled-at}
+use Rattle.reader.proofs.shuffle_field.Statement.{statement}
+use Rattle.reader.proofs.shuffle_field.Tie as tie
+use Rattle.reader.proofs.shuffle_field.Reads as reads
+use Rattle.reader.proofs.shuffle_field.Lts as lts
+use Rattle.checks.proofs.shuffle.Reads as shuffle-reads
+use Rattle.reader.proofs.field.Reads as field-reads
+use Rattle.reader.proofs.fill_shuffle.Reads as fill-shuffle-reads
+
+mul-field : tie.Need-mul-field
+mul-field c = search needs
+
+add-field : tie.Need-add-field
+add-field c = search needs
+
+mul-field-2 : tie.Need-mul-field-2
+mul-field-2 c = search needs
+
+field-requires : tie.Need-field-requires
+field-requires c κs = search needs
+
+enum-known-why : tie.Need-enum-known-why
+enum-known-why c = search needs
+
+returns : tie.Need-returns
+unfolding faultAt shuffleFieldFault
+returns c = faulty-then _ _ _ _ (c .before .before .before .field .ensures) _ (c .before .why .given .1)
+
+enum-told : tie.Need-enum-told
+enum-told c = search needs
+
+slice-aggregate-fill-shuffle : tie.Need-slice-aggregate-fill-shuffle
+slice-aggregate-fill-shuffle c = search needs
+
+fill-shuffle-requires : tie.Need-fill-shuffle-requires
+fill-shuffle-requires c κs =
+    let e = c .before in
+    let w = field-passed _ _ _ _ (sound-none _ _ (e .before .before .field .ensures) (e .enum-told .given .1)) in
+    (search needs, w .whole, search needs)
+
+slice-aggregate-shuffle : tie.Need-slice-aggregate-shuffle
+slice-aggregate-shuffle c = search needs
+
+shuffle-requires : tie.Need-shuffle-requires
+shuffle-requires c κs = search needs
+
+returns-2 : tie.Need-returns-2
+unfolding shuffleFieldFault
+returns-2 c =
+    let f = c .before .before .before in
+    let e = f .before .before in
+    sound-then _ _ _ _ (e .before .before .field .ensures) (e .enum-told .given .1)
+    (c .shuffle .ensures _ ∙ shuffle-cong _ _ _ _ (filled-at _ _ _ _ (f .fill-shuffle .ensures)))
+
+pub shuffle-field-spec : {M : Type 1} → statement M
+shuffle-field-spec =
+    tie.close
+    (tie.spec
+    mul-field
+    add-field
+    mul-field-2
+    field-requires
+    enum-known-why
+    returns
+    enum-told
+    slice-aggregate-fill-shuffle
+    fill-shuffle-requires
+    slice-aggregate-shuffle
+    shuffle-requires
+    returns-2)

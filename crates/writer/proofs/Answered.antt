@@ -1,0 +1,55 @@
+-- What writing answers and leaves, by what was found of the pool and by the buffer's length. Assumes nothing.
+use mathlib.Core.Path.{_≡_, sym, ap, ap₂, _∙_}
+use mathlib.Core.List.{List}
+use Prim.Native.Nat.{ℕ, _≤_, _<_}
+use native.Mathlib.Omega.{arith}
+use borrow.Author.Tests.{lt-ltb}
+use lib.ListN.{length}
+use Rattle.laws.specs.Lent.{filled}
+use Rattle.refusal.specs.Answer.{Outcome, outcome, finished}
+use Rattle.refusal.specs.Number.{numberOf, faultAt}
+use Rattle.refusal.specs.declared.Refusal.{Refusal}
+use Rattle.refusal.specs.declared.Refusal.the-variants.{TooShort}
+use Rattle.refusal.specs.declared.Verdict.{Verdict}
+use Rattle.refusal.specs.declared.Verdict.the-variants.{Sound, Faulty}
+use Rattle.refusal.proofs.Faults.{sound-none, faulty-fault, none-then, fault-then, fault-refuse, unless-fault}
+use Rattle.pool.specs.Sheet.{sheetLength, sheetOf}
+use Rattle.pool.specs.Tables.{Tables, poolIn}
+use Rattle.pool.specs.Turned.{roomFault, poolFault}
+use Rattle.pool.specs.Calls.{writing}
+use Rattle.pool.specs.Faultless.{FaultlessPool}
+use Rattle.pool.specs.Promises.{WritesRightly}
+use Rattle.pool.proofs.Lengths.{length-sheetIn}
+use Rattle.pool.proofs.Writing.{pool-passed, writing-none, writes-rightly}
+use Rattle.writer.specs.declared.Writing.{Writing}
+use Rattle.writer.specs.declared.Writing.the-variants.{Length, Refused}
+use Rattle.writer.specs.Said.{said}
+
+module _ (n : ℕ) (t : Tables) (out : List ℕ) (found : Verdict) (e : faultAt 0 found ≡ poolFault n t) where
+  pub answered-fault : (why : Refusal) → found ≡ Faulty why → outcome (said (Refused why)) out ≡ writing n t out
+  unfolding said writing
+  answered-fault why f = sym (unless-fault _ _ _ _ (numberOf why) 0 (fault-then _ _ (faulty-fault 0 found e why f)))
+
+  module _ (f : found ≡ Sound) where
+    pub answered-faultless : FaultlessPool n t
+    answered-faultless = pool-passed n t (sound-none 0 found e f)
+
+    module _ (long : ℕ) (g : long ≡ sheetLength n) where
+      pub answered-short : length out < long → outcome (said (Refused TooShort)) out ≡ writing n t out
+      unfolding said writing roomFault
+      answered-short l =
+          sym
+          (unless-fault _ _ _ _ 9 0
+          (none-then _ _ (sound-none 0 found e f) ∙ fault-refuse 9 0 _ (lt-ltb (length out) _ (rw (length-sheetIn n t) (omega arith)))))
+
+      pub answered-written : (new : List ℕ) → long ≤ length out → new ≡ filled (sheetOf (poolIn n t)) out → outcome (said (Length long)) new ≡ writing n t out
+      unfolding said
+      answered-written new l h =
+          ap₂ (λ (k : ℕ) (b : List ℕ). outcome (finished k) b) (g ∙ sym (length-sheetIn n t)) h
+          ∙ sym (writing-none n t out answered-faultless (omega arith))
+
+-- what is answered as the definition says keeps the promise
+pub answered-rightly : (n : ℕ) (t : Tables) (out new : List ℕ) (r : Writing) → outcome (said r) new ≡ writing n t out → WritesRightly n t (length out) (said r)
+answered-rightly n t out new r e =
+    let a : said r ≡ writing n t out .answer = ap (λ (o : Outcome ℕ (List ℕ)). o .answer) e in
+    rw a (writes-rightly n t out)

@@ -1,0 +1,38 @@
+-- `writer::put_sheet` meets its contract: the pairs go where the head ends, and the shuffle where they end. Assumes nothing.
+use borrow.Author.Needs.{needs}
+use Rattle.pool.specs.Tables.{Tables, fields, tables}
+use Rattle.writer.proofs.Pieces.{sheet-pieces}
+use Rattle.writer.proofs.put_sheet.Statement.{statement}
+use Rattle.writer.proofs.put_sheet.Tie as tie
+
+put-head-requires : tie.Need-put-head-requires
+put-head-requires c κs = search needs
+
+put-pairs-requires : tie.Need-put-pairs-requires
+put-pairs-requires c κs = search needs
+
+put-shuffle-requires : tie.Need-put-shuffle-requires
+put-shuffle-requires c κs = search needs
+
+same-length : tie.Need-same-length
+same-length c = search needs
+
+abbrev given : tie.Start → Tables
+given s =
+    tables
+    (fields (s .args .ids .now) (s .args .donor-blood .now) (s .args .patient-blood .now) (s .args .donor-age .now) (s .args .patient-age .now)
+    (s .args .donor-antigens .now) (s .args .patient-antigens .now) (s .args .patient-antibodies .now)) (s .args .shuffle .now)
+
+returns : tie.Need-returns
+returns c =
+    let third = c .before .before in
+    let second = third .before .before .before .before in
+    let first = second .before .before .before .before in
+    let s = first .before .before .before .before .before .before .before .before .before .before .before .before in
+    sheet-pieces (s .args .n) (given s) (s .args .out .now) _ _ _ (s .pre .1) (first .put-head .ensures) (second .put-pairs .ensures)
+    (third .put-shuffle .ensures)
+
+pub put-sheet-spec : {M : Type 1} → statement M
+put-sheet-spec =
+    tie.close
+    (tie.spec put-head-requires put-pairs-requires put-shuffle-requires same-length returns)
