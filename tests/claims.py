@@ -1,12 +1,12 @@
-"""docs/CLAIMS.md holds to the tree: every link leads to a file, a link's text that is a name is declared or written there, and every must-fail edit
-is cited. The definitions' line counts that it gives are the files'."""
+"""docs/CLAIMS.md holds to the tree. Of what stands there in backquotes: a path under crates/ is there; a must-fail edit, as `crate/label`, is there, and
+every edit of the tree is cited; any other single name is declared or written in some source. A line count beside a module is that file's."""
 import pathlib
 import re
 import sys
 
 top = pathlib.Path(__file__).resolve().parent.parent
-claims = top / 'docs' / 'CLAIMS.md'
-text = claims.read_text()
+crates = top / 'crates'
+text = (top / 'docs' / 'CLAIMS.md').read_text()
 passed, faults = 0, []
 
 
@@ -18,21 +18,35 @@ def check(ok, what):
         faults.append(what)
 
 
-links = re.findall(r'\[`?([^\]`]+)`?\]\(([^)#\s]+)\)', text)
-check(links, 'docs/CLAIMS.md has no links')
-for name, target in links:
-    file = (claims.parent / target).resolve()
-    check(file.exists(), f'[{name}]({target}): no such file')
-    if file.is_file() and file.suffix in ('.antt', '.rt'):
-        check(re.search(r'(?<![\w-])' + re.escape(name) + r'(?![\w-])', file.read_text()), f'[{name}]({target}): the file does not have that name')
+def module(path):
+    """The file of a module that is cited as crate/specs/Name."""
+    return next((f for f in (crates / f'{path}.antt', crates / f'{path}.rt', crates / path) if f.is_file()), None)
 
-cited = {(claims.parent / target).resolve() for _, target in links}
-for edit in sorted(top.glob('crates/*/must-fail/*.edit')):
-    check(edit in cited, f'{edit.relative_to(top)} is not cited in docs/CLAIMS.md')
 
-for target, lines in re.findall(r'\]\(([^)#\s]+)\)[^|\n]*\|\s*(\d+) lines', text):
-    file = (claims.parent / target).resolve()
-    check(len(file.read_text().splitlines()) == int(lines), f'{target} has {len(file.read_text().splitlines())} lines, not {lines}')
+sources = ' '.join(f.read_text() for pattern in ('*/specs/*.antt', '*/proofs/*.antt', '*/proofs/*/*.antt', '*/src/*.rt') for f in crates.glob(pattern))
+words = set(re.findall(r"[^\s(){}.;,@\"«»&!:<>=]+", sources))
+edits = {f'{f.parent.parent.name}/{f.stem}' for f in crates.glob('*/must-fail/*.edit')}
+cited = set()
+
+for token in sorted(set(re.findall(r'`([^`\n]+)`', text))):
+    if re.fullmatch(r'\w+/(specs|proofs|src|stdout)(/[\w/.]+)?', token):
+        check(module(token), f'`{token}`: no such file under crates/')
+    elif re.fullmatch(r'[a-z0-9_]+/[a-z0-9_]+', token):
+        check(token in edits, f'`{token}`: no such must-fail edit')
+        cited.add(token)
+    elif re.fullmatch(r'[^\s/]+', token) and not re.fullmatch(r'[\d,.]+', token):
+        for name in token.split('.'):
+            check(not name or name in words or (crates / name).is_dir(), f'`{token}`: no source has the name {name}')
+
+check(edits, 'the tree has no must-fail edits')
+for edit in sorted(edits - cited):
+    check(False, f'the must-fail edit {edit} is not cited')
+
+counts = re.findall(r'^\| `(\w+/specs/\w+)` \| (\d+) \|', text, re.M)
+check(counts, 'no line counts are given')
+for path, lines in counts:
+    file = module(path)
+    check(file and len(file.read_text().splitlines()) == int(lines), f'{path}: {lines} lines given, {file and len(file.read_text().splitlines())} there')
 
 for fault in faults:
     print(fault)

@@ -4,9 +4,8 @@ use mathlib.Core.List.{List}
 use Prim.Native.Nat.{ℕ, _≤_, _<_}
 use native.Mathlib.Omega.{arith}
 use borrow.Author.Tests.{lt-ltb}
-use Rattle.refusal.specs.Fault.{none, fault, _then_}
-use Rattle.refusal.specs.Answer.{Answer, finished, refused, Outcome, outcome}
-use Rattle.refusal.specs.Number.{numberOf}
+use Rattle.refusal.specs.Fault.{none, fault}
+use Rattle.refusal.specs.Answer.{finished, refused, Outcome, outcome}
 use Rattle.refusal.specs.declared.Refusal.{Refusal}
 use Rattle.refusal.proofs.Faults.{none-then, fault-then, fault-refuse, unless-none, unless-fault, finished-none, refused-fault}
 use Rattle.pool.specs.Sheet.{pairsIn, poolOf}

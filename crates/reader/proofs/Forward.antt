@@ -101,6 +101,6 @@ module _ (b : List ℕ) (n : ℕ) (many : n ≡ pairsIn b) (h : headFault b ≡ 
       unfolding endFault
       left-over l = sym (past-pairs ∙ none-then _ _ s ∙ fault-refuse 5 _ _ (lt-ltb _ _ l))
 
-      pub sheet-none : length b ≤ sheetLength n → none ≡ sheetFault b
+      pub nothing-over : length b ≤ sheetLength n → none ≡ sheetFault b
       unfolding endFault
-      sheet-none l = sym (past-pairs ∙ none-then _ _ s ∙ none-refuse 5 _ _ (le-ltb _ _ l))
+      nothing-over l = sym (past-pairs ∙ none-then _ _ s ∙ none-refuse 5 _ _ (le-ltb _ _ l))

@@ -3,15 +3,15 @@
 use refusal::Refusal;
 use refusal::Verdict;
 ghost use mathlib.Core.Path.{_≡_};
-ghost use Prim.Native.Nat.{ℕ, _+_, _*_, _≤_, _<_};
-ghost use lib.ListN.{length, getD};
+ghost use Prim.Native.Nat.{_+_, _*_, _≤_, _<_};
+ghost use lib.ListN.{length};
 ghost use Rattle.laws.specs.Below.{table};
 ghost use Rattle.laws.specs.Digits.{bigEndian};
 ghost use Rattle.laws.specs.Lent.{filled};
 ghost use Rattle.refusal.specs.Fault.{firstBelow};
 ghost use Rattle.refusal.specs.Answer.{outcome};
 ghost use Rattle.refusal.specs.Number.{faultAt};
-ghost use Rattle.pool.specs.Sheet.{pairPlace, sheetLength, pairsIn, pairAt, shuffleAt, poolOf};
+ghost use Rattle.pool.specs.Sheet.{pairPlace, sheetLength, pairAt, shuffleAt, poolOf};
 ghost use Rattle.pool.specs.Tables.{Tables, fields, tables, room, filledTables};
 ghost use Rattle.pool.specs.Turned.{fieldFault, headFault, pairFault, pairFieldFault, shuffleFieldFault, sheetFault};
 ghost use Rattle.pool.specs.Calls.{reading};
@@ -25,7 +25,7 @@ pub enum Reading {
 }
 
 // What a search for a fault finds: nothing, or the first refusal and its place.
-pub enum Found {
+enum Found {
     Nothing,
     Fault(Refusal, usize),
 }
@@ -36,10 +36,10 @@ fn number(b: &[u8], at: usize, k: usize) -> u64
     ensures { λ r. ⌜ r ≡ bigEndian k (now (b .entry)) at ⌝ }
 {
     let mut x: u64 = 0;
-    let mut i: usize = 0;
-    while i < k {
-        x = x * 256 + (b[at + i] as u64);
-        i += 1;
+    let mut left = k;
+    while 0 < left {
+        x = x * 256 + (b[at + (k - left)] as u64);
+        left -= 1;
     }
     x
 }
@@ -59,9 +59,10 @@ fn field(b: &[u8], o: usize, tag: u64, len: usize) -> Verdict
         return Verdict::Faulty(Refusal::WrongField);
     }
     if b.len() < o + 3 + len {
-        return Verdict::Faulty(Refusal::CutOff);
+        Verdict::Faulty(Refusal::CutOff)
+    } else {
+        Verdict::Sound
     }
-    Verdict::Sound
 }
 
 // The head: its field, then 3 and 4.
@@ -100,17 +101,17 @@ fn pairs(b: &[u8], n: usize) -> Found
     let mut ids = [0u32; 200];
     let mut i: usize = 0;
     while i < n {
-        let o = 7 + 35 * i;
-        match field(b, o, 2, 32) {
+        let place = 7 + 35 * i;
+        match field(b, place, 2, 32) {
             Verdict::Faulty(why) => {
-                return Found::Fault(why, o);
+                return Found::Fault(why, place);
             }
             Verdict::Sound => {}
         }
-        ids[i] = number(b, o + 3, 4) as u32;
+        ids[i] = number(b, place + 3, 4) as u32;
         match pair_value(b, i, &ids) {
             Verdict::Faulty(why) => {
-                return Found::Fault(why, o);
+                return Found::Fault(why, place);
             }
             Verdict::Sound => {}
         }

@@ -1,6 +1,6 @@
 -- `reader::check` meets its contract. Assumes nothing.
 use Prim.Native.Nat.{_≤_}
-use mathlib.Core.Path.{_≡_, sym}
+use mathlib.Core.Path.{_≡_}
 use native.Mathlib.Omega.{arith}
 use borrow.Author.Needs.{needs}
 use lib.Dec.{lit≤}
@@ -10,15 +10,9 @@ use Rattle.pool.specs.Sheet.{pairsIn}
 use Rattle.pool.specs.Turned.{headFault, pairFieldFault, shuffleFieldFault}
 use Rattle.pool.proofs.Reading.{head-passed}
 use Rattle.reader.specs.Said.{foundFault}
-use Rattle.reader.proofs.Forward.{nothing-none, found-fault, at-head, at-pairs, at-shuffle, left-over, sheet-none}
+use Rattle.reader.proofs.Forward.{nothing-none, found-fault, at-head, at-pairs, at-shuffle, left-over, nothing-over}
 use Rattle.reader.proofs.check.Statement.{statement}
 use Rattle.reader.proofs.check.Tie as tie
-use Rattle.reader.proofs.check.Reads as reads
-use Rattle.reader.proofs.check.Lts as lts
-use Rattle.reader.proofs.head.Reads as head-reads
-use Rattle.reader.proofs.number.Reads as number-reads
-use Rattle.reader.proofs.pairs.Reads as pairs-reads
-use Rattle.reader.proofs.shuffle_field.Reads as shuffle-field-reads
 
 -- ## What is known past each match
 
@@ -124,7 +118,7 @@ returns-5 c =
     let d = c .before in
     let e = d .before .before .before in
     let n = e .before .before .before in
-    sheet-none _ _ (many n) (no-head (n .before)) (no-pairs e) (no-shuffle d) (c .if1 .left)
+    nothing-over _ _ (many n) (no-head (n .before)) (no-pairs e) (no-shuffle d) (c .if1 .left)
 
 pub check-spec : {M : Type 1} → statement M
 check-spec =

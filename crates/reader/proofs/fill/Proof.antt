@@ -1,17 +1,12 @@
 -- `reader::fill` meets its contract: each call fills its table, and the tables are lent one after another. Assumes nothing.
-use Prim.Native.Nat.{_≤_}
 use native.Mathlib.Omega.{arith}
-use lib.Dec.{lit<, lit≤}
-use lib.ListN.{length}
-use Rattle.pool.specs.Sheet.{pairPlace, poolOf, pairAt}
-use Rattle.pool.specs.Tables.{Tables, fields, tables, filledFields, filledTables}
+use Rattle.pool.specs.Sheet.{poolOf, pairAt}
+use Rattle.pool.specs.Tables.{fields, tables, filledFields, filledTables}
 use Rattle.pool.specs.Faultless.{Hold}
 use Rattle.pool.proofs.Rooms.{room-hold}
 use Rattle.reader.proofs.Columns.{column, numbers}
 use Rattle.reader.proofs.fill.Statement.{statement}
 use Rattle.reader.proofs.fill.Tie as tie
-use Rattle.reader.proofs.fill.Reads as reads
-use Rattle.reader.proofs.fill.Lts as lts
 
 -- ## The start, seen from each call
 
@@ -78,53 +73,50 @@ held : (s : tie.Start)
     (s .args .shuffle .now))
 held s = room-hold _ _ (s .pre .held)
 
-pairs-whole : (s : tie.Start) → pairPlace (s .args .n) ≤ length (s .args .b .now)
-pairs-whole s = omega (arith, s .pre .whole)
-
 fill-ids-requires : tie.Need-fill-ids-requires
 fill-ids-requires c κs =
     let s = at-ids c in
-    (s .pre .few, pairs-whole s, held s .fields .ids)
+    omega (arith, s .pre .few, s .pre .whole, held s .fields .ids)
 
 fill-groups-requires : tie.Need-fill-groups-requires
 fill-groups-requires c κs =
     let s = at-donor-blood c in
-    (s .pre .few, lit< tt, pairs-whole s, held s .fields .donorBlood)
+    omega (arith, s .pre .few, s .pre .whole, held s .fields .donorBlood)
 
 fill-groups-requires-2 : tie.Need-fill-groups-requires-2
 fill-groups-requires-2 c κs =
     let s = at-patient-blood c in
-    (s .pre .few, lit< tt, pairs-whole s, held s .fields .patientBlood)
+    omega (arith, s .pre .few, s .pre .whole, held s .fields .patientBlood)
 
 fill-groups-requires-3 : tie.Need-fill-groups-requires-3
 fill-groups-requires-3 c κs =
     let s = at-donor-age c in
-    (s .pre .few, lit< tt, pairs-whole s, held s .fields .donorAge)
+    omega (arith, s .pre .few, s .pre .whole, held s .fields .donorAge)
 
 fill-groups-requires-4 : tie.Need-fill-groups-requires-4
 fill-groups-requires-4 c κs =
     let s = at-patient-age c in
-    (s .pre .few, lit< tt, pairs-whole s, held s .fields .patientAge)
+    omega (arith, s .pre .few, s .pre .whole, held s .fields .patientAge)
 
 fill-tissue-requires : tie.Need-fill-tissue-requires
 fill-tissue-requires c κs =
     let s = at-donor-antigens c in
-    (s .pre .few, lit≤ tt, pairs-whole s, held s .fields .donorAntigens)
+    omega (arith, s .pre .few, s .pre .whole, held s .fields .donorAntigens)
 
 fill-tissue-requires-2 : tie.Need-fill-tissue-requires-2
 fill-tissue-requires-2 c κs =
     let s = at-patient-antigens c in
-    (s .pre .few, lit≤ tt, pairs-whole s, held s .fields .patientAntigens)
+    omega (arith, s .pre .few, s .pre .whole, held s .fields .patientAntigens)
 
 fill-tissue-requires-3 : tie.Need-fill-tissue-requires-3
 fill-tissue-requires-3 c κs =
     let s = at-patient-antibodies c in
-    (s .pre .few, lit≤ tt, pairs-whole s, held s .fields .patientAntibodies)
+    omega (arith, s .pre .few, s .pre .whole, held s .fields .patientAntibodies)
 
 fill-shuffle-requires : tie.Need-fill-shuffle-requires
 fill-shuffle-requires c κs =
     let s = at-shuffle c in
-    (s .pre .few, s .pre .whole, held s .shuffle)
+    omega (arith, s .pre .few, s .pre .whole, held s .shuffle)
 
 -- ## What the calls leave
 

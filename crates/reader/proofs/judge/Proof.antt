@@ -1,5 +1,5 @@
 -- `reader::judge` meets its contract. Assumes nothing.
-use mathlib.Core.Path.{_≡_, sym, ap, _∙_}
+use mathlib.Core.Path.{_≡_, ap, _∙_}
 use native.Mathlib.Omega.{arith}
 use borrow.Author.Needs.{needs}
 use lib.Dec.{lit≤}
@@ -13,10 +13,6 @@ use Rattle.reader.proofs.Forward.{nothing-none, found-fault}
 use Rattle.reader.proofs.Answers.{answers-fault, answers-short, answers-pairs}
 use Rattle.reader.proofs.judge.Statement.{statement}
 use Rattle.reader.proofs.judge.Tie as tie
-use Rattle.reader.proofs.judge.Reads as reads
-use Rattle.reader.proofs.judge.Lts as lts
-use Rattle.reader.proofs.check.Reads as check-reads
-use Rattle.reader.proofs.number.Reads as number-reads
 
 -- past the match, the sheet has no fault
 passed : (c : tie.After-enum-told) → sheetFault (c .before .before .before .before .args .b .now) ≡ none

@@ -6,7 +6,6 @@ use borrow.Author.Needs.{needs}
 use lib.ListN.{length, set, length-set}
 use Rattle.laws.proofs.Digits.{bigEndian-lt}
 use Rattle.refusal.specs.Fault.{none, firstBelow}
-use Rattle.refusal.specs.Number.{faultAt}
 use Rattle.refusal.proofs.Faults.{sound-none, faulty-fault, first-hit, first-more}
 use Rattle.pool.specs.Sheet.{pairPlace, pairAt}
 use Rattle.pool.specs.Turned.{pairFieldFault}
@@ -17,11 +16,6 @@ use Rattle.reader.proofs.Forward.{sound-then, faulty-then}
 use Rattle.reader.proofs.Notes.{noted-none, noted-more}
 use Rattle.reader.proofs.pairs.Statement.{statement}
 use Rattle.reader.proofs.pairs.Tie as tie
-use Rattle.reader.proofs.pairs.Reads as reads
-use Rattle.reader.proofs.pairs.Lts as lts
-use Rattle.reader.proofs.field.Reads as field-reads
-use Rattle.reader.proofs.number.Reads as number-reads
-use Rattle.reader.proofs.pair_value.Reads as pair-value-reads
 
 abbrev Inv-loop : tie.InvT-loop
 Inv-loop b n ids₀ i₀ ids i = (i ≤ n) × (length ids ≡ 200) × Noted b i ids × (firstBelow i (pairFieldFault b) ≡ none)
@@ -47,11 +41,11 @@ loop-holds : tie.Need-loop-holds Inv-loop μ-loop
 unfolding firstBelow
 loop-holds c = (omega arith, refl, noted-none _ _, refl)
 
-mul-o : tie.Need-mul-o Inv-loop μ-loop
-mul-o c = search needs
+mul-place : tie.Need-mul-place Inv-loop μ-loop
+mul-place c = search needs
 
-add-o : tie.Need-add-o Inv-loop μ-loop
-add-o c = search needs
+add-place : tie.Need-add-place Inv-loop μ-loop
+add-place c = search needs
 
 field-requires : tie.Need-field-requires Inv-loop μ-loop
 field-requires c κs = search needs
@@ -147,8 +141,8 @@ pairs-spec =
     Inv-loop
     μ-loop
     loop-holds
-    mul-o
-    add-o
+    mul-place
+    add-place
     field-requires
     enum-known-why
     returns

@@ -3,19 +3,12 @@ use Prim.Native.Nat.{min}
 use mathlib.Core.Path.{_≡_, sym, ap, _∙_}
 use borrow.Author.Needs.{needs}
 use lib.ListN.{length}
-use Rattle.refusal.specs.Answer.{outcome}
 use Rattle.pool.specs.Tables.{Tables, fields, tables, fieldRoom, room}
 use Rattle.pool.specs.Calls.{reading}
 use Rattle.reader.specs.Said.{said}
 use Rattle.reader.proofs.Answers.{refused-leaves, finished-leaves, fillable, rightly}
 use Rattle.reader.proofs.read.Statement.{statement}
 use Rattle.reader.proofs.read.Tie as tie
-use Rattle.reader.proofs.read.Reads as reads
-use Rattle.reader.proofs.read.Lts as lts
-use Rattle.checks.proofs.lesser.Reads as lesser-reads
-use Rattle.checks.proofs.room.Reads as room-reads
-use Rattle.reader.proofs.fill.Reads as fill-reads
-use Rattle.reader.proofs.judge.Reads as judge-reads
 
 -- the function's start, and what was lent there
 abbrev start : tie.After-judge → tie.Start
@@ -35,6 +28,10 @@ unfolding room fieldRoom
 answers c =
     c .judge .ensures (lent (start c))
     (sym (c .before .lesser .ensures ∙ ap (λ k. min k (length (start c .args .shuffle .now))) (c .before .before .room .ensures)))
+
+-- the filling, seen from the end
+abbrev filling : tie.After-slice-known18 → tie.After-fill
+filling c = c .before .before .before .before .before .before .before .before .before .before .before .before .before .before .before .before .before .before
 
 room-requires : tie.Need-room-requires
 room-requires c κs = search needs
@@ -63,39 +60,39 @@ returns c =
     (refused-leaves _ (lent (start j)) _ (answers j) _ _ e, rightly _ (lent (start j)) _ (answers j) e)
 
 same-length : tie.Need-same-length
-same-length c = search needs
+same-length c = filling c .fill .kept .1 .1 .0
 
 same-length-2 : tie.Need-same-length-2
-same-length-2 c = search needs
+same-length-2 c = filling c .fill .kept .1 .1 .1 .0
 
 same-length-3 : tie.Need-same-length-3
-same-length-3 c = search needs
+same-length-3 c = filling c .fill .kept .1 .1 .1 .1 .0
 
 same-length-4 : tie.Need-same-length-4
-same-length-4 c = search needs
+same-length-4 c = filling c .fill .kept .1 .1 .1 .1 .1 .0
 
 same-length-5 : tie.Need-same-length-5
-same-length-5 c = search needs
+same-length-5 c = filling c .fill .kept .1 .1 .1 .1 .1 .1 .0
 
 same-length-6 : tie.Need-same-length-6
-same-length-6 c = search needs
+same-length-6 c = filling c .fill .kept .1 .1 .1 .1 .1 .1 .1 .0
 
 same-length-7 : tie.Need-same-length-7
-same-length-7 c = search needs
+same-length-7 c = filling c .fill .kept .1 .1 .1 .1 .1 .1 .1 .1 .0
 
 same-length-8 : tie.Need-same-length-8
-same-length-8 c = search needs
+same-length-8 c = filling c .fill .kept .1 .1 .1 .1 .1 .1 .1 .1 .1 .0
 
 same-length-9 : tie.Need-same-length-9
-same-length-9 c = search needs
+same-length-9 c = filling c .fill .kept .1 .1 .1 .1 .1 .1 .1 .1 .1 .1 .0
 
 returns-2 : tie.Need-returns-2
 returns-2 c =
-    let f = c .before .before .before .before .before .before .before .before .before .before .before .before .before .before .before .before .before .before in
+    let f = filling c in
     let n = f .before .before .before .before .before .before .before .before .before .before .before in
     let j = n .before .before in
     let e = n .n .given .1 in (
-      ap (outcome _) (f .fill .ensures) ∙ finished-leaves _ (lent (start j)) _ (answers j) _ e,
+      rw (f .fill .ensures) (finished-leaves _ (lent (start j)) _ (answers j) _ e),
       rightly _ (lent (start j)) _ (answers j) e,
     )
 

@@ -10,11 +10,6 @@ use Rattle.reader.proofs.Forward.{sound-then, faulty-then}
 use Rattle.reader.proofs.Columns.{filled-at}
 use Rattle.reader.proofs.shuffle_field.Statement.{statement}
 use Rattle.reader.proofs.shuffle_field.Tie as tie
-use Rattle.reader.proofs.shuffle_field.Reads as reads
-use Rattle.reader.proofs.shuffle_field.Lts as lts
-use Rattle.checks.proofs.shuffle.Reads as shuffle-reads
-use Rattle.reader.proofs.field.Reads as field-reads
-use Rattle.reader.proofs.fill_shuffle.Reads as fill-shuffle-reads
 
 mul-field : tie.Need-mul-field
 mul-field c = search needs
