@@ -1,0 +1,163 @@
+-- What planning has checked, where it does not refuse, and what every answer of it says. Assumes nothing.
+use Prim.Native.Nat.{ℕ, _≤_, _<_}
+use mathlib.Core.Bool.{Bool, false, not}
+use mathlib.Core.List.{List}
+use mathlib.Core.Path.{_≡_, refl, sym, ap, _∙_}
+use native.Mathlib.Omega.{arith}
+use lib.Dec.{eqb, ltb}
+use lib.ListN.{length, getD}
+use borrow.Author.Tests.{ltb-true, ltb-false, le-ltb, eqb-true, eq-eqb, not-false}
+use Rattle.laws.specs.Below.{either, anyBelow}
+use Rattle.laws.proofs.Below.{true-false, either-false, any-none, none-any}
+use Rattle.refusal.specs.Fault.{Fault, none, fault, refuse, _then_}
+use Rattle.refusal.specs.Answer.{Outcome, finished, refused, unless}
+use Rattle.refusal.proofs.Faults.{refuse-none, none-refuse, then-none, none-then, by-refuse, by-then, unless-none, unless-fault, finished-none, refused-fault}
+use Rattle.pool.specs.Turned.{shuffleFault, roomFault}
+use Rattle.pool.specs.Faultless.{EachOnce}
+use Rattle.pool.proofs.Pairs.{shuffle-none, shuffle-passed, shuffle-fault}
+use Rattle.pool.proofs.Reading.{room-none, room-passed, room-fault}
+use Rattle.exchange.specs.Subsets.{entry}
+use Rattle.exchange.specs.Planning.{Lent, Plan, tableFault, shortFault, planFault, planning}
+use Rattle.exchange.specs.Promises.{Answered, AnswersRightly}
+use Rattle.exchange.specs.Faultless.{LongEnough, Compatibility, FaultlessInput, PlanFault, tooManyPairs, tooShort, notAShuffle, notCompatibility}
+
+module _ (n : ℕ) (M W s : List ℕ) (t : Lent) where
+  -- ## 9
+
+  long-none : LongEnough n M W s t → shortFault n M W s t ≡ none
+  unfolding shortFault
+  long-none h =
+      none-then _ _ (room-none _ _ (h .compatibility))
+      ∙ none-then _ _ (room-none _ _ (h .points))
+      ∙ none-then _ _ (room-none _ _ (h .shuffle))
+      ∙ none-then _ _ (room-none _ _ (h .weights))
+      ∙ none-then _ _ (room-none _ _ (h .choices))
+      ∙ none-then _ _ (room-none _ _ (h .donors))
+      ∙ none-then _ _ (room-none _ _ (h .recipients))
+      ∙ room-none _ _ (h .records)
+
+  long-passed : shortFault n M W s t ≡ none → LongEnough n M W s t
+  unfolding shortFault
+  long-passed e =
+      let a = then-none _ _ e in
+      let b = then-none _ _ (a .1) in
+      let c = then-none _ _ (b .1) in
+      let d = then-none _ _ (c .1) in
+      let f = then-none _ _ (d .1) in
+      let g = then-none _ _ (f .1) in
+      let h = then-none _ _ (g .1) in
+      record {
+        compatibility = room-passed _ _ (a .0);
+        points = room-passed _ _ (b .0);
+        shuffle = room-passed _ _ (c .0);
+        weights = room-passed _ _ (d .0);
+        choices = room-passed _ _ (f .0);
+        donors = room-passed _ _ (g .0);
+        recipients = room-passed _ _ (h .0);
+        records = room-passed _ _ (h .1);
+      }
+
+  long-fault : (P : ℕ → ℕ → Type 0) → ((LongEnough n M W s t → ⊥) → P 9 0) → (k o : ℕ) → shortFault n M W s t ≡ fault k o → P k o
+  unfolding shortFault
+  long-fault P nine =
+      by-then P _ _ (room-fault P _ _ (λ l. nine (λ h. omega (arith, l, h .compatibility))))
+      (λ _. by-then P _ _ (room-fault P _ _ (λ l. nine (λ h. omega (arith, l, h .points))))
+      (λ _. by-then P _ _ (room-fault P _ _ (λ l. nine (λ h. omega (arith, l, h .shuffle))))
+      (λ _. by-then P _ _ (room-fault P _ _ (λ l. nine (λ h. omega (arith, l, h .weights))))
+      (λ _. by-then P _ _ (room-fault P _ _ (λ l. nine (λ h. omega (arith, l, h .choices))))
+      (λ _. by-then P _ _ (room-fault P _ _ (λ l. nine (λ h. omega (arith, l, h .donors))))
+      (λ _. by-then P _ _ (room-fault P _ _ (λ l. nine (λ h. omega (arith, l, h .recipients))))
+      (λ _. room-fault P _ _ (λ l. nine (λ h. omega (arith, l, h .records))))))))))
+
+  -- ## 10
+
+  -- a row's test
+  row : ℕ → Bool
+  row i = either (anyBelow n (λ j. ltb 1 (entry M n i j))) (not (eqb (entry M n i i) 0))
+
+  no-row : Compatibility n M → anyBelow n row ≡ false
+  unfolding row either
+  no-row h =
+      none-any n row
+      (λ i k. rw (none-any n (λ j. ltb 1 (entry M n i j)) (λ j q. le-ltb 1 (entry M n i j) (h .zeroOrOne i j k q)), eq-eqb _ 0 (h .own i k)))
+
+  table-none : Compatibility n M → tableFault n M ≡ none
+  unfolding tableFault row
+  table-none h = none-refuse 10 0 _ (no-row h)
+
+  table-passed : tableFault n M ≡ none → Compatibility n M
+  unfolding tableFault
+  table-passed e =
+      let rows : (i : ℕ) → i < n → either (anyBelow n (λ j. ltb 1 (entry M n i j))) (not (eqb (entry M n i i) 0)) ≡ false =
+      any-none n _ (refuse-none 10 0 _ e) in
+      record {
+        zeroOrOne = λ i j h k. ltb-false 1 (entry M n i j) (any-none n _ (either-false _ _ (rows i h) .0) j k);
+        own = λ i h. eqb-true _ 0 (not-false _ (either-false _ _ (rows i h) .1));
+      }
+
+  table-fault : (P : ℕ → ℕ → Type 0) → ((Compatibility n M → ⊥) → P 10 0) → (k o : ℕ) → tableFault n M ≡ fault k o → P k o
+  unfolding tableFault row
+  table-fault P ten = by-refuse P 10 0 _ (λ e. ten (λ h. true-false e (no-row h)))
+
+  -- ## All four
+
+  none-planned : FaultlessInput n M W s t → planFault n M W s t ≡ none
+  unfolding planFault
+  none-planned h =
+      none-then _ _ (none-refuse 4 0 _ (le-ltb 200 n (h .few)))
+      ∙ none-then _ _ (long-none (h .long))
+      ∙ none-then _ _ (shuffle-none 0 n _ (h .eachOnce))
+      ∙ table-none (h .compatible)
+
+  pub checked : planFault n M W s t ≡ none → FaultlessInput n M W s t
+  unfolding planFault
+  checked e =
+      let a = then-none _ _ e in
+      let b = then-none _ _ (a .1) in
+      let c = then-none _ _ (b .1) in
+      record {
+        few = ltb-false _ _ (refuse-none _ _ _ (a .0));
+        long = long-passed (b .0);
+        eachOnce = shuffle-passed 0 n _ (c .0);
+        compatible = table-passed (c .1);
+      }
+
+  -- the fault told is there, and none that is checked before it
+  plan-fault : (k o : ℕ) → planFault n M W s t ≡ fault k o → (o ≡ 0) × PlanFault n M W s t k
+  unfolding planFault
+  plan-fault =
+      let P : ℕ → ℕ → Type 0 = λ k o. (o ≡ 0) × PlanFault n M W s t k in
+      by-then P _ _ (by-refuse P 4 0 _ (λ e. (refl, tooManyPairs (ltb-true _ _ e))))
+      (λ a. let few : n ≤ 200 = ltb-false _ _ (refuse-none _ _ _ a) in
+      by-then P _ _ (long-fault P (λ h. (refl, tooShort few h)))
+      (λ b. let long = long-passed b in
+      by-then P _ _ (shuffle-fault 0 n _ P (λ h. (refl, notAShuffle few long h)))
+      (λ c. table-fault P (λ h. (refl, notCompatibility few long (shuffle-passed 0 n _ c) h)))))
+
+-- ## Where a call is finished, there is no fault, and what was to be filled is filled
+
+module _ {Result Lent : Type 0} (r : Result) (new old : Lent) where
+  pub record Finished (f : Fault) (p : Result) (o : Outcome Result Lent) : Type 0 where
+    pub faultless : f ≡ none
+    pub result : r ≡ p
+    pub left : o .lent ≡ new
+
+  pub finished-is : (f : Fault) (p : Result) → unless f r new old .answer ≡ finished p → Finished f p (unless f r new old)
+  finished-is f p e =
+      let h = finished-none f r new old e in
+      record { faultless = h .0; result = h .1; left = ap (λ (o : Outcome Result Lent). o .lent) (unless-none f r new old (h .0)) }
+
+-- ## Every answer
+
+pub answers-rightly : AnswersRightly
+unfolding planning
+answers-rightly n M W s t =
+    record {
+      accepts = λ h. (_, ap (λ (o : Outcome Plan Lent). o .answer) (unless-none _ _ _ _ (none-planned n M W s t h)));
+      accepted = λ p e. checked n M W s t (finished-none _ _ _ _ e .0);
+      refuses =
+          λ k place e.
+          let f = refused-fault _ _ _ _ e in
+          let d = plan-fault n M W s t k place f in
+          (d .0, d .1, ap (λ (o : Outcome Plan Lent). o .lent) (unless-fault _ _ _ _ k place f));
+    }

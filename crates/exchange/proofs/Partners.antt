@@ -1,0 +1,361 @@
+-- Donors and recipients: each other's inverse, and those of Algorithm 1 with the shuffle undone. Assumes nothing.
+use Prim.Native.Nat.{ℕ, zero, suc, _≤_, _<_}
+use mathlib.Core.Bool.{Bool, true, false, cond}
+use mathlib.Core.List.{List, [], _∷_, _++_, map, flatMap, List·Memᴰ, List·Memᴰ·head, List·Memᴰ·tail}
+use mathlib.Core.Logic.{inl, inr}
+use mathlib.Core.Path.{_≡_, refl, sym, ap, ap₂, _∙_}
+use native.Mathlib.Omega.{arith}
+use native.Mathlib.Nat.{eq-zero-or-pos}
+use native.Mathlib.Decide.{decLt}
+use lib.Dec.{eqb, leb}
+use lib.ListN.{length, getD, List·getD-append}
+use lib.Seq.{getD-at}
+use borrow.Author.Tests.{lt-ltb, le-ltb, eq-eqb, ne-eqb, leb-true, le-leb, lt-leb}
+use Rattle.laws.specs.Below.{table, one, Once}
+use Rattle.greedy.specs.Places.{among, firstAt}
+use Rattle.greedy.proofs.Counts.{times, NoneTwice, AllBelow, Alike, one-eq, same, other, same?, times-append, times-cons, among-times}
+use Rattle.exchange.specs.Subsets.{Edge, along, edges, pairsAt}
+use Rattle.exchange.specs.Resolution.{recipientBy, donorBy, recipientTable, donorTable}
+use Rattle.exchange.specs.Algorithm1 as Algorithm1
+use Rattle.exchange.specs.Promises.{Consistent}
+use Rattle.exchange.specs.Rivals.{Each}
+use Rattle.exchange.proofs.Ordered.{each-append}
+use Rattle.exchange.proofs.Seated.{Seated, length-table}
+use Rattle.exchange.proofs.Charged.{joined}
+use Rattle.exchange.proofs.Sets.{Inside, edges-inside, below-pool}
+use Rattle.exchange.proofs.Shuffled.{moved, edges-pairs}
+
+-- ---- tables
+
+pub table-same : (n : ℕ) (f g : ℕ → ℕ) → ((i : ℕ) → i < n → f i ≡ g i) → table n f ≡ table n g
+unfolding table
+table-same zero f g h = refl
+table-same (suc n) f g h = ap₂ (λ (l : List ℕ) (x : ℕ). l ++ (x ∷ [])) (table-same n f g (λ i k. h i (omega arith))) (h n (omega arith))
+
+pub table-at : (n : ℕ) (f : ℕ → ℕ) (i : ℕ) → i < n → getD (table n f) i 0 ≡ f i
+unfolding table
+table-at zero f i h = absurd (omega arith)
+table-at (suc n) f i h = elim (decLt i n) [
+  | yes k ↦ List·getD-append (table n f) (f n ∷ []) 0 i (omega (arith, length-table n f)) ∙ table-at n f i k
+  | no k ↦ let e : i ≡ n = omega arith in rw e (getD-at (table n f) (f n) [] 0 n (length-table n f))
+]
+
+-- ---- donors are recipients along the edges turned round
+
+abbrev turned : Edge → Edge
+turned e = record { donor = e .patient; patient = e .donor }
+
+donor-turned : (es : List Edge) (none i : ℕ) → donorBy es none i ≡ recipientBy (map turned es) none i
+unfolding donorBy recipientBy
+donor-turned [] none i = refl
+donor-turned (e ∷ es) none i = donor-turned es (cond (eqb i (e .patient)) (e .donor) none) i
+
+abbrev from : List Edge → List ℕ
+from es = map (λ (e : Edge). e .donor) es
+
+abbrev to : List Edge → List ℕ
+to es = map (λ (e : Edge). e .patient) es
+
+-- ---- whom a donor gives to
+
+absent : (es : List Edge) (none i : ℕ) → times i (from es) ≡ 0 → recipientBy es none i ≡ none
+unfolding recipientBy times
+absent [] none i h = refl
+absent (e ∷ es) none i h = elim (same? i (e .donor)) [
+  | same q z ↦ absurd (omega arith)
+  | other q z ↦ rw (ne-eqb i (e .donor) q) (absent es none i (omega arith))
+]
+
+present : (es : List Edge) (none : ℕ) (e : Edge) → List·Memᴰ e es → NoneTwice (from es) → recipientBy es none (e .donor) ≡ e .patient
+unfolding recipientBy times
+present (d ∷ es) none e (List·Memᴰ·head q) o =
+    let a : e .donor ≡ d .donor = ap (λ (x : Edge). x .donor) q in
+    let b : e .patient ≡ d .patient = ap (λ (x : Edge). x .patient) q in
+    rw (eq-eqb (e .donor) (d .donor) a) (absent es (d .patient) (e .donor) (omega (arith, o (e .donor), one-eq (e .donor) (d .donor) a)) ∙ sym b)
+present (d ∷ es) none e (List·Memᴰ·tail k) o = present es (cond (eqb (e .donor) (d .donor)) (d .patient) none) e k (λ p. omega (arith, o p))
+
+found : (es : List Edge) (i : ℕ) → 1 ≤ times i (from es) → (e : Edge) × List·Memᴰ e es × (e .donor ≡ i)
+unfolding times
+found [] i h = absurd (omega arith)
+found (e ∷ es) i h = elim (same? i (e .donor)) [
+  | same q z ↦ (e, List·Memᴰ·head refl, sym q)
+  | other q z ↦ let r = found es i (omega arith) in (r .0, List·Memᴰ·tail (r .1), r .2)
+]
+
+mem-turned : (e : Edge) (es : List Edge) → List·Memᴰ e es → List·Memᴰ (turned e) (map turned es)
+mem-turned e (d ∷ es) (List·Memᴰ·head q) = List·Memᴰ·head (ap (λ (x : Edge). turned x) q)
+mem-turned e (d ∷ es) (List·Memᴰ·tail k) = List·Memᴰ·tail (mem-turned e es k)
+
+from-turned : (es : List Edge) → from (map turned es) ≡ to es
+from-turned [] = refl
+from-turned (e ∷ es) = ap (λ (l : List ℕ). e .patient ∷ l) (from-turned es)
+
+to-turned : (es : List Edge) → to (map turned es) ≡ from es
+to-turned [] = refl
+to-turned (e ∷ es) = ap (λ (l : List ℕ). e .donor ∷ l) (to-turned es)
+
+each-mem : {A : Type 0} (P : A → Type 0) (x : A) (xs : List A) → List·Memᴰ x xs → Each P xs → P x
+each-mem P x (y ∷ xs) (List·Memᴰ·head e) h = rw e (h .0)
+each-mem P x (y ∷ xs) (List·Memᴰ·tail k) h = each-mem P x xs k (h .1)
+
+each-turned : (n : ℕ) (es : List Edge) → Each (Inside n) es → Each (Inside n) (map turned es)
+each-turned n [] h = tt
+each-turned n (e ∷ es) h = ((h .0 .1, h .0 .0), each-turned n es (h .1))
+
+-- ---- one way round: edges between n pairs, no donor in two
+
+module _ (n : ℕ) (es : List Edge) (inside : Each (Inside n) es) (once : NoneTwice (from es)) where
+  gives : (i : ℕ) → recipientBy es n i < n → (e : Edge) × List·Memᴰ e es × (e .donor ≡ i)
+  gives i h = elim (eq-zero-or-pos (times i (from es))) [
+    | inl z ↦ absurd (omega (arith, absent es n i z))
+    | inr z ↦ found es i z
+  ]
+
+  given : (i : ℕ) → 1 ≤ times i (from es) → recipientBy es n i < n
+  given i h =
+      let r = found es i h in
+      omega (arith, each-mem (Inside n) (r .0) es (r .1) inside .1, rw (r .2) at (present es n (r .0) (r .1) once))
+
+  -- whom i's donor gives to has i's donor
+  back : NoneTwice (to es) → (i j : ℕ) → j < n → recipientBy es n i ≡ j → donorBy es n j ≡ i
+  back o i j h e =
+      let r = gives i (omega arith) in
+      let q : recipientBy es n i ≡ r .0 .patient = rw (r .2) at (present es n (r .0) (r .1) once) in
+      let p : j ≡ r .0 .patient = sym e ∙ q in
+      donor-turned es n j ∙ (rw p (present (map turned es) n (turned (r .0)) (mem-turned (r .0) es (r .1)) (rw (from-turned es) o) ∙ r .2))
+
+-- ---- the edges of cycles: each pair of theirs gives once and receives once
+
+from-along : (xs : List ℕ) (b : ℕ) → from (along (xs ++ (b ∷ []))) ≡ xs
+unfolding along
+from-along [] b = refl
+from-along (a ∷ []) b = refl
+from-along (a ∷ c ∷ xs) b = ap (λ (l : List ℕ). a ∷ l) (from-along (c ∷ xs) b)
+
+to-along : (a : ℕ) (xs : List ℕ) → to (along (a ∷ xs)) ≡ xs
+unfolding along
+to-along a [] = refl
+to-along a (b ∷ xs) = ap (λ (l : List ℕ). b ∷ l) (to-along b xs)
+
+from-edges : (c : List ℕ) → from (edges c) ≡ c
+unfolding edges
+from-edges [] = refl
+from-edges (a ∷ c) = from-along (a ∷ c) a
+
+to-edges : (c : List ℕ) → Alike (to (edges c)) c
+unfolding edges times
+to-edges [] p = refl
+to-edges (a ∷ c) p = rw (to-along a (c ++ (a ∷ []))) (omega (arith, times-append p c (a ∷ []), times-cons p a []))
+
+map-edges : (f : Edge → ℕ) (a b : List Edge) → map f (a ++ b) ≡ map f a ++ map f b
+map-edges f [] b = refl
+map-edges f (x ∷ a) b = ap (λ (l : List ℕ). f x ∷ l) (map-edges f a b)
+
+from-all : (cs : List (List ℕ)) → from (flatMap edges cs) ≡ joined cs
+unfolding flatMap joined
+from-all [] = refl
+from-all (c ∷ cs) = map-edges (λ (e : Edge). e .donor) (edges c) (flatMap edges cs) ∙ ap₂ _++_ (from-edges c) (from-all cs)
+
+to-all : (cs : List (List ℕ)) → Alike (to (flatMap edges cs)) (joined cs)
+unfolding flatMap joined
+to-all [] p = refl
+to-all (c ∷ cs) p = rw (map-edges (λ (e : Edge). e .patient) (edges c) (flatMap edges cs)) (omega (
+  arith,
+  times-append p (to (edges c)) (to (flatMap edges cs)),
+  times-append p c (joined cs),
+  to-edges c p,
+  to-all cs p,
+))
+
+pub edges-all : (n : ℕ) (cs : List (List ℕ)) → Each (AllBelow n) cs → Each (Inside n) (flatMap edges cs)
+unfolding flatMap
+edges-all n [] h = tt
+edges-all n (c ∷ cs) h = each-append (Inside n) (edges c) (flatMap edges cs) (edges-inside n c (below-pool n c (h .0))) (edges-all n cs (h .1))
+
+-- ---- in exactly one cycle
+
+joined-at : (cs : List (List ℕ)) (k i : ℕ) → times i (getD cs k []) ≤ times i (joined cs)
+unfolding joined
+joined-at [] k i = omega arith
+joined-at (c ∷ cs) zero i = omega (arith, times-append i c (joined cs))
+joined-at (c ∷ cs) (suc k) i = omega (arith, times-append i c (joined cs), joined-at cs k i)
+
+one-among : (i : ℕ) (c : List ℕ) → 1 ≤ times i c → one (among i c) ≡ 1
+unfolding one
+one-among i c h = rw (among-times i c, le-leb 1 (times i c) h)
+
+among-one : (i : ℕ) (c : List ℕ) → one (among i c) ≡ 1 → 1 ≤ times i c
+unfolding one
+among-one i c h = go (leb 1 (times i c)) refl (rw (among-times i c) at h)
+  where
+    go : (b : Bool) → leb 1 (times i c) ≡ b → one b ≡ 1 → 1 ≤ times i c
+    go true e k = leb-true 1 (times i c) e
+    go false e k = absurd (omega arith)
+
+not-among : (i : ℕ) (c : List ℕ) → times i c ≡ 0 → one (among i c) ≡ 0
+unfolding one
+not-among i c h = rw (among-times i c, lt-leb 1 (times i c) (omega arith))
+
+in-one : (i : ℕ) (cs : List (List ℕ)) → NoneTwice (joined cs) → 1 ≤ times i (joined cs) → Once (length cs) (λ k. one (among i (getD cs k []))) 1
+unfolding joined times
+in-one i [] o h = absurd (omega arith)
+in-one i (c ∷ cs) o h = elim (eq-zero-or-pos (times i c)) [
+  | inr z ↦ record { at = 0; below = omega arith; there = one-among i c z; only = λ k y e. first k e z }
+  | inl z ↦
+      let r = in-one i cs (λ p. omega (arith, o p, times-append p c (joined cs))) (omega (arith, h, times-append i c (joined cs))) in
+      record { at = suc (r .at); below = omega (arith, r .below); there = r .there; only = λ k y e. later k y e z (λ j q d. r .only j q d) }
+]
+  where
+    first : (k : ℕ) → one (among i (getD (c ∷ cs) k [])) ≡ 1 → 1 ≤ times i c → k ≡ 0
+    first zero e z = refl
+    first (suc k) e z = absurd (omega (arith, o i, times-append i c (joined cs), joined-at cs k i, among-one i (getD cs k []) e))
+
+    later : {at : ℕ} (k : ℕ) → k < length (c ∷ cs) → one (among i (getD (c ∷ cs) k [])) ≡ 1 → times i c ≡ 0
+        → ((j : ℕ) → j < length cs → one (among i (getD cs j [])) ≡ 1 → j ≡ at) → k ≡ suc at
+    later zero y e z g = absurd (omega (arith, among-one i c e))
+    later (suc k) y e z g = ap suc (g k (omega arith) e)
+
+-- ---- the two tables
+
+module _ (n : ℕ) (cs : List (List ℕ)) (below : Each (AllBelow n) cs) (once : NoneTwice (joined cs)) where
+  es : List Edge
+  es = flatMap edges cs
+
+  inside : Each (Inside n) es
+  unfolding es
+  inside = edges-all n cs below
+
+  gives-once : NoneTwice (from es)
+  unfolding es
+  gives-once = rw (from-all cs) once
+
+  receives-once : NoneTwice (to es)
+  unfolding es
+  receives-once p = omega (arith, to-all cs p, once p)
+
+  turned-once : NoneTwice (from (map turned es))
+  turned-once = rw (from-turned es) receives-once
+
+  -- a donor is a recipient the other way round
+  recipient-turned : (i : ℕ) → donorBy (map turned es) n i ≡ recipientBy es n i
+  recipient-turned i = donor-turned (map turned es) n i ∙ ap (λ (l : List Edge). recipientBy l n i) (twice es)
+    where
+      twice : (l : List Edge) → map turned (map turned l) ≡ l
+      twice [] = refl
+      twice (e ∷ l) = ap (λ (r : List Edge). e ∷ r) (twice l)
+
+  forth : (i j : ℕ) → i < n → donorBy es n j ≡ i → recipientBy es n i ≡ j
+  forth i j h e =
+      sym (recipient-turned i)
+      ∙ back n (map turned es) (each-turned n es inside) turned-once (rw (to-turned es) gives-once) j i h (sym (donor-turned es n j) ∙ e)
+
+  recipient-known : (i : ℕ) → recipientBy es n i ≤ n
+  recipient-known i = elim (eq-zero-or-pos (times i (from es))) [
+    | inl z ↦ omega (arith, absent es n i z)
+    | inr z ↦ omega (arith, given n es inside gives-once i z)
+  ]
+
+  -- a pair gives if and only if it is in a cycle, and receives if and only if it is
+  gives-in : (i : ℕ) → recipientBy es n i < n → 1 ≤ times i (joined cs)
+  unfolding es
+  gives-in i h = elim (eq-zero-or-pos (times i (from es))) [
+    | inl z ↦ absurd (omega (arith, absent es n i z))
+    | inr z ↦ rw (from-all cs) at z
+  ]
+
+  in-gives : (i : ℕ) → 1 ≤ times i (joined cs) → recipientBy es n i < n
+  unfolding es
+  in-gives i h = given n es inside gives-once i (rw (from-all cs) h)
+
+  receives-in : (i : ℕ) → donorBy es n i < n → 1 ≤ times i (joined cs)
+  unfolding es
+  receives-in i h = elim (eq-zero-or-pos (times i (to es))) [
+    | inl z ↦ absurd (omega (arith, donor-turned es n i, absent (map turned es) n i (rw (from-turned es) z)))
+    | inr z ↦ omega (arith, to-all cs i)
+  ]
+
+  in-receives : (i : ℕ) → 1 ≤ times i (joined cs) → donorBy es n i < n
+  unfolding es
+  in-receives i h =
+      let k : 1 ≤ times i (to es) = omega (arith, to-all cs i) in
+      omega (arith, donor-turned es n i, given n (map turned es) (each-turned n es inside) turned-once i (rw (from-turned es) k))
+
+  pub consistent : (donors recipients : List ℕ) → ((i : ℕ) → i < n → getD donors i 0 ≡ donorBy (flatMap edges cs) n i)
+      → ((i : ℕ) → i < n → getD recipients i 0 ≡ recipientBy (flatMap edges cs) n i) → Consistent n cs donors recipients
+  unfolding es
+  consistent donors recipients d r = record {
+    inverse = λ i j h k. (
+      λ e. d j k ∙ back n es inside gives-once receives-once i j k (sym (r i h) ∙ e),
+      λ e. r i h ∙ forth i j h (sym (d j k) ∙ e),
+    );
+    both = λ i h. (
+      λ e. omega (arith, d i h, in-receives i (gives-in i (omega (arith, r i h)))),
+      λ e. omega (arith, r i h, in-gives i (receives-in i (omega (arith, d i h)))),
+    );
+    inOne = λ i h e. in-one i cs once (gives-in i (omega (arith, r i h)));
+    inNone = λ i k h e. not-among i (getD cs k []) (absent-at i k h e);
+    known = λ i h. omega (arith, r i h, recipient-known i);
+  }
+    where
+      absent-at : (i k : ℕ) → i < n → getD recipients i 0 ≡ n → times i (getD cs k []) ≡ 0
+      absent-at i k h e = elim (eq-zero-or-pos (times i (getD cs k []))) [
+        | inl z ↦ z
+        | inr z ↦ absurd (omega (arith, r i h, in-gives i (omega (arith, joined-at cs k i))))
+      ]
+
+-- ---- the shuffle undone
+
+module _ (n : ℕ) (s : List ℕ) (sh : Seated n s) where
+  eqb-node : (i p : ℕ) → i < n → p < n → eqb i (getD s p 0) ≡ eqb (firstAt i s) p
+  eqb-node i p h k = elim (same? i (getD s p 0)) [
+    | same e z ↦ eq-eqb i (getD s p 0) e ∙ sym (eq-eqb (firstAt i s) p (rw e (sh .place-seat p k)))
+    | other e z ↦ ne-eqb i (getD s p 0) e ∙ sym (ne-eqb (firstAt i s) p (λ q. e (sym (sh .seat-pair i h) ∙ ap (λ (x : ℕ). getD s x 0) q)))
+  ]
+
+  pair-node : (p : ℕ) → p < n → Algorithm1.pairOf n s p ≡ getD s p 0
+  unfolding Algorithm1.pairOf
+  pair-node p h = rw (lt-ltb p n h)
+
+  pair-none : Algorithm1.pairOf n s n ≡ n
+  unfolding Algorithm1.pairOf
+  pair-none = rw (le-ltb n n (omega arith))
+
+  recipient-moved : (es : List Edge) → Each (Inside n) es → (x i : ℕ) → i < n
+      → recipientBy (map (moved s) es) (Algorithm1.pairOf n s x) i ≡ Algorithm1.pairOf n s (recipientBy es x (firstAt i s))
+  unfolding recipientBy
+  recipient-moved [] h x i k = refl
+  recipient-moved (e ∷ es) h x i k =
+      ap (λ (z : ℕ). recipientBy (map (moved s) es) z i) (rw (eqb-node i (e .donor) k (h .0 .0)) (go (eqb (firstAt i s) (e .donor))))
+      ∙ recipient-moved es (h .1) (cond (eqb (firstAt i s) (e .donor)) (e .patient) x) i k
+    where
+      go : (b : Bool) → cond b (getD s (e .patient) 0) (Algorithm1.pairOf n s x) ≡ Algorithm1.pairOf n s (cond b (e .patient) x)
+      go true = sym (pair-node (e .patient) (h .0 .1))
+      go false = refl
+
+  turned-moved : (es : List Edge) → map turned (map (moved s) es) ≡ map (moved s) (map turned es)
+  turned-moved [] = refl
+  turned-moved (e ∷ es) = ap (λ (l : List Edge). turned (moved s e) ∷ l) (turned-moved es)
+
+  edges-moved : (cs : List (List ℕ)) → flatMap edges (map (pairsAt s) cs) ≡ map (moved s) (flatMap edges cs)
+  unfolding flatMap
+  edges-moved [] = refl
+  edges-moved (c ∷ cs) = ap₂ _++_ (edges-pairs s c) (edges-moved cs) ∙ sym (append (edges c) (flatMap edges cs))
+    where
+      append : (a b : List Edge) → map (moved s) (a ++ b) ≡ map (moved s) a ++ map (moved s) b
+      append [] b = refl
+      append (x ∷ a) b = ap (λ (l : List Edge). moved s x ∷ l) (append a b)
+
+  module _ (cs : List (List ℕ)) (inside : Each (Inside n) (flatMap edges cs)) where
+    pub same-recipients : recipientTable n (map (pairsAt s) cs) ≡ Algorithm1.recipients n s cs
+    unfolding recipientTable Algorithm1.recipients
+    same-recipients = table-same n _ _ (λ i h.
+        ap₂ (λ (l : List Edge) (z : ℕ). recipientBy l z i) (edges-moved cs) (sym pair-none) ∙ recipient-moved (flatMap edges cs) inside n i h)
+
+    pub same-donors : donorTable n (map (pairsAt s) cs) ≡ Algorithm1.donors n s cs
+    unfolding donorTable Algorithm1.donors
+    same-donors = table-same n _ _ (λ i h.
+        donor-turned (flatMap edges (map (pairsAt s) cs)) n i
+        ∙ ap₂ (λ (l : List Edge) (z : ℕ). recipientBy (map turned l) z i) (edges-moved cs) (sym pair-none)
+        ∙ ap (λ (l : List Edge). recipientBy l (Algorithm1.pairOf n s n) i) (turned-moved (flatMap edges cs))
+        ∙ recipient-moved (map turned (flatMap edges cs)) (each-turned n (flatMap edges cs) inside) n i h
+        ∙ ap (Algorithm1.pairOf n s) (sym (donor-turned (flatMap edges cs) n (firstAt i s))))

@@ -1,0 +1,107 @@
+-- The planned cycles are executable exchanges that share no pair, and no set of such weighs more than they are credited with: for any
+-- floor f and any largest size l. Assumes nothing.
+use Prim.Native.Nat.{ℕ, _*_, _/_, _≤_, _<_}
+use mathlib.Core.List.{List, [], _∷_}
+use mathlib.Core.Logic.{_⊎_, inl, inr}
+use mathlib.Core.Path.{_≡_}
+use native.Mathlib.Omega.{arith}
+use native.Mathlib.Nat.{eq-zero-or-pos}
+use native.Mathlib.Decide.{decLt}
+use lib.ListN.{length, getD}
+use borrow.Author.Tests.{lt-ltb, le-ltb}
+use Rattle.greedy.specs.Tally.{tally}
+use Rattle.greedy.proofs.Counts.{times, NoneTwice, one-same}
+use Rattle.greedy.proofs.Bound.{chosen-above}
+use Rattle.exchange.specs.Subsets.{subsets, weigh, pairsAt, bestCycle, evaluating}
+use Rattle.exchange.specs.Resolution.{resolved, total}
+use Rattle.exchange.specs.Planning.{roundCount, leftBy, plannedBy}
+use Rattle.exchange.specs.Rivals.{Each, Different, Exchange, ExchangeSet, credited}
+use Rattle.exchange.proofs.Ordered.{each-mono}
+use Rattle.exchange.proofs.Seated.{Seated, pairs-below}
+use Rattle.exchange.proofs.Charged.{weightsOf, joined, family, size-most, Rival, cycle-below, planned-size, planned-weight, planned-apart, planned-credit, planned-factor}
+use Rattle.exchange.proofs.Sets.{pool-below, below-pool, once-different, apart-once, once-each, once-apart, weigh-executable}
+
+each-both : {A : Type 0} (P Q R : A → Type 0) → ((x : A) → P x → Q x → R x) → (xs : List A) → Each P xs → Each Q xs → Each R xs
+each-both P Q R g [] h k = tt
+each-both P Q R g (x ∷ xs) h k = (g x (h .0) (k .0), each-both P Q R g xs (h .1) (k .1))
+
+-- a cycle that may stand in a rival set of floor f: it weighs nothing, or more than the floor
+abbrev pub Counts : ℕ → (ℕ → ℕ → ℕ) → (ℕ → ℕ → ℕ) → List ℕ → Type 0
+Counts f m w c = (weigh m w c ≡ 0) ⊎ (f < weigh m w c)
+
+module _ (f l n : ℕ) (m w : ℕ → ℕ → ℕ) (s : List ℕ) (sh : Seated n s) where
+  -- a planned cycle: two to l pairs of the pool, above the floor
+  abbrev Above : List ℕ → Type 0
+  Above c = Rival f l n m w c × (f < weigh m w c)
+
+  resolve-each : (cs : List ℕ) → ((c : ℕ) → 1 ≤ times c cs → (c ≡ length (subsets l n)) ⊎ (f < getD (weightsOf l n m w s) c 0))
+      → Each Above (resolved m w s (subsets l n) cs)
+  unfolding resolved times
+  resolve-each [] h = tt
+  resolve-each (c ∷ cs) h = go (resolve-each cs (λ d k. h d (omega arith)))
+    where
+      one : (c < length (subsets l n)) → f < weigh m w (pairsAt s (bestCycle m w s (getD (subsets l n) c [])))
+      one k = elim (h c (omega (arith, one-same c))) [ inl e ↦ absurd (omega arith) | inr e ↦ omega (arith, planned-weight l n m w s c) ]
+
+      go : Each Above (resolved m w s (subsets l n) cs) → Each Above (resolved m w s (subsets l n) (c ∷ cs))
+      go ih = elim (decLt c (length (subsets l n))) [
+        | yes k ↦ rw (lt-ltb c (length (subsets l n)) k) (
+          (
+            record {
+              least = omega (arith, planned-size l n m w s c, family l n m w s .wide c (omega (arith, one k, planned-weight l n m w s c)));
+              most = omega (arith, planned-size l n m w s c, size-most l n c);
+              below = pairs-below n s sh (bestCycle m w s (getD (subsets l n) c [])) (cycle-below l n m w s sh c);
+              above = inr (one k);
+            },
+            one k,
+          ),
+          ih,
+        )
+        | no k ↦ let q : length (subsets l n) ≤ c = omega arith in rw (le-ltb c (length (subsets l n)) q) ih
+      ]
+
+  planned-above : Each Above (plannedBy f l n m w s)
+  unfolding plannedBy leftBy
+  planned-above = resolve-each (leftBy f l n m w s .choices)
+      (chosen-above f n (roundCount n) (subsets l n) (weightsOf l n m w s) (evaluating (subsets l n) (tally 0 0 0)) (family l n m w s))
+
+  -- "all planned cycles are executable, no pair is in two of them"
+  pub planned-set : ((i j : ℕ) → i < n → j < n → m i j ≤ 1) → ExchangeSet l n m (plannedBy f l n m w s)
+  planned-set bits = record {
+    exchanges = each-both Above NoneTwice (Exchange l n m)
+        (λ c h o. record {
+          least = h .0 .least;
+          most = h .0 .most;
+          pool = below-pool n c (h .0 .below);
+          different = once-different c o;
+          executable = weigh-executable n m bits w c (below-pool n c (h .0 .below)) (omega arith);
+        })
+        (plannedBy f l n m w s) planned-above (once-each (plannedBy f l n m w s) (planned-apart f l n m w s sh));
+    apart = once-apart (plannedBy f l n m w s) (planned-apart f l n m w s sh);
+  }
+
+  module _ (cs : List (List ℕ)) (set : ExchangeSet l n m cs) (heavy : Each (Counts f m w) cs) where
+    rivals : Each (Rival f l n m w) cs
+    rivals = each-both (Exchange l n m) (Counts f m w) (Rival f l n m w)
+        (λ c h k. record { least = h .least; most = h .most; below = pool-below n c (h .pool); above = k }) cs (set .exchanges) heavy
+
+    once : NoneTwice (joined cs)
+    once = apart-once cs (each-mono (Exchange l n m) Different (λ c h. h .different) cs (set .exchanges)) (set .apart)
+
+    -- each planned cycle's weight times its number of pairs, added up, is at least the weight of every such set
+    pub rival-credit : total m w cs ≤ credited m w (plannedBy f l n m w s)
+    rival-credit = planned-credit f l n m w s sh cs rivals once
+
+    -- and so is l times the plan's weight
+    pub rival-factor : total m w cs ≤ l * total m w (plannedBy f l n m w s)
+    rival-factor = planned-factor f l n m w s sh cs rivals once
+
+-- with floor 0 every cycle counts
+pub all-count : (m w : ℕ → ℕ → ℕ) (cs : List (List ℕ)) → Each (Counts 0 m w) cs
+all-count m w [] = tt
+all-count m w (c ∷ cs) = (eq-zero-or-pos (weigh m w c), all-count m w cs)
+
+pub credited-most : (l n : ℕ) (m w : ℕ → ℕ → ℕ) (cs : List (List ℕ)) → Each (Exchange l n m) cs → credited m w cs ≤ l * total m w cs
+unfolding credited total
+credited-most l n m w [] h = omega arith
+credited-most l n m w (c ∷ cs) h = omega (arith, credited-most l n m w cs (h .1), native.Mathlib.Nat.mul-le-mul-left (weigh m w c) (h .0 .most))

@@ -1,0 +1,12 @@
+-- Planning, under document 01's headings. Believe `Subsets`, `Resolution` and `Planning`: the contracts cite them. `Published`,
+-- `Algorithm1` and `Faultless` say a second time, without them, what the order of subsets, the plan and the refusals are; `Rivals` and
+-- `Promises` say what is promised of every plan; `Pools` has k1 to k12.
+pub mod Subsets
+pub mod Resolution
+pub mod Planning
+pub mod Rivals
+pub mod Published
+pub mod Algorithm1
+pub mod Faultless
+pub mod Promises
+pub mod Pools

@@ -1,0 +1,139 @@
+-- "Pools to try": k1 to k12, each with what must come out. Assumes nothing.
+use Prim.Native.Nat.{ℕ, _*_, _/_, _%_}
+use mathlib.Core.Bool.{false, cond}
+use mathlib.Core.List.{List, [], _∷_, map}
+use mathlib.Core.Path.{_≡_}
+use lib.Dec.{eqb}
+use lib.ListN.{replicate}
+use Rattle.laws.specs.Below.{table}
+use Rattle.refusal.specs.Answer.{Answer, finished, refused, Outcome, outcome}
+use Rattle.greedy.specs.Tally.{Tally, tally}
+use Rattle.exchange.specs.Subsets.{subsetCount, entry}
+use Rattle.exchange.specs.Resolution.{Cycle, total}
+use Rattle.exchange.specs.Planning.{Lent, lent, Plan, plan, roundCount, planning}
+use Rattle.exchange.specs.Rivals.{ExchangeSet}
+
+-- "Edges as donor→patient:weight"; `mark` is the edge's M entry
+pub record Arrow : Type 0 where
+  pub donor : ℕ
+  pub patient : ℕ
+  pub mark : ℕ
+  pub weight : ℕ
+
+abbrev pub edge : ℕ → ℕ → ℕ → Arrow
+edge i j w = record { donor = i; patient = j; mark = 1; weight = w }
+
+-- what comes out: choices, weights after round R, weight, number of cycles, recipients, donors, tally; or the refusal
+pub data Found : Type 0 where
+  made : List ℕ → List ℕ → ℕ → ℕ → List ℕ → List ℕ → Tally → Found
+  turned : ℕ → Found
+
+pub record Case : Type 0 where
+  pub pairs : ℕ
+  pub edges : List Arrow
+  pub shuffle : List ℕ
+  pub due : Found
+
+abbrev pub case : ℕ → List Arrow → List ℕ → Found → Case
+case n es s d = record { pairs = n; edges = es; shuffle = s; due = d }
+
+-- the entry of the first edge from i to j, 0 where there is none
+unfoldable pub read : (Arrow → ℕ) → List Arrow → ℕ → ℕ → ℕ
+read f [] i j = 0
+read f (a ∷ es) i j = cond (cond (eqb i (a .donor)) (eqb j (a .patient)) false) (f a) (read f es i j)
+
+unfoldable pub tableOf : (Arrow → ℕ) → ℕ → List Arrow → List ℕ
+tableOf f n es = table (n * n) (λ k. read f es (k / n) (k % n))
+
+-- lent tables of just the sizes due
+unfoldable pub blank : ℕ → Lent
+blank n =
+    lent (replicate (subsetCount n) 0) (replicate (roundCount n) 0) (replicate n 0) (replicate n 0)
+    (replicate (roundCount n) (record { first = 0; second = 0; third = 0 }))
+
+unfoldable pub foundIn : Answer Plan → Lent → Found
+foundIn (finished p) t = made (t .choices) (t .weights) (p .weight) (p .cycles) (t .recipients) (t .donors) (p .tally)
+foundIn (refused k o) t = turned k
+
+unfoldable pub found : Case → Found
+found c =
+    let o : Outcome Plan Lent =
+    planning (c .pairs) (tableOf (λ a. a .mark) (c .pairs) (c .edges)) (tableOf (λ a. a .weight) (c .pairs) (c .edges)) (c .shuffle) (blank (c .pairs)) in
+    foundIn (o .answer) (o .lent)
+
+abbrev pub k3edges : List Arrow
+k3edges = edge 0 1 5 ∷ edge 1 0 7 ∷ []
+
+-- k8, and its rival of weight 18
+abbrev pub k8edges : List Arrow
+k8edges =
+    edge 0 1 2 ∷ edge 1 2 2 ∷ edge 2 0 2 ∷ edge 0 3 3 ∷ edge 3 0 3 ∷ edge 1 4 3 ∷ edge 4 1 3 ∷ edge 2 5 3 ∷ edge 5 2 3 ∷ []
+
+abbrev pub k8rival : List (List ℕ)
+k8rival = (0 ∷ 3 ∷ []) ∷ (1 ∷ 4 ∷ []) ∷ (2 ∷ 5 ∷ []) ∷ []
+
+-- "identity shuffle unless given"
+abbrev pub cases : List Case
+cases =
+    -- k1, k2
+    case 0 [] [] (made [] [] 0 0 [] [] (tally 0 0 0))
+    ∷ case 1 [] (0 ∷ []) (made [] [] 0 0 (1 ∷ []) (1 ∷ []) (tally 0 0 0))
+    -- k3
+    ∷ case 2 k3edges (0 ∷ 1 ∷ []) (made (0 ∷ []) (12 ∷ []) 12 1 (1 ∷ 0 ∷ []) (1 ∷ 0 ∷ []) (tally 1 6 1))
+    -- k4
+    ∷ case 2 (edge 0 1 5 ∷ []) (0 ∷ 1 ∷ []) (made (1 ∷ []) (0 ∷ []) 0 0 (2 ∷ 2 ∷ []) (2 ∷ 2 ∷ []) (tally 1 6 1))
+    -- k5
+    ∷ case 2 (edge 0 1 0 ∷ edge 1 0 0 ∷ []) (0 ∷ 1 ∷ []) (made (1 ∷ []) (0 ∷ []) 0 0 (2 ∷ 2 ∷ []) (2 ∷ 2 ∷ []) (tally 1 6 1))
+    -- k6
+    ∷ case 3 (edge 0 1 4 ∷ edge 1 2 4 ∷ edge 2 0 4 ∷ edge 1 0 4 ∷ edge 2 1 4 ∷ edge 0 2 4 ∷ []) (0 ∷ 1 ∷ 2 ∷ [])
+    (made (0 ∷ []) (12 ∷ 8 ∷ 8 ∷ 8 ∷ []) 12 1 (1 ∷ 2 ∷ 0 ∷ []) (2 ∷ 0 ∷ 1 ∷ []) (tally 5 32 1))
+    -- k7
+    ∷ case 3 (edge 0 1 1 ∷ edge 1 2 1 ∷ edge 2 0 1 ∷ edge 1 0 2 ∷ edge 2 1 2 ∷ edge 0 2 2 ∷ []) (0 ∷ 1 ∷ 2 ∷ [])
+    (made (0 ∷ []) (6 ∷ 3 ∷ 3 ∷ 3 ∷ []) 6 1 (2 ∷ 0 ∷ 1 ∷ []) (1 ∷ 2 ∷ 0 ∷ []) (tally 5 32 1))
+    -- k8
+    ∷ case 6 k8edges (0 ∷ 1 ∷ 2 ∷ 3 ∷ 4 ∷ 5 ∷ [])
+    (made (0 ∷ 35 ∷ 35 ∷ []) (replicate 35 0) 6 1 (1 ∷ 2 ∷ 0 ∷ 6 ∷ 6 ∷ 6 ∷ []) (2 ∷ 0 ∷ 1 ∷ 6 ∷ 6 ∷ 6 ∷ []) (tally 125 872 3))
+    -- k9
+    ∷ case 4 (edge 0 1 3 ∷ edge 1 0 3 ∷ edge 2 3 3 ∷ edge 3 2 3 ∷ []) (0 ∷ 1 ∷ 2 ∷ 3 ∷ [])
+    (made (4 ∷ 9 ∷ []) (0 ∷ 0 ∷ 0 ∷ 0 ∷ 0 ∷ 0 ∷ 0 ∷ 0 ∷ 0 ∷ 6 ∷ []) 12 2 (1 ∷ 0 ∷ 3 ∷ 2 ∷ []) (1 ∷ 0 ∷ 3 ∷ 2 ∷ []) (tally 24 162 2))
+    -- k10, with the identity and with shuffle 2 0 1
+    ∷ case 3 (edge 0 1 5 ∷ edge 1 0 5 ∷ edge 0 2 5 ∷ edge 2 0 5 ∷ []) (0 ∷ 1 ∷ 2 ∷ [])
+    (made (1 ∷ []) (0 ∷ 10 ∷ 10 ∷ 0 ∷ []) 10 1 (1 ∷ 0 ∷ 3 ∷ []) (1 ∷ 0 ∷ 3 ∷ []) (tally 5 32 1))
+    ∷ case 3 (edge 0 1 5 ∷ edge 1 0 5 ∷ edge 0 2 5 ∷ edge 2 0 5 ∷ []) (2 ∷ 0 ∷ 1 ∷ [])
+    (made (1 ∷ []) (0 ∷ 10 ∷ 0 ∷ 10 ∷ []) 10 1 (2 ∷ 3 ∷ 0 ∷ []) (2 ∷ 3 ∷ 0 ∷ []) (tally 5 32 1))
+    -- k11
+    ∷ case 2 k3edges (0 ∷ 0 ∷ []) (turned 8)
+    -- k12
+    ∷ case 2 (record { donor = 0; patient = 1; mark = 2; weight = 5 } ∷ edge 1 0 7 ∷ []) (0 ∷ 1 ∷ []) (turned 10)
+    ∷ []
+
+-- ## What is promised of them
+
+abbrev pub PoolsComeOut : Type 0
+PoolsComeOut = map found cases ≡ map (λ (c : Case). c .due) cases
+
+-- two faults at once: "planning checks 4, 9, 8, 10"
+abbrev pub twoFaults : List Case
+twoFaults =
+    case 2 k3edges (0 ∷ []) (turned 9)
+    ∷ case 2 (record { donor = 0; patient = 1; mark = 2; weight = 5 } ∷ []) (0 ∷ 0 ∷ []) (turned 8)
+    ∷ []
+
+abbrev pub FirstFaultTold : Type 0
+FirstFaultTold = map found twoFaults ≡ map (λ (c : Case). c .due) twoFaults
+
+-- k3 again, in tables longer than is due: "what lies past these, and past the last record, is unchanged"
+abbrev pub cycle : ℕ → ℕ → ℕ → Cycle
+cycle a b c = record { first = a; second = b; third = c }
+
+abbrev pub PastUnchanged : Type 0
+PastUnchanged =
+    planning 2 (tableOf (λ a. a .mark) 2 k3edges) (tableOf (λ a. a .weight) 2 k3edges) (0 ∷ 1 ∷ 99 ∷ [])
+    (lent (99 ∷ 99 ∷ []) (99 ∷ 99 ∷ []) (99 ∷ 99 ∷ 99 ∷ []) (99 ∷ 99 ∷ 99 ∷ []) (cycle 99 99 99 ∷ cycle 99 99 99 ∷ []))
+    ≡ outcome (finished (plan 12 1 (tally 1 6 1)))
+    (lent (12 ∷ 99 ∷ []) (0 ∷ 99 ∷ []) (1 ∷ 0 ∷ 99 ∷ []) (1 ∷ 0 ∷ 99 ∷ []) (cycle 0 1 2 ∷ cycle 99 99 99 ∷ []))
+
+-- "weight 6 against a rival 18": it is a rival set, and weighs 18
+pub record RivalOfK8 : Type 0 where
+  pub set : ExchangeSet 3 6 (entry (tableOf (λ a. a .mark) 6 k8edges) 6) k8rival
+  pub weight : total (entry (tableOf (λ a. a .mark) 6 k8edges) 6) (entry (tableOf (λ a. a .weight) 6 k8edges) 6) k8rival ≡ 18

@@ -1,0 +1,136 @@
+-- What is promised of every plan made, as statements: the proofs are in `proofs/`, and the contract of planning carries `Guarantee`.
+-- Assumes nothing.
+use Prim.Native.Nat.{ℕ, zero, suc, _+_, _-_, _*_, _≤_, _<_}
+use mathlib.Core.Path.{_≡_}
+use mathlib.Core.Bool.{true, false}
+use mathlib.Core.Logic.{_↔_}
+use mathlib.Core.List.{List, [], _∷_, map}
+use lib.Dec.{eqb}
+use lib.ListN.{length, getD, take}
+use Rattle.laws.specs.Below.{anyBelow, one, Once}
+use Rattle.refusal.specs.Answer.{finished, refused, Outcome}
+use Rattle.greedy.specs.Places.{among, meets}
+use Rattle.greedy.specs.Tally.{Tally, tally}
+use Rattle.exchange.specs.Subsets.{subsets, subsetCount, entry, subsetWeight, pairsAt}
+use Rattle.exchange.specs.Resolution.{pairsOf, total}
+use Rattle.exchange.specs.Planning.{Lent, Plan, roundCount, planning}
+use Rattle.exchange.specs.Algorithm1 as Algorithm1
+use Rattle.exchange.specs.Faultless.{FaultlessInput, PlanFault}
+use Rattle.exchange.specs.Rivals.{ExchangeSet, credited}
+
+-- ## The planned cycles
+
+-- "the first records, as many as the result's number of cycles"
+unfoldable pub planned : ℕ → Plan → Lent → List (List ℕ)
+planned n p t = map (pairsOf n) (take (p .cycles) (t .records))
+
+-- ## The tally's closed form, in the words of demand 3
+
+-- how many of the subsets have k places
+unfoldable pub howMany : ℕ → List (List ℕ) → ℕ
+howMany k [] = 0
+howMany k (s ∷ ss) = one (eqb (length s) k) + howMany k ss
+
+-- "T is the number of triples, P that of twos"
+abbrev pub tripleCount : ℕ → ℕ
+tripleCount n = howMany 3 (subsets 3 n)
+
+abbrev pub twoCount : ℕ → ℕ
+twoCount n = howMany 2 (subsets 3 n)
+
+-- "products = 2P + 7T + R × (5n − 1) + (R − 1) × (2P + 3T) where R is at least 1, and 0 where R is 0"
+unfoldable pub productsDue : ℕ → ℕ → ℕ → ℕ
+productsDue T P zero = 0
+productsDue T P (suc r) = 2 * P + 7 * T + suc r * (5 * (T + P) - 1) + r * (2 * P + 3 * T)
+
+-- "comparisons = T + R × n; rounds = R"
+unfoldable pub tallyDue : ℕ → ℕ → ℕ → Tally
+tallyDue T P R = tally (T + R * (T + P)) (productsDue T P R) R
+
+-- "With N pairs, T triples and P twos to be formed from them": counted in the published order, and as binomials
+pub record TallyOf (n : ℕ) (t : Tally) : Type 0 where
+  pub sums : t ≡ tallyDue (tripleCount n) (twoCount n) (roundCount n)
+  pub triples : 6 * tripleCount n ≡ n * (n - 1) * (n - 2)
+  pub twos : 2 * twoCount n ≡ n * (n - 1)
+  pub all : subsetCount n ≡ tripleCount n + twoCount n
+
+-- ## Donors and recipients
+
+-- the partners in cycles cs of n pairs
+pub record Consistent (n : ℕ) (cs : List (List ℕ)) (donors recipients : List ℕ) : Type 0 where
+  -- the two tables are each other's inverse
+  pub inverse : (i j : ℕ) → i < n → j < n → (getD recipients i 0 ≡ j) ↔ (getD donors j 0 ≡ i)
+  -- a pair has a donor if and only if it has a recipient; then it is in exactly one cycle, and else in none
+  pub both : (i : ℕ) → i < n → (getD recipients i 0 < n) ↔ (getD donors i 0 < n)
+  pub inOne : (i : ℕ) → i < n → getD recipients i 0 < n → Once (length cs) (λ k. one (among i (getD cs k []))) 1
+  pub inNone : (i k : ℕ) → i < n → getD recipients i 0 ≡ n → one (among i (getD cs k [])) ≡ 0
+  pub known : (i : ℕ) → i < n → getD recipients i 0 ≤ n
+
+-- ## The guarantee, for a plan p that was made and what it left in the lent tables
+
+pub record Guarantee (n : ℕ) (M W s : List ℕ) (p : Plan) (t : Lent) : Type 0 where
+  -- "all planned cycles are executable, no pair is in two of them"
+  pub exchanges : ExchangeSet 3 n (entry M n) (planned n p t)
+  -- "The plan's weight is the sum of their weights"
+  pub weight : p .weight ≡ total (entry M n) (entry W n) (planned n p t)
+  -- "three times the plan's weight is at least the weight of every other set of executable 2- and 3-cycles sharing no pair"
+  pub factor : (cs : List (List ℕ)) → ExchangeSet 3 n (entry M n) cs → total (entry M n) (entry W n) cs ≤ 3 * p .weight
+  -- and so is the sum of each planned cycle's weight times its number of pairs, which is no more than that
+  pub credit : (cs : List (List ℕ)) → ExchangeSet 3 n (entry M n) cs → total (entry M n) (entry W n) cs ≤ credited (entry M n) (entry W n) (planned n p t)
+  pub credit-most : credited (entry M n) (entry W n) (planned n p t) ≤ 3 * p .weight
+  -- "every such tally is"
+  pub tally : TallyOf n (p .tally)
+  -- "The plan equals that of Algorithm 1, in each pair's donor and recipient", and in its cycles
+  pub cycles : planned n p t ≡ map (pairsAt s) (Algorithm1.chosenCycles 0 3 n (entry M n) (entry W n) s)
+  pub donors : take n (t .donors) ≡ Algorithm1.donors n s (Algorithm1.chosenCycles 0 3 n (entry M n) (entry W n) s)
+  pub recipients : take n (t .recipients) ≡ Algorithm1.recipients n s (Algorithm1.chosenCycles 0 3 n (entry M n) (entry W n) s)
+  pub consistent : Consistent n (planned n p t) (t .donors) (t .recipients)
+  -- no subset is left that weighs more than 0 and meets no choice
+  pub met :
+      (i : ℕ)
+      → 0 < subsetWeight (entry M n) (entry W n) s (getD (subsets 3 n) i [])
+      → anyBelow (roundCount n) (λ k. meets (getD (subsets 3 n) i []) (getD (subsets 3 n) (getD (t .choices) k 0) [])) ≡ true
+
+-- ## Every answer: a plan for every input with none of the faults, and for no other; else a refusal, and all lent memory unchanged
+
+pub record Answered (n : ℕ) (M W s : List ℕ) (t : Lent) (o : Outcome Plan Lent) : Type 0 where
+  pub accepts : FaultlessInput n M W s t → (p : Plan) × (o .answer ≡ finished p)
+  pub accepted : (p : Plan) → o .answer ≡ finished p → FaultlessInput n M W s t
+  pub refuses : (k place : ℕ) → o .answer ≡ refused k place → (place ≡ 0) × PlanFault n M W s t k × (o .lent ≡ t)
+
+abbrev pub AnswersRightly : Type 0
+AnswersRightly = (n : ℕ) (M W s : List ℕ) (t : Lent) → Answered n M W s t (planning n M W s t)
+
+-- ## No lent table grows or shrinks, whatever the answer
+
+pub record SameLengths (t u : Lent) : Type 0 where
+  pub weights : length (u .weights) ≡ length (t .weights)
+  pub choices : length (u .choices) ≡ length (t .choices)
+  pub donors : length (u .donors) ≡ length (t .donors)
+  pub recipients : length (u .recipients) ≡ length (t .recipients)
+  pub records : length (u .records) ≡ length (t .records)
+
+abbrev pub LengthsStay : Type 0
+LengthsStay = (n : ℕ) (M W s : List ℕ) (t : Lent) → SameLengths t (planning n M W s t .lent)
+
+-- ## Demands 2 and 3, for every plan made
+
+abbrev pub Guaranteed : Type 0
+Guaranteed =
+    (n : ℕ) (M W s : List ℕ) (t : Lent) (p : Plan)
+    → planning n M W s t .answer ≡ finished p
+    → Guarantee n M W s p (planning n M W s t .lent)
+
+-- "if they have equally many pairs and both plans are made, then both plans carry the same tally"
+abbrev pub SameTally : Type 0
+SameTally =
+    (n : ℕ) (M W s : List ℕ) (t : Lent) (p : Plan) (M′ W′ s′ : List ℕ) (t′ : Lent) (p′ : Plan)
+    → planning n M W s t .answer ≡ finished p
+    → planning n M′ W′ s′ t′ .answer ≡ finished p′
+    → p .tally ≡ p′ .tally
+
+-- Algorithm 1's loop has ended: nothing above the floor is left, whatever the graph
+abbrev pub LoopEnds : Type 0
+LoopEnds =
+    (f l n : ℕ) (m w : ℕ → ℕ → ℕ) (s : List ℕ)
+    → Algorithm1.someAbove f (Algorithm1.subsetWeight s m w) (Algorithm1.looped f l n m w s .rest) ≡ false

@@ -1,0 +1,45 @@
+-- Rival sets, in the words of document 01's 'Resolution'. Assumes nothing.
+use Prim.Native.Nat.{ℕ, _+_, _*_, _≤_, _<_}
+use mathlib.Core.Path.{_≡_}
+use mathlib.Core.Bool.{false}
+use mathlib.Core.List.{List, [], _∷_}
+use lib.ListN.{length}
+use Rattle.greedy.specs.Places.{among, meets}
+use Rattle.exchange.specs.Subsets.{Edge, edges, weigh}
+
+-- every one of a list
+abbrev pub Each : {A : Type 0} → (A → Type 0) → List A → Type 0
+Each P [] = Unit {0}
+Each P (x ∷ xs) = P x × Each P xs
+
+-- "different": none stands again after it
+abbrev pub Different : List ℕ → Type 0
+Different [] = Unit {0}
+Different (p ∷ c) = (among p c ≡ false) × Different c
+
+-- "A cycle is executable where all its M entries are 1"
+abbrev pub Executable : (ℕ → ℕ → ℕ) → List ℕ → Type 0
+Executable m c = Each (λ (e : Edge). m (e .donor) (e .patient) ≡ 1) (edges c)
+
+-- "executable cycles of two or three different pairs of the pool": of n pairs, with l for three
+pub record Exchange (l n : ℕ) (m : ℕ → ℕ → ℕ) (c : List ℕ) : Type 0 where
+  pub least : 2 ≤ length c
+  pub most : length c ≤ l
+  pub pool : Each (λ (p : ℕ). p < n) c
+  pub different : Different c
+  pub executable : Executable m c
+
+-- "no pair in two of them": none shares a pair with one after it
+abbrev pub Apart : List (List ℕ) → Type 0
+Apart [] = Unit {0}
+Apart (c ∷ cs) = Each (λ (d : List ℕ). meets c d ≡ false) cs × Apart cs
+
+-- "any set of executable cycles of two or three different pairs of the pool, the empty set too, with no pair in two of its cycles"
+pub record ExchangeSet (l n : ℕ) (m : ℕ → ℕ → ℕ) (cs : List (List ℕ)) : Type 0 where
+  pub exchanges : Each (Exchange l n m) cs
+  pub apart : Apart cs
+
+-- the sum of each cycle's weight times its number of pairs
+unfoldable pub credited : (ℕ → ℕ → ℕ) → (ℕ → ℕ → ℕ) → List (List ℕ) → ℕ
+credited m w [] = 0
+credited m w (c ∷ cs) = weigh m w c * length c + credited m w cs

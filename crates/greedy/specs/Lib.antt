@@ -1,0 +1,5 @@
+-- Document 01's 'Rounds' and 'Tally', over any list of subsets. Believe `Places`, `Tally` and `Rounds`; `Promises` has the statements.
+pub mod Places
+pub mod Tally
+pub mod Rounds
+pub mod Promises

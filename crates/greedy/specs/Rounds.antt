@@ -1,0 +1,83 @@
+-- "Rounds", over any list of subsets `ss` whose weights stand in a table of their own; f is the floor, 0 in document 01. Assumes nothing.
+use Prim.Native.Nat.{ℕ, zero, suc, _+_, _/_}
+use mathlib.Core.Bool.{cond}
+use mathlib.Core.List.{List, [], _∷_}
+use lib.Dec.{ltb}
+use lib.ListN.{length, getD, take, drop}
+use Rattle.greedy.specs.Places.{meets}
+use Rattle.greedy.specs.Tally.{Tally, raise, nextRound}
+
+-- ## Choosing: "the lowest-numbered subset of greatest weight", by halves
+
+-- the winner of a part of the weights, and the tally after it
+pub record Winner : Type 0 where
+  pub weight : ℕ
+  pub number : ℕ
+  pub tally : Tally
+
+abbrev pub winner : ℕ → ℕ → Tally → Winner
+winner x i t = record { weight = x; number = i; tally = t }
+
+-- "then joins the winners; the left wins a tie": one comparison and five products per join
+unfoldable pub join : Winner → Winner → Winner
+join a b =
+    winner (cond (ltb (a .weight) (b .weight)) (b .weight) (a .weight)) (cond (ltb (a .weight) (b .weight)) (b .number) (a .number))
+    (raise 1 5 (b .tally))
+
+-- "halves the part of the table under study until one subset is left": the part whose first number is i. It is halved less often than it
+-- has weights, and the first argument, from which the recursion goes down, is at least their number
+unfoldable pub byHalves : ℕ → ℕ → List ℕ → Tally → Winner
+byHalves zero i ws t = winner 0 i t
+byHalves (suc k) i [] t = winner 0 i t
+byHalves (suc k) i (x ∷ []) t = winner x i t
+byHalves (suc k) i (x ∷ y ∷ ws) t =
+    let half : ℕ = length (x ∷ y ∷ ws) / 2 in
+    let left : Winner = byHalves k i (take half (x ∷ y ∷ ws)) t in
+    let right : Winner = byHalves k (i + half) (drop half (x ∷ y ∷ ws)) (left .tally) in
+    join left right
+
+-- a choice, and the tally after it
+pub record Chosen : Type 0 where
+  pub number : ℕ
+  pub tally : Tally
+
+-- "if that weight is 0 the choice is n, meaning none"; "the final test against 0": one comparison and four products
+unfoldable pub choosing : ℕ → List (List ℕ) → List ℕ → Tally → Chosen
+choosing f ss ws t =
+    let best : Winner = byHalves (length ws) 0 ws t in
+    record { number = cond (ltb f (best .weight)) (best .number) (length ss); tally = raise 1 4 (best .tally) }
+
+-- ## Clearing
+
+-- "every subset sharing a place with the choice gets weight 0"
+unfoldable pub clear : List ℕ → List (List ℕ) → List ℕ → List ℕ
+clear c [] ws = ws
+clear c (s ∷ ss) [] = []
+clear c (s ∷ ss) (x ∷ ws) = cond (meets s c) 0 x ∷ clear c ss ws
+
+-- "in clearing 2 per two, 3 per triple": a product for each place of each subset
+unfoldable pub clearing : List (List ℕ) → Tally → Tally
+clearing [] t = t
+clearing (s ∷ ss) t = clearing ss (raise 0 (length s) t)
+
+-- ## The rounds
+
+-- what rounds leave: the weights, the choices, the tally
+pub record Left : Type 0 where
+  pub weights : List ℕ
+  pub choices : List ℕ
+  pub tally : Tally
+
+abbrev pub left : List ℕ → List ℕ → Tally → Left
+left ws cs t = record { weights = ws; choices = cs; tally = t }
+
+-- r rounds, "always all of them. After each round but the last, every subset sharing a place with the choice gets weight 0"
+unfoldable pub rounds : ℕ → ℕ → List (List ℕ) → List ℕ → Tally → Left
+rounds f zero ss ws t = left ws [] t
+rounds f (suc zero) ss ws t =
+    let c : Chosen = choosing f ss ws (nextRound t) in
+    left ws (c .number ∷ []) (c .tally)
+rounds f (suc (suc r)) ss ws t =
+    let c : Chosen = choosing f ss ws (nextRound t) in
+    let rest : Left = rounds f (suc r) ss (clear (getD ss (c .number) []) ss ws) (clearing ss (c .tally)) in
+    left (rest .weights) (c .number ∷ rest .choices) (rest .tally)
