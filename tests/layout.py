@@ -2,19 +2,10 @@
 import pathlib
 import re
 import subprocess
-import sys
+
+from closing import check, close
 
 top = pathlib.Path(__file__).resolve().parent.parent
-passed, faults = 0, []
-
-
-def check(ok, what):
-    global passed
-    if ok:
-        passed += 1
-    else:
-        faults.append(what)
-
 
 layout = subprocess.run(['rt', 'fmt', '--check'], cwd=top, capture_output=True, text=True)
 check(layout.returncode == 0, 'run `rt fmt`: ' + (layout.stdout + layout.stderr).strip())
@@ -25,11 +16,8 @@ paths = re.compile(r'(?<![\w.])/(?:home|root|work|tmp|opt|usr)/')
 for name in tracked:
     file = top / name
     if file.is_file() and name != 'tests/layout.py':
-        text = file.read_bytes().decode('utf-8', 'replace')
+        text = re.sub(r'^#!.*', '', file.read_bytes().decode('utf-8', 'replace'))
         found = paths.search(text)
         check(not found, f'{name} names a path of a machine: {found and found.group(0)}')
 
-for fault in faults:
-    print(fault)
-print(f'{passed} passed, {len(faults)} failed')
-sys.exit(1 if faults else 0)
+close()

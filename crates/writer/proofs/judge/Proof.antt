@@ -1,5 +1,6 @@
 -- `writer::judge` meets its contract: what is found first is the first fault there is. Assumes nothing.
 use mathlib.Core.Path.{_≡_}
+use native.Mathlib.Omega.{arith}
 use borrow.Author.Needs.{needs}
 use Rattle.pool.specs.Tables.{Tables, fields, tables, fieldRoom, room}
 use Rattle.writer.proofs.Judged.{shortest-room, room-spaced, judged-pairs, judged-held, judged-shuffle}
@@ -38,7 +39,7 @@ shuffle-requires : tie.Need-shuffle-requires
 shuffle-requires c κs =
     let p = c .before .before in
     let s = start (p .before) in
-    judged-held (s .args .n) (given s) _ (shortest (p .before)) (p .pairs .result) (p .pairs .ensures _ _ _) (c .enum-told .given .1)
+    omega (arith, judged-held (s .args .n) (given s) _ (shortest (p .before)) (p .pairs .result) (p .pairs .ensures _ _ _) (c .enum-told .given .1))
 
 returns : tie.Need-returns
 returns c =

@@ -50,7 +50,7 @@ returns-2 c =
     let s = start j in
     let e =
     answered-short (s .args .n) (given s) (s .args .out .now) (j .judge .result) (j .judge .ensures) (d .enum-told .given .1)
-    (l .sheet-length .result) (l .sheet-length .ensures) (c .if1 .taken) in
+    (l .sheet-length .result) (l .sheet-length .ensures) (omega (arith, l .sheet-length .ensures, c .if1 .taken)) in
     (e, answered-rightly (s .args .n) (given s) (s .args .out .now) _ _ e)
 
 put-sheet-requires : tie.Need-put-sheet-requires
@@ -71,7 +71,7 @@ returns-3 c =
     let s = start j in
     let e =
     answered-written (s .args .n) (given s) (s .args .out .now) (j .judge .result) (j .judge .ensures) (d .enum-told .given .1)
-    (l .sheet-length .result) (l .sheet-length .ensures) _ (i .if1 .left) (w .put-sheet .ensures) in
+    (l .sheet-length .result) (l .sheet-length .ensures) _ (omega (arith, i .if1 .left)) (w .put-sheet .ensures) in
     (e, answered-rightly (s .args .n) (given s) (s .args .out .now) _ _ e)
 
 pub write-spec : {M : Type 1} → statement M
