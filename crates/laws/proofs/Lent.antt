@@ -112,18 +112,18 @@ stored-then at k l m old mid new g h e f =
 
 -- ## A loop that writes pieces of m elements in a row, from `at` on: out is `old` with i of them in it, and as long
 
-pub record Writing {A : Type 0} (at i : ℕ) (g : A → List ℕ) (f : ℕ → A) (old out : List ℕ) : Type 0 where
+pub record Pieces {A : Type 0} (at i : ℕ) (g : A → List ℕ) (f : ℕ → A) (old out : List ℕ) : Type 0 where
   pub holds : out ≡ stored at (flatMap g (table i f)) old
   pub kept : length out ≡ length old
 
 module _ {A : Type 0} (at : ℕ) (g : A → List ℕ) (f : ℕ → A) (old : List ℕ) where
-  pub writing-none : Writing at 0 g f old old
+  pub pieces-none : Pieces at 0 g f old old
   unfolding table flatMap
-  writing-none = record { holds = sym (stored-none at old); kept = refl }
+  pieces-none = record { holds = sym (stored-none at old); kept = refl }
 
-  pub writing-more : (m i : ℕ) (mid new : List ℕ) → ((a : A) → length (g a) ≡ m) → at + m * i ≤ length old → Writing at i g f old mid
-      → new ≡ stored (at + m * i) (g (f i)) mid → length new ≡ length mid → Writing at (i + 1) g f old new
-  writing-more m i mid new h l w e k =
+  pub pieces-more : (m i : ℕ) (mid new : List ℕ) → ((a : A) → length (g a) ≡ m) → at + m * i ≤ length old → Pieces at i g f old mid
+      → new ≡ stored (at + m * i) (g (f i)) mid → length new ≡ length mid → Pieces at (i + 1) g f old new
+  pieces-more m i mid new h l w e k =
       record {
         holds =
             stored-then at (m * i) (flatMap g (table i f)) (g (f i)) old mid new (length-flatMap-table g m h i f) l (w .holds) e
@@ -131,5 +131,5 @@ module _ {A : Type 0} (at : ℕ) (g : A → List ℕ) (f : ℕ → A) (old : Lis
         kept = k ∙ w .kept;
       }
 
-  pub writing-all : (i n : ℕ) (out : List ℕ) → Writing at i g f old out → i ≡ n → out ≡ stored at (flatMap g (table n f)) old
-  writing-all i n out w e = w .holds ∙ ap (λ (k : ℕ). stored at (flatMap g (table k f)) old) e
+  pub pieces-all : (i n : ℕ) (out : List ℕ) → Pieces at i g f old out → i ≡ n → out ≡ stored at (flatMap g (table n f)) old
+  pieces-all i n out w e = w .holds ∙ ap (λ (k : ℕ). stored at (flatMap g (table k f)) old) e

@@ -5,18 +5,18 @@ use borrow.Author.Needs.{needs}
 use lib.ListN.{getD}
 use Rattle.laws.specs.Digits.{bytes}
 use Rattle.laws.proofs.Digits.{length-bytes}
-use Rattle.laws.proofs.Lent.{Writing, writing-none, writing-more, writing-all}
+use Rattle.laws.proofs.Lent.{Pieces, pieces-none, pieces-more, pieces-all}
 use Rattle.writer.proofs.put_numbers.Statement.{statement}
 use Rattle.writer.proofs.put_numbers.Tie as tie
 
 abbrev Inv-loop : tie.InvT-loop
-Inv-loop out₀ at n shuffle j₀ out j = (j ≤ n) × Writing at j (bytes 2) (λ k. getD shuffle k 0) out₀ out
+Inv-loop out₀ at n shuffle j₀ out j = (j ≤ n) × Pieces at j (bytes 2) (λ k. getD shuffle k 0) out₀ out
 
 abbrev μ-loop : tie.MeasureT-loop
 μ-loop out₀ at n shuffle j₀ out j = n - j
 
 loop-holds : tie.Need-loop-holds Inv-loop μ-loop
-loop-holds c = (omega arith, writing-none _ (bytes 2) _ _)
+loop-holds c = (omega arith, pieces-none _ (bytes 2) _ _)
 
 mul-put : tie.Need-mul-put Inv-loop μ-loop
 mul-put c = search needs
@@ -49,7 +49,7 @@ loop-again c =
     let l = turn .before .loop in
     let s = turn .before .before .before .before in (
       omega (arith, turn .loop-test .taken),
-      writing-more (s .args .at) (bytes 2) (λ k. getD (s .args .shuffle .now) k 0) (s .args .out .now) 2 (l .j) (l .out) _ (length-bytes 2)
+      pieces-more (s .args .at) (bytes 2) (λ k. getD (s .args .shuffle .now) k 0) (s .args .out .now) 2 (l .j) (l .out) _ (length-bytes 2)
           (omega arith) (l .inv .1) (after .put .ensures) (after .put .kept .0),
     )
 
@@ -60,7 +60,7 @@ returns : tie.Need-returns Inv-loop μ-loop
 returns c =
     let l = c .before .loop in
     let s = c .before .before .before .before in
-    writing-all (s .args .at) (bytes 2) (λ k. getD (s .args .shuffle .now) k 0) (s .args .out .now) (l .j) (s .args .n) (l .out) (l .inv .1)
+    pieces-all (s .args .at) (bytes 2) (λ k. getD (s .args .shuffle .now) k 0) (s .args .out .now) (l .j) (s .args .n) (l .out) (l .inv .1)
     (omega arith)
 
 pub put-numbers-spec : {M : Type 1} → statement M

@@ -3,7 +3,7 @@ use Prim.Native.Nat.{_-_, _*_, _+_, _≤_}
 use native.Mathlib.Omega.{arith}
 use borrow.Author.Needs.{needs}
 use lib.ListN.{length}
-use Rattle.laws.proofs.Lent.{Writing, writing-none, writing-more, writing-all}
+use Rattle.laws.proofs.Lent.{Pieces, pieces-none, pieces-more, pieces-all}
 use Rattle.pool.specs.Sheet.{pairField}
 use Rattle.pool.specs.Tables.{Fields, fields, pairIn}
 use Rattle.pool.proofs.Lengths.{length-pairField}
@@ -13,7 +13,7 @@ use Rattle.writer.proofs.put_pairs.Tie as tie
 abbrev Inv-loop : tie.InvT-loop
 Inv-loop out₀ n ids donor-blood patient-blood donor-age patient-age donor-antigens patient-antigens patient-antibodies i₀ out i =
     (i ≤ n)
-    × Writing 7 i pairField
+    × Pieces 7 i pairField
     (pairIn (fields ids donor-blood patient-blood donor-age patient-age donor-antigens patient-antigens patient-antibodies)) out₀ out
 
 abbrev μ-loop : tie.MeasureT-loop
@@ -26,7 +26,7 @@ given s =
     (s .args .donor-antigens .now) (s .args .patient-antigens .now) (s .args .patient-antibodies .now)
 
 loop-holds : tie.Need-loop-holds Inv-loop μ-loop
-loop-holds c = (omega arith, writing-none 7 pairField _ _)
+loop-holds c = (omega arith, pieces-none 7 pairField _ _)
 
 mul-put-pair : tie.Need-mul-put-pair Inv-loop μ-loop
 mul-put-pair c = search needs
@@ -88,7 +88,7 @@ loop-again c =
     let s = turn .before .before .before .before .before .before .before .before .before .before .before in
     let fits : 7 + 35 * l .i ≤ length (s .args .out .now) = omega (arith, turn .loop-test .taken, s .pre .0) in (
       omega (arith, turn .loop-test .taken),
-      writing-more 7 pairField (pairIn (given s)) (s .args .out .now) 35 (l .i) (l .out) _ length-pairField fits (l .inv .1)
+      pieces-more 7 pairField (pairIn (given s)) (s .args .out .now) 35 (l .i) (l .out) _ length-pairField fits (l .inv .1)
           (after .put-pair .ensures) (after .put-pair .kept .0),
     )
 
@@ -99,7 +99,7 @@ returns : tie.Need-returns Inv-loop μ-loop
 returns c =
     let l = c .before .loop in
     let s = c .before .before .before .before .before .before .before .before .before .before .before in
-    writing-all 7 pairField (pairIn (given s)) (s .args .out .now) (l .i) (s .args .n) (l .out) (l .inv .1) (omega arith)
+    pieces-all 7 pairField (pairIn (given s)) (s .args .out .now) (l .i) (s .args .n) (l .out) (l .inv .1) (omega arith)
 
 pub put-pairs-spec : {M : Type 1} → statement M
 put-pairs-spec =
