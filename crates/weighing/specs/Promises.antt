@@ -1,0 +1,102 @@
+-- What is promised of building, as statements: the proofs are in `proofs/`, and the contract of `build` carries `BuildsRightly`. Assumes nothing.
+use Prim.Native.Nat.{ℕ, _+_, _*_, _≤_, _<_}
+use mathlib.Core.Path.{_≡_}
+use mathlib.Core.Bool.{Bool, true, _&&_, _||_}
+use mathlib.Core.Logic.{_↔_}
+use mathlib.Core.List.{List}
+use lib.Dec.{eqb}
+use lib.ListN.{length, getD}
+use Rattle.refusal.specs.Answer.{Answer, finished, refused}
+use Rattle.pool.specs.Pool.{Pair}
+use Rattle.pool.specs.Tables.{Fields, pairIn}
+use Rattle.pool.specs.Faultless.{InRange, Unlike, FieldsHold}
+use Rattle.weighing.specs.Compatibility.{suits, entries, has, compatibility}
+use Rattle.weighing.specs.Weight.{documentPoints, weight}
+use Rattle.weighing.specs.Building.{Graph}
+
+-- ## What has none of the faults, and what each fault is, said without building
+
+-- a pool in the first n entries of the tables of the fields
+pub record FaultlessFields (n : ℕ) (f : Fields) : Type 0 where
+  pub few : n ≤ 200
+  pub hold : FieldsHold n f
+  pub inRange : (i : ℕ) → i < n → InRange (pairIn f i)
+  pub unlike : Unlike n (pairIn f)
+
+-- n rows of n fit both tables
+pub record Fit (n : ℕ) (g : Graph) : Type 0 where
+  pub compatibilities : n * n ≤ length (g .compatibilities)
+  pub weights : n * n ≤ length (g .weights)
+
+-- fault k of building
+pub data BuildFault (n : ℕ) (f : Fields) (g : Graph) : ℕ → Type 0 where
+  tooManyPairs : 200 < n → BuildFault n f g 4
+  fieldsTooShort : (FieldsHold n f → ⊥) → BuildFault n f g 9
+  outOfRange : (i : ℕ) → i < n → (InRange (pairIn f i) → ⊥) → BuildFault n f g 6
+  repeatedId : (i j : ℕ) → j < i → i < n → pairIn f j .id ≡ pairIn f i .id → BuildFault n f g 7
+  tablesTooShort : (Fit n g → ⊥) → BuildFault n f g 9
+
+-- ## What is built
+
+-- the entry of row i and column j
+abbrev pub entryAt : List ℕ → ℕ → ℕ → ℕ → ℕ
+entryAt t n i j = getD t (i * n + j) 0
+
+-- row i holds donor i, column j patient j
+pub record Entries (n : ℕ) (f : Fields) (g : Graph) : Type 0 where
+  pub compatibilities : (i j : ℕ) → i < n → j < n → entryAt (g .compatibilities) n i j ≡ compatibility (pairIn f) i j
+  pub weights : (i j : ℕ) → i < n → j < n → entryAt (g .weights) n i j ≡ weight documentPoints (pairIn f) i j
+
+-- what can be planned: M is 0 or 1, a pair's own M and W are 0, and every other W is 1,000 to 1,450, so that no present edge is weightless
+pub record Plannable (n : ℕ) (g : Graph) : Type 0 where
+  pub zeroOrOne : (i j : ℕ) → i < n → j < n → entryAt (g .compatibilities) n i j ≤ 1
+  pub ownCompatibility : (i : ℕ) → i < n → entryAt (g .compatibilities) n i i ≡ 0
+  pub ownWeight : (i : ℕ) → i < n → entryAt (g .weights) n i i ≡ 0
+  pub least : (i j : ℕ) → i < n → j < n → (i ≡ j → ⊥) → 1000 ≤ entryAt (g .weights) n i j
+  pub most : (i j : ℕ) → i < n → j < n → (i ≡ j → ⊥) → entryAt (g .weights) n i j ≤ 1450
+  pub noneWeightless : (i j : ℕ) → i < n → j < n → entryAt (g .compatibilities) n i j ≡ 1 → 0 < entryAt (g .weights) n i j
+
+-- "Every .. pool with none of the listed faults is accepted", and no other; a refusal names a fault that is there, with place 0; what is built has
+-- document 01's entries and can be planned
+pub record BuildsRightly (n : ℕ) (f : Fields) (old : Graph) (a : Answer (Unit {0})) (new : Graph) : Type 0 where
+  pub accepts : FaultlessFields n f → Fit n old → a ≡ finished tt
+  pub accepted : a ≡ finished tt → FaultlessFields n f × Fit n old
+  pub refuses : (k o : ℕ) → a ≡ refused k o → (o ≡ 0) × BuildFault n f old k
+  pub built : a ≡ finished tt → Entries n f new
+  pub plannable : a ≡ finished tt → Plannable n new
+
+-- ## The rule in words
+
+abbrev pub O : ℕ
+O = 0
+
+abbrev pub A : ℕ
+A = 1
+
+abbrev pub B : ℕ
+B = 2
+
+abbrev pub AB : ℕ
+AB = 3
+
+-- "O suits all; A suits A and AB; B suits B and AB; AB suits AB"
+unfoldable pub suitsInWords : ℕ → ℕ → Bool
+suitsInWords donor patient =
+    eqb donor O
+    || eqb donor A && (eqb patient A || eqb patient AB)
+    || eqb donor B && (eqb patient B || eqb patient AB)
+    || eqb donor AB && eqb patient AB
+
+-- the table of four by four is that rule
+abbrev pub TableIsRule : Type 0
+TableIsRule = (donor patient : ℕ) → donor ≤ AB → patient ≤ AB → suits donor patient ≡ suitsInWords donor patient
+
+-- M(i, j) is 1 for two different pairs whose blood suits and where no entry of the laboratory's list is an antigen of donor i and an antibody of
+-- patient j, and for no others
+pub record Compatible (pair : ℕ → Pair) (i j : ℕ) : Type 0 where
+  pub different : i ≡ j → ⊥
+  pub blood : suits (pair i .donorBlood) (pair j .patientBlood) ≡ true
+  pub apart : (k : ℕ) → k < entries → has (pair i .donorAntigens) k ≡ true → has (pair j .patientAntibodies) k ≡ true → ⊥
+
+abbrev pub OneWhereCompatible : Type 0
+OneWhereCompatible = (pair : ℕ → Pair) (i j : ℕ) → (compatibility pair i j ≡ 1) ↔ Compatible pair i j
