@@ -1,0 +1,36 @@
+-- What choosing gives, as the definitions have it, and what it asks of its arguments. Assumes nothing.
+use Prim.Native.Nat.{ℕ, _+_, _*_, _≤_, _<_}
+use mathlib.Core.Path.{_≡_}
+use mathlib.Core.List.{List}
+use lib.ListN.{length}
+use Rattle.greedy.specs.Rounds as Rounds
+use Rattle.exchange.specs.Subsets.{subsets}
+use Rattle.gates.specs.Counts.{counted, Room}
+use Rattle.gates.specs.declared.Tally.{Tally}
+use Rattle.cursor.specs.Cursor.{placesAt}
+use Rattle.cursor.specs.declared.Places.{Places}
+use Rattle.choosing.specs.declared.Won.{Won}
+use Rattle.choosing.specs.declared.Chosen.{Chosen}
+
+-- the definitions' winner
+abbrev pub wonBy : Won → Rounds.Winner
+wonBy r = Rounds.winner (r .best .weight) (r .best .number) (counted (r .tally))
+
+-- the definitions' choice
+abbrev pub chosenBy : Chosen → Rounds.Chosen
+chosenBy r = record { number = r .number; tally = counted (r .tally) }
+
+-- a part of the weights, whose first number is `first`, where the cursor stands
+pub record Part (n : ℕ) (weights : List ℕ) (first : ℕ) (p : Places) (t : Tally) : Type 0 where
+  pub few : n ≤ 200
+  pub some : 0 < length weights
+  pub within : first + length weights ≤ length (subsets 3 n)
+  pub there : p ≡ placesAt n first
+  pub room : Room (length weights) (5 * length weights) t
+
+-- all weights, and there are some
+pub record Whole (n : ℕ) (weights : List ℕ) (t : Tally) : Type 0 where
+  pub few : n ≤ 200
+  pub some : 0 < length weights
+  pub whole : length weights ≡ length (subsets 3 n)
+  pub room : Room (length weights) (5 * length weights) t

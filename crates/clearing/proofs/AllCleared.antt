@@ -1,0 +1,150 @@
+-- All subsets after the choice, one after another. Assumes nothing.
+use Prim.Native.Nat.{ℕ, zero, suc, _+_, _*_, _^_, _≤_, _<_}
+use mathlib.Core.Bool.{Bool, true, false, cond}
+use mathlib.Core.List.{List, [], _∷_, _++_}
+use mathlib.Core.Path.{_≡_, refl, sym, ap, ap₂, _∙_}
+use native.Mathlib.Nat.{not-suc-le-zero, le-of-suc-le-suc}
+use native.Mathlib.Numerals.{add-one}
+use native.Mathlib.Omega.{arith}
+use lib.ListN.{length, getD, take, set}
+use lib.Seq.{take-suc, take-all, length-take-le}
+use Rattle.laws.specs.Below.{table}
+use Rattle.laws.proofs.Below.{table-getD, length-table}
+use Rattle.laws.proofs.Lent.{Filling, filling-none, filling-more, filling-all}
+use Rattle.laws.proofs.Whole.{filled-whole, filling-next}
+use Rattle.greedy.specs.Tally as Tallies
+use Rattle.greedy.specs.Tally.{raise}
+use Rattle.greedy.specs.Places.{meets}
+use Rattle.greedy.specs.Rounds.{clear, clearing}
+use Rattle.greedy.proofs.Tallied.{clear-length, clearing-append}
+use Rattle.exchange.specs.Subsets.{subsets}
+use Rattle.gates.specs.Counts.{counted, Room}
+use Rattle.gates.specs.declared.Tally.{Tally}
+use Rattle.cursor.specs.Cursor.{InRange, placesAt, subsetAt}
+use Rattle.cursor.specs.declared.Places.{Places}
+use Rattle.cursor.proofs.Order.{Subset, two, three, is-subset, in-range}
+use Rattle.cursor.proofs.Number.{count-le}
+use Rattle.cursor.proofs.Standing.{stands-at}
+use Rattle.clearing.specs.Clearing.{Clearing}
+
+-- ## The tally
+
+-- a subset of number k has at most three places
+size-le : {n : ℕ} {s : List ℕ} → Subset n s → length s ≤ 3
+size-le (two p q) = omega arith
+size-le (three p q r) = omega arith
+
+-- the first i subsets
+module _ (n : ℕ) (few : n ≤ 200) (t : Tallies.Tally) where
+  next-tally : (i : ℕ) → i < length (subsets 3 n) → clearing (take (suc i) (subsets 3 n)) t ≡ raise 0 (length (getD (subsets 3 n) i [])) (clearing (take i (subsets 3 n)) t)
+  unfolding clearing
+  next-tally i h =
+      ap (λ (ss : List (List ℕ)). clearing ss t) (take-suc (subsets 3 n) i [] h) ∙ clearing-append (take i (subsets 3 n)) (getD (subsets 3 n) i [] ∷ []) t
+
+  pub upto-le : (i : ℕ) → i ≤ length (subsets 3 n) → let u = clearing (take i (subsets 3 n)) t in (u .comparisons ≡ t .comparisons) × (u .products ≤ t .products + 3 * i) × (u .rounds ≡ t .rounds)
+  unfolding clearing raise
+  upto-le zero h = (refl, omega arith, refl)
+  upto-le (suc i) h =
+      let ih = upto-le i (omega arith) in
+      let e = next-tally i h in (
+        ap (λ (x : Tallies.Tally). x .comparisons) e ∙ omega (arith, ih .0),
+        omega (arith, ap (λ (x : Tallies.Tally). x .products) e, ih .1, size-le (is-subset n i few h)),
+        ap (λ (x : Tallies.Tally). x .rounds) e ∙ ih .2,
+      )
+
+  pub clearing-le : let u = clearing (subsets 3 n) t in (u .comparisons ≡ t .comparisons) × (u .products ≤ t .products + 3 * length (subsets 3 n)) × (u .rounds ≡ t .rounds)
+  clearing-le =
+      let e = take-all (length (subsets 3 n)) (subsets 3 n) (omega arith) in
+      rw e at (upto-le (length (subsets 3 n)) (omega arith))
+
+-- ## The weights
+
+-- the weight of number i after a choice c
+abbrev pub clearedAt : List ℕ → List (List ℕ) → List ℕ → ℕ → ℕ
+clearedAt c ss old i = cond (meets (getD ss i []) c) 0 (getD old i 0)
+
+clear-at : (c : List ℕ) (ss : List (List ℕ)) (old : List ℕ) (i : ℕ) → i < length ss → i < length old → clearedAt c ss old i ≡ getD (clear c ss old) i 0
+unfolding clear
+clear-at c [] old i h g = absurd (not-suc-le-zero h)
+clear-at c (s ∷ ss) [] i h g = absurd (not-suc-le-zero g)
+clear-at c (s ∷ ss) (x ∷ old) zero h g = refl
+clear-at c (s ∷ ss) (x ∷ old) (suc i) h g = clear-at c ss old i (le-of-suc-le-suc h) (le-of-suc-le-suc g)
+
+clear-all : (c : List ℕ) (ss : List (List ℕ)) (old : List ℕ) → length old ≡ length ss → table (length ss) (clearedAt c ss old) ≡ clear c ss old
+clear-all c ss old e =
+    table-getD 0 (clear c ss old) (length ss) (clearedAt c ss old) (clear-length c ss old ∙ e) (λ i h. clear-at c ss old i h (omega arith))
+
+cond-le : (b : Bool) (x : ℕ) → cond b 0 x ≤ x
+cond-le true x = omega arith
+cond-le false x = omega arith
+
+-- ## The loop of `clear`, before the subset of number i
+
+pub record Cleared (n : ℕ) (old : List ℕ) (choice : Places) (t : Tally) (weights : List ℕ) (p : Places) (u : Tally) (i : ℕ) : Type 0 where
+  pub upto : i ≤ length (subsets 3 n)
+  pub there : p ≡ placesAt n i
+  pub filling : Filling i (clearedAt (subsetAt n choice) (subsets 3 n) old) old weights
+  pub tally : counted u ≡ clearing (take i (subsets 3 n)) (counted t)
+
+module _ (n : ℕ) (old : List ℕ) (choice : Places) (t : Tally) (asked : Clearing n old t) where
+  f : ℕ → ℕ
+  f = clearedAt (subsetAt n choice) (subsets 3 n) old
+
+  pub begins : (p : Places) → p ≡ placesAt n 0 → Cleared n old choice t old p t 0
+  unfolding clearing
+  begins p e = record { upto = omega arith; there = e; filling = filling-none _ old; tally = refl }
+
+  module _ (weights : List ℕ) (p : Places) (u : Tally) (i : ℕ) (inv : Cleared n old choice t weights p u i) where
+    pub kept : length weights ≡ length old
+    kept = inv .filling .kept
+
+    pub ends : length weights ≤ i → (weights ≡ clear (subsetAt n choice) (subsets 3 n) old) × (counted u ≡ clearing (subsets 3 n) (counted t))
+    unfolding f
+    ends h =
+        let e : i ≡ length (subsets 3 n) = omega (arith, kept, asked .whole, inv .upto) in (
+          filling-all i (length (subsets 3 n)) f old weights (inv .filling) e
+              ∙ filled-whole (table (length (subsets 3 n)) f) old (omega (arith, length-table (length (subsets 3 n)) f, asked .whole))
+              ∙ clear-all (subsetAt n choice) (subsets 3 n) old (asked .whole),
+          inv .tally ∙ ap (λ (ss : List (List ℕ)). clearing ss (counted t)) (take-all i (subsets 3 n) (omega arith)),
+        )
+
+    module _ (h : i < length weights) where
+      pub below : i < length (subsets 3 n)
+      below = omega (arith, kept, asked .whole)
+
+      pub below-few : i < 1333333
+      below-few = omega (arith, below, count-le n (asked .few))
+
+      pub ranged : InRange n p
+      ranged = in-range n i (asked .few) below p (inv .there)
+
+      pub room : Room 0 3 u
+      room =
+          let le = upto-le n (asked .few) (counted t) i (omega (arith, below)) in
+          record {
+            comparisons = omega (arith, ap (λ (x : Tallies.Tally). x .comparisons) (inv .tally), le .0, asked .room .comparisons);
+            products = omega (arith, ap (λ (x : Tallies.Tally). x .products) (inv .tally), le .1, asked .room .products);
+          }
+
+      subset-is : subsetAt n p ≡ getD (subsets 3 n) i []
+      subset-is = stands-at n i (asked .few) below p (inv .there)
+
+      module _ (x : ℕ) (ex : x ≡ cond (meets (subsetAt n p) (subsetAt n choice)) 0 (getD weights i 0)) where
+        pub fits : getD weights i 0 < 2 ^ 32 → x < 2 ^ 32
+        fits small = omega (arith, cond-le (meets (subsetAt n p) (subsetAt n choice)) (getD weights i 0))
+
+        pub again : (v : Tally) → counted v ≡ clearing (subsetAt n p ∷ []) (counted u) → (q : Places) → q ≡ placesAt n (i + 1)
+            → Cleared n old choice t (set weights i x) q v (i + 1)
+        unfolding f
+        again v ev q eq = record {
+          upto = omega (arith, below);
+          there = eq;
+          filling = filling-more i f old weights x (inv .filling)
+              (ex ∙ ap₂ (λ (s : List ℕ) (y : ℕ). cond (meets s (subsetAt n choice)) 0 y) subset-is (filling-next i f old weights (inv .filling)))
+              (omega (arith, kept));
+          tally = ev
+              ∙ ap (λ (c : List ℕ). clearing (c ∷ []) (counted u)) subset-is
+              ∙ ap (clearing (getD (subsets 3 n) i [] ∷ [])) (inv .tally)
+              ∙ sym (clearing-append (take i (subsets 3 n)) (getD (subsets 3 n) i [] ∷ []) (counted t))
+              ∙ ap (λ (ss : List (List ℕ)). clearing ss (counted t)) (sym (take-suc (subsets 3 n) i [] below) ∙ ap (λ (k : ℕ). take k (subsets 3 n)) (sym (add-one i)));
+        }

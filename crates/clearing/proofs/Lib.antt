@@ -1,0 +1,3 @@
+-- `Kept`: one subset after the choice. `AllCleared`: all of them.
+pub mod Kept
+pub mod AllCleared

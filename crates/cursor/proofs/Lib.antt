@@ -1,0 +1,4 @@
+-- `Order`: the cursor goes through the published order. `Standing`: what a cursor stands at. `Number`: how many subsets there are.
+pub mod Order
+pub mod Standing
+pub mod Number

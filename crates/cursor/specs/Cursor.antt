@@ -1,0 +1,35 @@
+-- A cursor over the published order: a subset's places by value. Assumes nothing.
+use Prim.Native.Nat.{ℕ, _≤_, _<_}
+use mathlib.Core.Bool.{cond}
+use mathlib.Core.List.{List, [], _∷_}
+use lib.Dec.{ltb}
+use lib.ListN.{getD}
+use Rattle.exchange.specs.Subsets.{subsets}
+use Rattle.cursor.specs.declared.Places.{Places}
+
+abbrev pub places : ℕ → ℕ → ℕ → Places
+places a b c = record { u = a; v = b; w = c }
+
+-- the cursor at a subset of n places: n where there is no place
+unfoldable pub placesOf : ℕ → List ℕ → Places
+placesOf n s = places (getD s 0 n) (getD s 1 n) (getD s 2 n)
+
+-- the cursor at the subset of number k; past the last, at none
+unfoldable pub placesAt : ℕ → ℕ → Places
+placesAt n k = placesOf n (getD (subsets 3 n) k [])
+
+-- those of a list that are below n
+unfoldable pub below : ℕ → List ℕ → List ℕ
+below n [] = []
+below n (p ∷ s) = cond (ltb p n) (p ∷ below n s) (below n s)
+
+-- the subset at which a cursor stands
+unfoldable pub subsetAt : ℕ → Places → List ℕ
+subsetAt n p = below n (p .u ∷ p .v ∷ p .w ∷ [])
+
+-- a cursor that stands at a subset of at most 200 places
+pub record InRange (n : ℕ) (p : Places) : Type 0 where
+  pub uv : p .u < p .v
+  pub vw : p .v < p .w
+  pub wn : p .w ≤ n
+  pub few : n ≤ 200

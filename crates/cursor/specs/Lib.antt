@@ -1,0 +1,2 @@
+-- A cursor over the published order.
+pub mod Cursor

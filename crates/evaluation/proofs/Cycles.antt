@@ -1,0 +1,110 @@
+-- The weight of a cycle. Assumes nothing.
+use Prim.Native.Nat.{ℕ, zero, suc, _+_, _*_, _^_, _≤_, _<_}
+use mathlib.Core.List.{List, [], _∷_}
+use mathlib.Core.Path.{_≡_, refl, sym, ap, _∙_}
+use native.Mathlib.Nat.{mul-le-mul-right, suc-mul}
+use native.Mathlib.Omega.{arith}
+use lib.ListN.{getD}
+use Rattle.exchange.specs.Subsets.{entry, weigh}
+use Rattle.exchange.proofs.Evaluated.{weigh-two, weigh-three}
+use Rattle.gates.proofs.Gates.{bit-times}
+use Rattle.evaluation.specs.Readable.{Readable, Pairs}
+
+-- ## An entry of a table of n rows of n
+
+pub row : (n i j : ℕ) → i < n → j < n → i * n + j < n * n
+row n i j h k = omega (arith, mul-le-mul-right n h, suc-mul i n)
+
+-- ## What its numbers are at most
+
+pub ones-le : (a b : ℕ) → a ≤ 1 → b ≤ 1 → a * b ≤ 1
+ones-le a b h k = omega (arith, bit-times a b h)
+
+module _ (n : ℕ) (M W : List ℕ) (typed : (i : ℕ) → getD W i 0 < 2 ^ 16) where
+  pub points-le : (i j : ℕ) → entry W n i j ≤ 65535
+  unfolding entry
+  points-le i j = omega (arith, typed (i * n + j))
+
+  module _ (a b c : ℕ) (asked : Pairs n M W a b c) where
+    ab : entry M n a b ≤ 1
+    ab = asked .readable .zeroOrOne a b (asked .first) (asked .second)
+
+    pub weigh-two-le : weigh (entry M n) (entry W n) (a ∷ b ∷ []) ≤ 131070
+    weigh-two-le =
+        let ba = asked .readable .zeroOrOne b a (asked .second) (asked .first) in
+        omega (
+          arith,
+          weigh-two (entry M n) (entry W n) a b,
+          bit-times _ (entry W n a b + entry W n b a) (ones-le _ _ ab ba),
+          points-le a b,
+          points-le b a,
+        )
+
+    pub weigh-three-le : weigh (entry M n) (entry W n) (a ∷ b ∷ c ∷ []) ≤ 196605
+    weigh-three-le =
+        let bc = asked .readable .zeroOrOne b c (asked .second) (asked .third) in
+        let ca = asked .readable .zeroOrOne c a (asked .third) (asked .first) in
+        omega (
+          arith,
+          weigh-three (entry M n) (entry W n) a b c,
+          bit-times _ (entry W n a b + entry W n b c + entry W n c a) (ones-le _ _ (ones-le _ _ ab bc) ca),
+          points-le a b,
+          points-le b c,
+          points-le c a,
+        )
+
+-- ## What `two` and `three` need, with what they have of the tables
+
+module _ (n : ℕ) (M W : List ℕ) (typed : (i : ℕ) → getD W i 0 < 2 ^ 16) (a b c : ℕ) (asked : Pairs n M W a b c) where
+  one-of : (i j : ℕ) → i < n → j < n → (x : ℕ) → x ≡ entry M n i j → x ≤ 1
+  one-of i j h k x e = omega (arith, asked .readable .zeroOrOne i j h k)
+
+  pub points-of : (i j x : ℕ) → x ≡ entry W n i j → x ≤ 65535
+  points-of i j x e = omega (arith, points-le n M W typed i j)
+
+  module _ (x y : ℕ) (ex : x ≡ entry M n a b) where
+    x-le : x ≤ 1
+    x-le = one-of a b (asked .first) (asked .second) x ex
+
+    -- a two
+    module _ (ey : y ≡ entry M n b a) where
+      both-le : x * y ≤ 1
+      both-le = ones-le x y x-le (one-of b a (asked .second) (asked .first) y ey)
+
+      pub two-fits : x * y < 2 ^ 64
+      two-fits = omega (arith, both-le)
+
+      module _ (p : ℕ) (ep : p ≡ x * y) (v w : ℕ) (ev : v ≡ entry W n a b) (ew : w ≡ entry W n b a) where
+        pub two-sum : v + w < 2 ^ 64
+        two-sum = omega (arith, points-of a b v ev, points-of b a w ew)
+
+        pub two-product : p * (v + w) < 2 ^ 64
+        two-product = omega (arith, bit-times p (v + w) (omega (arith, both-le)), points-of a b v ev, points-of b a w ew)
+
+        pub two-is : (r : ℕ) → r ≡ p * (v + w) → r ≡ weigh (entry M n) (entry W n) (a ∷ b ∷ [])
+        two-is r er = er ∙ (rw (ep, ex, ey, ev, ew) (sym (weigh-two (entry M n) (entry W n) a b)))
+
+    -- a triple
+    module _ (ey : y ≡ entry M n b c) where
+      ab-le : x * y ≤ 1
+      ab-le = ones-le x y x-le (one-of b c (asked .second) (asked .third) y ey)
+
+      pub three-fits : x * y < 2 ^ 64
+      three-fits = omega (arith, ab-le)
+
+      module _ (p : ℕ) (ep : p ≡ x * y) (z : ℕ) (ez : z ≡ entry M n c a) where
+        all-le : p * z ≤ 1
+        all-le = ones-le p z (omega (arith, ab-le)) (one-of c a (asked .third) (asked .first) z ez)
+
+        pub three-fits-all : p * z < 2 ^ 64
+        three-fits-all = omega (arith, all-le)
+
+        module _ (q : ℕ) (eq : q ≡ p * z) (u v w : ℕ) (eu : u ≡ entry W n a b) (ev : v ≡ entry W n b c) (ew : w ≡ entry W n c a) where
+          pub three-sum : u + v + w ≤ 196605
+          three-sum = omega (arith, points-of a b u eu, points-of b c v ev, points-of c a w ew)
+
+          pub three-product : q * (u + v + w) < 2 ^ 64
+          three-product = omega (arith, bit-times q (u + v + w) (omega (arith, all-le)), three-sum)
+
+          pub three-is : (r : ℕ) → r ≡ q * (u + v + w) → r ≡ weigh (entry M n) (entry W n) (a ∷ b ∷ c ∷ [])
+          three-is r er = er ∙ (rw (eq, ep, ex, ey, ez, eu, ev, ew) (sym (weigh-three (entry M n) (entry W n) a b c)))

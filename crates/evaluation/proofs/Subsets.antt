@@ -1,0 +1,117 @@
+-- The weight of a subset. Assumes nothing.
+use Prim.Native.Nat.{ℕ, zero, suc, _+_, _*_, _^_, _≤_, _<_}
+use mathlib.Core.Bool.{Bool, true, false, cond}
+use mathlib.Core.List.{List, [], _∷_, map}
+use mathlib.Core.Path.{_≡_, refl, sym, ap, subst, _∙_}
+use native.Mathlib.Omega.{arith}
+use borrow.Author.Tests.{eq-eqb, ne-eqb}
+use lib.Dec.{ltb, eqb}
+use lib.ListN.{length, getD}
+use Rattle.exchange.specs.Subsets.{entry, weigh, eachFirst, orders, cycles, firstOf, heaviest, pairsAt, bestCycle, subsetWeight, evaluating}
+use Rattle.laws.specs.Below.{one}
+use Rattle.greedy.specs.Tally.{Tally, raise}
+use Rattle.gates.proofs.Gates.{bit-le, pick-by}
+use Rattle.cursor.specs.Cursor.{InRange, placesOf, below, subsetAt}
+use Rattle.cursor.specs.declared.Places.{Places}
+use Rattle.cursor.proofs.Order.{Subset, two, three}
+use Rattle.cursor.proofs.Standing.{stands, range-two, range-triple}
+use Rattle.evaluation.specs.Readable.{Readable, Shuffled, Pairs}
+
+-- of two cycles the first, where the second does not weigh more
+pub heavier : (weight : List ℕ → ℕ) (x y : List ℕ) → heaviest weight (x ∷ y ∷ []) ≡ cond (ltb (weight x) (weight y)) y x
+unfolding heaviest firstOf
+heavier weight x y = refl
+
+pub heavier-weight : (weight : List ℕ → ℕ) (x y : List ℕ)
+    → weight (heaviest weight (x ∷ y ∷ [])) ≡ cond (ltb (weight x) (weight y)) (weight y) (weight x)
+heavier-weight weight x y = ap weight (heavier weight x y) ∙ by-case (ltb (weight x) (weight y))
+  where
+    by-case : (b : Bool) → weight (cond b y x) ≡ cond b (weight y) (weight x)
+    by-case true = refl
+    by-case false = refl
+
+pub heavier-le : (weight : List ℕ → ℕ) (x y : List ℕ) (k : ℕ) → weight x ≤ k → weight y ≤ k → weight (heaviest weight (x ∷ y ∷ [])) ≤ k
+heavier-le weight x y k p q = subst (λ (j : ℕ). j ≤ k) (sym (heavier-weight weight x y)) (by-case (ltb (weight x) (weight y)))
+  where
+    by-case : (b : Bool) → cond b (weight y) (weight x) ≤ k
+    by-case true = q
+    by-case false = p
+
+-- the cycle that a subset is weighed by, as pairs
+module _ (m w : ℕ → ℕ → ℕ) (s : List ℕ) where
+  pub paired-two : (u v : ℕ) → pairsAt s (bestCycle m w s (u ∷ v ∷ [])) ≡ getD s u 0 ∷ getD s v 0 ∷ []
+  unfolding bestCycle heaviest firstOf cycles orders eachFirst pairsAt
+  paired-two u v = refl
+
+  -- "a triple has u→v→w→u (first) and u→w→v→u (second)"
+  pub paired-triple : (u v x : ℕ)
+      → pairsAt s (bestCycle m w s (u ∷ v ∷ x ∷ []))
+      ≡ heaviest (weigh m w) ((getD s u 0 ∷ getD s v 0 ∷ getD s x 0 ∷ []) ∷ (getD s u 0 ∷ getD s x 0 ∷ getD s v 0 ∷ []) ∷ [])
+  unfolding bestCycle heaviest firstOf cycles orders eachFirst pairsAt
+  paired-triple u v x = by-case (ltb (weigh m w (getD s u 0 ∷ getD s v 0 ∷ getD s x 0 ∷ [])) (weigh m w (getD s u 0 ∷ getD s x 0 ∷ getD s v 0 ∷ [])))
+    where
+      by-case : (b : Bool)
+          → map (λ (p : ℕ). getD s p 0) (cond b (u ∷ x ∷ v ∷ []) (u ∷ v ∷ x ∷ []))
+          ≡ cond b (getD s u 0 ∷ getD s x 0 ∷ getD s v 0 ∷ []) (getD s u 0 ∷ getD s v 0 ∷ getD s x 0 ∷ [])
+      by-case true = refl
+      by-case false = refl
+
+-- ## What `weight_at` asks of the steps that it calls, and what it has of them
+
+module _ (n : ℕ) (M W s : List ℕ) (p : Places) (readable : Readable n M W) (shuffled : Shuffled n s) (range : InRange n p) where
+  pub asks-two : Pairs n M W (getD s (p .u) 0) (getD s (p .v) 0) (getD s (p .v) 0)
+  asks-two = record {
+    readable = readable;
+    first = shuffled .pairs (p .u) (omega (arith, range .uv, range .vw, range .wn));
+    second = shuffled .pairs (p .v) (omega (arith, range .vw, range .wn));
+    third = shuffled .pairs (p .v) (omega (arith, range .vw, range .wn));
+  }
+
+  pub is-two : p .w ≡ n → weigh (entry M n) (entry W n) (getD s (p .u) 0 ∷ getD s (p .v) 0 ∷ []) ≡ subsetWeight (entry M n) (entry W n) s (subsetAt n p)
+  unfolding subsetWeight
+  is-two e =
+      sym (ap (λ (t : List ℕ). subsetWeight (entry M n) (entry W n) s t) (range-two n p range e) ∙ ap (weigh (entry M n) (entry W n)) (paired-two (entry M n) (entry W n) s (p .u) (p .v)))
+
+  module _ (e : p .w ≡ n → ⊥) where
+    pub asks-triple : Pairs n M W (getD s (p .u) 0) (getD s (p .v) 0) (getD s (p .w) 0)
+    asks-triple = record {
+      readable = readable;
+      first = asks-two .first;
+      second = asks-two .second;
+      third = shuffled .pairs (p .w) (omega (arith, range .wn));
+    }
+
+    pub is-triple : weigh (entry M n) (entry W n) (heaviest (weigh (entry M n) (entry W n)) ((getD s (p .u) 0 ∷ getD s (p .v) 0 ∷ getD s (p .w) 0 ∷ []) ∷ (getD s (p .u) 0 ∷ getD s (p .w) 0 ∷ getD s (p .v) 0 ∷ []) ∷ []))
+        ≡ subsetWeight (entry M n) (entry W n) s (subsetAt n p)
+    unfolding subsetWeight
+    is-triple =
+        sym (ap (λ (t : List ℕ). subsetWeight (entry M n) (entry W n) s t) (range-triple n p range e) ∙ ap (weigh (entry M n) (entry W n)) (paired-triple (entry M n) (entry W n) s (p .u) (p .v) (p .w)))
+
+-- ## The tally of one subset
+
+evaluating-two : (u v : ℕ) (t : Tally) → evaluating ((u ∷ v ∷ []) ∷ []) t ≡ raise 0 2 t
+unfolding evaluating
+evaluating-two u v t = refl
+
+evaluating-triple : (u v x : ℕ) (t : Tally) → evaluating ((u ∷ v ∷ x ∷ []) ∷ []) t ≡ raise 1 7 t
+unfolding evaluating
+evaluating-triple u v x t = refl
+
+module _ (n : ℕ) (p : Places) (range : InRange n p) (t : Tally) where
+  pub tally-two : p .w ≡ n → raise 0 2 t ≡ evaluating (subsetAt n p ∷ []) t
+  tally-two e = sym (ap (λ (s : List ℕ). evaluating (s ∷ []) t) (range-two n p range e) ∙ evaluating-two _ _ t)
+
+  pub tally-triple : (p .w ≡ n → ⊥) → raise 1 7 t ≡ evaluating (subsetAt n p ∷ []) t
+  tally-triple e = sym (ap (λ (s : List ℕ). evaluating (s ∷ []) t) (range-triple n p range e) ∙ evaluating-triple _ _ _ t)
+
+-- ## What `triple` has of the two cycles
+
+module _ (weight : List ℕ → ℕ) (a b : List ℕ) (x y bit r : ℕ) (ex : x ≡ weight a) (ey : y ≡ weight b) (eb : bit ≡ one (ltb x y)) where
+  pub bit-small : bit ≤ 1
+  bit-small = bit-le (ltb x y) bit eb
+
+  pub larger : r ≡ cond (eqb bit 1) y x → r ≡ weight (heaviest weight (a ∷ b ∷ []))
+  larger er =
+      pick-by (ltb x y) bit y x r eb er
+      ∙ ap (λ (k : ℕ). cond (ltb k y) y k) ex ∙ ap (λ (k : ℕ). cond (ltb (weight a) k) k (weight a)) ey
+      ∙ sym (heavier-weight weight a b)

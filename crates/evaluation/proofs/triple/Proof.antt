@@ -1,0 +1,31 @@
+-- `evaluation::triple` meets its contract. Assumes nothing.
+use Rattle.gates.proofs.Gates.{raised-then}
+use Rattle.evaluation.specs.Readable.{weightOf}
+use Rattle.evaluation.proofs.Subsets.{bit-small, larger}
+use borrow.Author.Needs.{needs}
+use Rattle.evaluation.proofs.triple.Statement.{statement}
+use Rattle.evaluation.proofs.triple.Tie as tie
+use Rattle.evaluation.proofs.triple.Reads as reads
+use Rattle.evaluation.proofs.triple.Lts as lts
+use Rattle.evaluation.proofs.three.Reads as three-reads
+use Rattle.gates.proofs.comparison.Reads as comparison-reads
+use Rattle.gates.proofs.pick.Reads as pick-reads
+
+three-requires : tie.Need-three-requires
+three-requires c κs = search needs
+
+three-requires-2 : tie.Need-three-requires-2
+three-requires-2 c κs = search needs
+
+comparison-requires : tie.Need-comparison-requires
+comparison-requires c κs = search needs
+
+pick-requires : tie.Need-pick-requires
+pick-requires c κs = (bit-small (weightOf _ _ _) _ _ _ _ _ 0 (c .before .before .three .ensures .0) (c .before .three2 .ensures .0) (c .comparison .ensures .0), search needs)
+
+returns : tie.Need-returns
+returns c = (larger (weightOf _ _ _) _ _ _ _ _ _ (c .before .before .before .three .ensures .0) (c .before .before .three2 .ensures .0) (c .before .comparison .ensures .0) (c .pick .ensures .0), raised-then (raised-then (c .before .before .before .three .ensures .1) (c .before .before .three2 .ensures .1)) (raised-then (c .before .comparison .ensures .1) (c .pick .ensures .1)))
+
+pub triple-spec : {M : Type 1} → statement M
+triple-spec =
+    tie.close (tie.spec three-requires three-requires-2 comparison-requires pick-requires returns)

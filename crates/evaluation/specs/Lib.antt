@@ -1,0 +1,2 @@
+-- What evaluation asks of its arguments.
+pub mod Readable

@@ -1,0 +1,2 @@
+-- The laws of the gates.
+pub mod Gates

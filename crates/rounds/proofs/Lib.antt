@@ -1,0 +1,2 @@
+-- `Turns`: one round after another.
+pub mod Turns
