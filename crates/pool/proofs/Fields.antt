@@ -9,7 +9,7 @@ use Rattle.refusal.specs.Fault.{Fault, none, fault, refuse, _then_}
 use Rattle.refusal.proofs.Faults.{then-none, refuse-none, by-refuse, by-then}
 use Rattle.laws.specs.Digits.{bigEndian}
 use Rattle.pool.specs.Turned.{fieldFault}
-use Rattle.pool.specs.Faultless.{Field, Due, SheetFault, startCutOff, valueCutOff, wrongTag, wrongLength}
+use Rattle.pool.specs.Faultless.{Field, Due, Forward, SheetFault, startCutOff, valueCutOff, wrongTag, wrongLength}
 
 module _ (b : List ℕ) (o tag len : ℕ) where
   pub field-none : Field b o tag len → fieldFault b o tag len ≡ none
@@ -34,13 +34,13 @@ module _ (b : List ℕ) (o tag len : ℕ) where
         sized = eqb-true _ _ (not-false _ (refuse-none _ _ _ (r3 .0)));
       }
 
-  pub field-fault : Due b o tag len → (k p : ℕ) → fieldFault b o tag len ≡ fault k p → SheetFault b k p
+  pub field-fault : Due b o tag len → Forward b o → (k p : ℕ) → fieldFault b o tag len ≡ fault k p → SheetFault b k p
   unfolding fieldFault
-  field-fault d =
+  field-fault d w =
       let P = SheetFault b in
-      by-then P _ _ (by-refuse P 1 o _ (λ e. startCutOff o tag len d (ltb-true _ _ e)))
+      by-then P _ _ (by-refuse P 1 o _ (λ e. startCutOff o tag len d w (ltb-true _ _ e)))
       (λ s. let l : o + 3 ≤ length b = ltb-false _ _ (refuse-none _ _ _ s) in
-      by-then P _ _ (by-refuse P 2 o _ (λ e. wrongTag o tag len d l (eqb-false _ _ (not-true _ e))))
-      (λ t. by-then P _ _ (by-refuse P 2 o _ (λ e. wrongLength o tag len d l (eqb-false _ _ (not-true _ e))))
-      (λ u. by-refuse P 1 o _
-      (λ e. valueCutOff o tag len d (eqb-true _ _ (not-false _ (refuse-none _ _ _ t))) (eqb-true _ _ (not-false _ (refuse-none _ _ _ u))) (ltb-true _ _ e)))))
+      by-then P _ _ (by-refuse P 2 o _ (λ e. wrongTag o tag len d w l (eqb-false _ _ (not-true _ e))))
+      (λ t. let g : bigEndian 1 b o ≡ tag = eqb-true _ _ (not-false _ (refuse-none _ _ _ t)) in
+      by-then P _ _ (by-refuse P 2 o _ (λ e. wrongLength o tag len d w l g (eqb-false _ _ (not-true _ e))))
+      (λ u. by-refuse P 1 o _ (λ e. valueCutOff o tag len d w g (eqb-true _ _ (not-false _ (refuse-none _ _ _ u))) (ltb-true _ _ e)))))

@@ -28,24 +28,29 @@ module _ (o : ℕ) (pair : ℕ → Pair) (i : ℕ) where
         none-any i (λ j. eqb (pair j .id) (pair i .id)) (λ j l. ne-eqb _ _ (u j l)),
       )
 
+  groups-passed :
+      groupFault o (pair i .donorBlood) (pair i .patientBlood) (pair i .donorAge) (pair i .patientAge) ≡ none
+      → InRange (pair i)
+  unfolding groupFault
+  groups-passed e =
+      let r1 = then-none _ _ e in
+      let r2 = then-none _ _ (r1 .1) in
+      let r3 = then-none _ _ (r2 .1) in
+      record {
+        donorBlood = ltb-false _ _ (refuse-none _ _ _ (r1 .0));
+        patientBlood = ltb-false _ _ (refuse-none _ _ _ (r2 .0));
+        donorAge = ltb-false _ _ (refuse-none _ _ _ (r3 .0));
+        patientAge = ltb-false _ _ (refuse-none _ _ _ (r3 .1));
+      }
+
   pub pair-passed : pairFault o pair i ≡ none → InRange (pair i) × ((j : ℕ) → j < i → pair j .id ≡ pair i .id → ⊥)
-  unfolding pairFault groupFault idFault
+  unfolding pairFault idFault
   pair-passed e =
       let s = then-none _ _ e in
-      let r1 = then-none _ _ (s .0) in
-      let r2 = then-none _ _ (r1 .1) in
-      let r3 = then-none _ _ (r2 .1) in (
-        record {
-          donorBlood = ltb-false _ _ (refuse-none _ _ _ (r1 .0));
-          patientBlood = ltb-false _ _ (refuse-none _ _ _ (r2 .0));
-          donorAge = ltb-false _ _ (refuse-none _ _ _ (r3 .0));
-          patientAge = ltb-false _ _ (refuse-none _ _ _ (r3 .1));
-        },
-        λ j l. eqb-false _ _ (any-none i (λ j. eqb (pair j .id) (pair i .id)) (refuse-none _ _ _ (s .1)) j l),
-      )
+      (groups-passed (s .0), λ j l. eqb-false _ _ (any-none i (λ j. eqb (pair j .id) (pair i .id)) (refuse-none _ _ _ (s .1)) j l))
 
-  pub pair-fault : (P : ℕ → ℕ → Type 0) → ((InRange (pair i) → ⊥) → P 6 o) → ((j : ℕ) → j < i → pair j .id ≡ pair i .id → P 7 o)
-      → (k p : ℕ) → pairFault o pair i ≡ fault k p → P k p
+  pub pair-fault : (P : ℕ → ℕ → Type 0) → ((InRange (pair i) → ⊥) → P 6 o)
+      → ((j : ℕ) → j < i → InRange (pair i) → pair j .id ≡ pair i .id → P 7 o) → (k p : ℕ) → pairFault o pair i ≡ fault k p → P k p
   unfolding pairFault groupFault idFault
   pair-fault P six seven =
       by-then P _ _
@@ -53,8 +58,8 @@ module _ (o : ℕ) (pair : ℕ → Pair) (i : ℕ) where
       (λ _. by-then P _ _ (by-refuse P 6 o _ (λ e. six (λ r. omega (arith, ltb-true 3 (pair i .patientBlood) e, r .patientBlood))))
       (λ _. by-then P _ _ (by-refuse P 6 o _ (λ e. six (λ r. omega (arith, ltb-true 1 (pair i .donorAge) e, r .donorAge))))
       (λ _. by-refuse P 6 o _ (λ e. six (λ r. omega (arith, ltb-true 1 (pair i .patientAge) e, r .patientAge)))))))
-      (λ _. by-refuse P 7 o _
-      (λ e. let f = any-found i (λ j. eqb (pair j .id) (pair i .id)) e in seven (f .0) (f .1) (eqb-true _ _ (f .2))))
+      (λ g. by-refuse P 7 o _
+      (λ e. let f = any-found i (λ j. eqb (pair j .id) (pair i .id)) e in seven (f .0) (f .1) (groups-passed g) (eqb-true _ _ (f .2))))
 
 -- ## 8
 

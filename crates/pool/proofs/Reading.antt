@@ -13,7 +13,7 @@ use Rattle.pool.specs.Sheet.{pairPlace, sheetLength, pairsIn, pairAt, sh
 use Rattle.pool.specs.Tables.{Tables, room, filledTables}
 use Rattle.pool.specs.Turned.{headFault, pairFieldFault, shuffleFieldFault, endFault, sheetFault, roomFault}
 use Rattle.pool.specs.Calls.{reading}
-use Rattle.pool.specs.Faultless.{Field, Faultless, FaultlessSheet, Due, SheetFault, wrongVersion, leftOver, outOfRange, repeatedId, notAShuffle, Hold}
+use Rattle.pool.specs.Faultless.{Field, Faultless, FaultlessHead, FaultlessPair, FaultlessSheet, Due, Forward, SheetFault, wrongVersion, leftOver, outOfRange, repeatedId, notAShuffle, Hold}
 use Rattle.pool.specs.Promises.{ReadFault, ReadsRightly}
 use Rattle.pool.proofs.Rooms.{room-hold, hold-room}
 use Rattle.pool.proofs.Fields.{field-none, field-passed, field-fault}
@@ -94,7 +94,17 @@ module _ (b : List ℕ) where
             };
       }
 
-  -- ## A fault that is there
+  -- ## A fault that is there, and none that is looked for before it
+
+  head-faultless : headFault b ≡ none → FaultlessHead b
+  head-faultless e = let h = head-passed e in record { field = h .0; version = h .1; few = h .2 }
+
+  pair-faultless : (i : ℕ) → pairFieldFault b i ≡ none → FaultlessPair b i
+  unfolding pairFieldFault
+  pair-faultless i e =
+      let s = then-none _ _ e in
+      let r = pair-passed (pairPlace i) (pairAt b) i (s .1) in
+      record { field = field-passed b (pairPlace i) 2 32 (s .0); inRange = r .0; unlike = r .1 }
 
   pub sheet-fault : (k o : ℕ) → sheetFault b ≡ fault k o → SheetFault b k o
   unfolding sheetFault headFault pairFieldFault shuffleFieldFault endFault
@@ -102,19 +112,24 @@ module _ (b : List ℕ) where
       let P = SheetFault b in
       let n = pairsIn b in
       by-then P _ _
-      (by-then P _ _ (field-fault b 0 1 4 Due.head)
+      (by-then P _ _ (field-fault b 0 1 4 Due.head Forward.head)
       (λ f. let h : Field b 0 1 4 = field-passed b 0 1 4 f in
       by-then P _ _ (by-refuse P 3 0 _ (λ e. wrongVersion h (eqb-false _ _ (not-true _ e))))
-      (λ _. by-refuse P 4 0 _ (λ e. SheetFault.tooManyPairs h (ltb-true _ _ e)))))
-      (λ _. by-then P _ _
+      (λ v. by-refuse P 4 0 _ (λ e. SheetFault.tooManyPairs h (eqb-true _ _ (not-false _ (refuse-none _ _ _ v))) (ltb-true _ _ e)))))
+      (λ h. let head : FaultlessHead b = head-faultless h in
+      by-then P _ _
       (by-first P n (pairFieldFault b)
-      (λ i l. by-then P _ _ (field-fault b (pairPlace i) 2 32 (Due.pair i l))
-      (λ f. let w = field-passed b (pairPlace i) 2 32 f in
-      pair-fault (pairPlace i) (pairAt b) i P (outOfRange i l w) (λ j k e. repeatedId i j k l w e))))
-      (λ _. by-then P _ _
-      (by-then P _ _ (field-fault b (pairPlace n) 3 (2 * n) Due.shuffle)
-      (λ f. shuffle-fault (pairPlace n) n (shuffleAt b n) P (notAShuffle (field-passed b (pairPlace n) 3 (2 * n) f))))
-      (λ d. by-refuse P 5 _ _ (λ e. leftOver (field-passed b (pairPlace n) 3 (2 * n) (then-none _ _ d .0)) (ltb-true _ _ e)))))
+      (λ i l before. let w : Forward b (pairPlace i) = Forward.pair i l head (λ j k. pair-faultless j (before j k)) in
+      by-then P _ _ (field-fault b (pairPlace i) 2 32 (Due.pair i l) w)
+      (λ f. let field : Field b (pairPlace i) 2 32 = field-passed b (pairPlace i) 2 32 f in
+      pair-fault (pairPlace i) (pairAt b) i P (outOfRange i l w field) (λ j k r e. repeatedId i j k l w field r e))))
+      (λ p. let w : Forward b (pairPlace n) = Forward.shuffle head (λ j k. pair-faultless j (first-none n (pairFieldFault b) p j k)) in
+      by-then P _ _
+      (by-then P _ _ (field-fault b (pairPlace n) 3 (2 * n) Due.shuffle w)
+      (λ f. shuffle-fault (pairPlace n) n (shuffleAt b n) P (notAShuffle w (field-passed b (pairPlace n) 3 (2 * n) f))))
+      (λ d. let s = then-none _ _ d in
+      by-refuse P 5 _ _
+      (λ e. leftOver w (field-passed b (pairPlace n) 3 (2 * n) (s .0)) (shuffle-passed (pairPlace n) n (shuffleAt b n) (s .1)) (ltb-true _ _ e)))))
 
 -- ## The call
 

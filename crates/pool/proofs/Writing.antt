@@ -14,7 +14,7 @@ use Rattle.pool.specs.Sheet.{sheetLength, sheetOf}
 use Rattle.pool.specs.Tables.{Fields, Tables, room, pairIn, poolIn}
 use Rattle.pool.specs.Turned.{pairFault, pairsFault, poolFault, roomFault, shuffleFault}
 use Rattle.pool.specs.Calls.{writing}
-use Rattle.pool.specs.Faultless.{InRange, Unlike, Faultless, FaultlessPool, PoolFault, Hold}
+use Rattle.pool.specs.Faultless.{InRange, Unlike, Faultless, Before, FaultlessPool, PoolFault, Hold}
 use Rattle.pool.specs.Promises.{WritesRightly}
 use Rattle.pool.proofs.Lengths.{length-sheetIn}
 use Rattle.pool.proofs.Rooms.{room-hold, hold-room}
@@ -43,13 +43,21 @@ module _ (n space : ℕ) (pair : ℕ → Pair) where
         λ i j k l. pair-passed 0 pair i (at i l) .1 j k,
       )
 
-  pub pairs-fault : (P : ℕ → ℕ → Type 0) → (200 < n → P 4 0) → (space < n → P 9 0) → ((i : ℕ) → i < n → (InRange (pair i) → ⊥) → P 6 0)
-      → ((i j : ℕ) → j < i → i < n → pair j .id ≡ pair i .id → P 7 0) → (k o : ℕ) → pairsFault n space pair ≡ fault k o → P k o
+  before-passed : (i : ℕ) → ((j : ℕ) → j < i → pairFault 0 pair j ≡ none) → Before i pair
+  before-passed i e j l = pair-passed 0 pair j (e j l)
+
+  pub pairs-fault : (P : ℕ → ℕ → Type 0) → (200 < n → P 4 0) → (n ≤ 200 → space < n → P 9 0)
+      → ((i : ℕ) → i < n → n ≤ 200 → n ≤ space → Before i pair → (InRange (pair i) → ⊥) → P 6 0)
+      → ((i j : ℕ) → j < i → i < n → n ≤ 200 → n ≤ space → Before i pair → InRange (pair i) → pair j .id ≡ pair i .id → P 7 0)
+      → (k o : ℕ) → pairsFault n space pair ≡ fault k o → P k o
   unfolding pairsFault
   pairs-fault P four nine six seven =
       by-then P _ _ (by-refuse P 4 0 _ (λ e. four (ltb-true _ _ e)))
-      (λ _. by-then P _ _ (room-fault P space n nine)
-      (λ _. by-first P n (pairFault 0 pair) (λ i l. pair-fault 0 pair i P (six i l) (λ j k e. seven i j k l e))))
+      (λ a. let few : n ≤ 200 = ltb-false _ _ (refuse-none _ _ _ a) in
+      by-then P _ _ (room-fault P space n (nine few))
+      (λ r. let held : n ≤ space = room-passed space n r in
+      by-first P n (pairFault 0 pair)
+      (λ i l e. pair-fault 0 pair i P (six i l few held (before-passed i e)) (λ j k g q. seven i j k l few held (before-passed i e) g q))))
 
 -- ## A pool
 
@@ -93,11 +101,13 @@ module _ (n : ℕ) (t : Tables) (out : List ℕ) where
       by-then P _ _
       (by-then P _ _
       (pairs-fault n (room t) (pairIn (t .fields)) P (λ l. (refl, PoolFault.tooManyPairs l))
-      (λ l. (refl, PoolFault.tableTooShort (λ h. omega (arith, l, hold-room n t h))))
-      (λ i l h. (refl, PoolFault.outOfRange i l h))
-      (λ i j k l e. (refl, PoolFault.repeatedId i j k l e)))
-      (λ _. shuffle-fault 0 n _ P (λ h. (refl, PoolFault.notAShuffle h))))
-      (λ _. room-fault P (length out) _ (λ l. (refl, PoolFault.bufferTooShort (rw (length-sheetIn n t) at l)))) k o
+      (λ few l. (refl, PoolFault.tableTooShort few (λ h. omega (arith, l, hold-room n t h))))
+      (λ i l few held w h. (refl, PoolFault.outOfRange i l few (room-hold n t held) w h))
+      (λ i j k l few held w g e. (refl, PoolFault.repeatedId i j k l few (room-hold n t held) w g e)))
+      (λ a. let p = pairs-passed n (room t) (pairIn (t .fields)) a in
+      shuffle-fault 0 n _ P
+      (λ h. (refl, PoolFault.notAShuffle (p .0) (room-hold n t (p .1)) (λ j l. (p .2 j l, λ i k. p .3 j i k l)) h))))
+      (λ d. room-fault P (length out) _ (λ l. (refl, PoolFault.bufferTooShort (pool-passed n t d) (rw (length-sheetIn n t) at l)))) k o
       (refused-fault _ _ _ _ e)
 
   pub writes-rightly : WritesRightly n t (length out) (writing n t out .answer)

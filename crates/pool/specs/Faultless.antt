@@ -56,21 +56,67 @@ pub data Due (b : List ℕ) : ℕ → ℕ → ℕ → Type 0 where
   pair : (i : ℕ) → i < pairsIn b → Due b (pairPlace i) 2 32
   shuffle : Due b (pairPlace (pairsIn b)) 3 (2 * pairsIn b)
 
--- fault k of a sheet, at place o
+-- pair i's field is whole, its groups are in range, and its id is no earlier pair's
+pub record FaultlessPair (b : List ℕ) (i : ℕ) : Type 0 where
+  pub field : Field b (pairPlace i) 2 32
+  pub inRange : InRange (pairAt b i)
+  pub unlike : (j : ℕ) → j < i → pairAt b j .id ≡ pairAt b i .id → ⊥
+
+-- the head has no fault
+pub record FaultlessHead (b : List ℕ) : Type 0 where
+  pub field : Field b 0 1 4
+  pub version : bigEndian 2 b 3 ≡ 1
+  pub few : pairsIn b ≤ 200
+
+-- what is looked at before a field that is due has no fault: "reading goes forward, field by field"
+pub data Forward (b : List ℕ) : ℕ → Type 0 where
+  head : Forward b 0
+  pair : (i : ℕ) → i < pairsIn b → FaultlessHead b → ((j : ℕ) → j < i → FaultlessPair b j) → Forward b (pairPlace i)
+  shuffle : FaultlessHead b → ((j : ℕ) → j < pairsIn b → FaultlessPair b j) → Forward b (pairPlace (pairsIn b))
+
+-- fault k of a sheet, at place o: it is there, and none that is looked for before it
 pub data SheetFault (b : List ℕ) : ℕ → ℕ → Type 0 where
-  startCutOff : (o tag len : ℕ) → Due b o tag len → length b < o + 3 → SheetFault b 1 o
-  valueCutOff : (o tag len : ℕ) → Due b o tag len → bigEndian 1 b o ≡ tag → bigEndian 2 b (o + 1) ≡ len → length b < o + 3 + len → SheetFault b 1 o
-  wrongTag : (o tag len : ℕ) → Due b o tag len → o + 3 ≤ length b → (bigEndian 1 b o ≡ tag → ⊥) → SheetFault b 2 o
-  wrongLength : (o tag len : ℕ) → Due b o tag len → o + 3 ≤ length b → (bigEndian 2 b (o + 1) ≡ len → ⊥) → SheetFault b 2 o
+  startCutOff : (o tag len : ℕ) → Due b o tag len → Forward b o → length b < o + 3 → SheetFault b 1 o
+  wrongTag : (o tag len : ℕ) → Due b o tag len → Forward b o → o + 3 ≤ length b → (bigEndian 1 b o ≡ tag → ⊥) → SheetFault b 2 o
+  wrongLength :
+      (o tag len : ℕ)
+      → Due b o tag len
+      → Forward b o
+      → o + 3 ≤ length b
+      → bigEndian 1 b o ≡ tag
+      → (bigEndian 2 b (o + 1) ≡ len → ⊥)
+      → SheetFault b 2 o
+  valueCutOff :
+      (o tag len : ℕ)
+      → Due b o tag len
+      → Forward b o
+      → bigEndian 1 b o ≡ tag
+      → bigEndian 2 b (o + 1) ≡ len
+      → length b < o + 3 + len
+      → SheetFault b 1 o
   wrongVersion : Field b 0 1 4 → (bigEndian 2 b 3 ≡ 1 → ⊥) → SheetFault b 3 0
-  tooManyPairs : Field b 0 1 4 → 200 < pairsIn b → SheetFault b 4 0
-  leftOver : Field b (pairPlace (pairsIn b)) 3 (2 * pairsIn b) → sheetLength (pairsIn b) < length b → SheetFault b 5 (sheetLength (pairsIn b))
-  outOfRange : (i : ℕ) → i < pairsIn b → Field b (pairPlace i) 2 32 → (InRange (pairAt b i) → ⊥) → SheetFault b 6 (pairPlace i)
-  repeatedId : (i j : ℕ) → j < i → i < pairsIn b → Field b (pairPlace i) 2 32 → pairAt b j .id ≡ pairAt b i .id → SheetFault b 7 (pairPlace i)
+  tooManyPairs : Field b 0 1 4 → bigEndian 2 b 3 ≡ 1 → 200 < pairsIn b → SheetFault b 4 0
+  outOfRange : (i : ℕ) → i < pairsIn b → Forward b (pairPlace i) → Field b (pairPlace i) 2 32 → (InRange (pairAt b i) → ⊥) → SheetFault b 6 (pairPlace i)
+  repeatedId :
+      (i j : ℕ)
+      → j < i
+      → i < pairsIn b
+      → Forward b (pairPlace i)
+      → Field b (pairPlace i) 2 32
+      → InRange (pairAt b i)
+      → pairAt b j .id ≡ pairAt b i .id
+      → SheetFault b 7 (pairPlace i)
   notAShuffle :
-      Field b (pairPlace (pairsIn b)) 3 (2 * pairsIn b)
+      Forward b (pairPlace (pairsIn b))
+      → Field b (pairPlace (pairsIn b)) 3 (2 * pairsIn b)
       → (EachOnce (pairsIn b) (shuffleAt b (pairsIn b)) → ⊥)
       → SheetFault b 8 (pairPlace (pairsIn b))
+  leftOver :
+      Forward b (pairPlace (pairsIn b))
+      → Field b (pairPlace (pairsIn b)) 3 (2 * pairsIn b)
+      → EachOnce (pairsIn b) (shuffleAt b (pairsIn b))
+      → sheetLength (pairsIn b) < length b
+      → SheetFault b 5 (sheetLength (pairsIn b))
 
 -- ## Lent tables
 
@@ -94,11 +140,36 @@ pub record FaultlessPool (n : ℕ) (t : Tables) : Type 0 where
   pub hold : Hold n t
   pub pool : Faultless n (pairIn (t .fields)) (λ j. getD (t .shuffle) j 0)
 
--- fault k of writing it into a buffer of so many bytes
+-- the pairs before the i-th have none of 6 and 7
+abbrev pub Before : ℕ → (ℕ → Pair) → Type 0
+Before i at = (j : ℕ) → j < i → InRange (at j) × ((h : ℕ) → h < j → at h .id ≡ at j .id → ⊥)
+
+-- fault k of writing it into a buffer of so many bytes: it is there, and none that is looked for before it
 pub data PoolFault (n : ℕ) (t : Tables) (space : ℕ) : ℕ → Type 0 where
   tooManyPairs : 200 < n → PoolFault n t space 4
-  tableTooShort : (Hold n t → ⊥) → PoolFault n t space 9
-  outOfRange : (i : ℕ) → i < n → (InRange (pairIn (t .fields) i) → ⊥) → PoolFault n t space 6
-  repeatedId : (i j : ℕ) → j < i → i < n → pairIn (t .fields) j .id ≡ pairIn (t .fields) i .id → PoolFault n t space 7
-  notAShuffle : (EachOnce n (λ j. getD (t .shuffle) j 0) → ⊥) → PoolFault n t space 8
-  bufferTooShort : space < sheetLength n → PoolFault n t space 9
+  tableTooShort : n ≤ 200 → (Hold n t → ⊥) → PoolFault n t space 9
+  outOfRange :
+      (i : ℕ)
+      → i < n
+      → n ≤ 200
+      → Hold n t
+      → Before i (pairIn (t .fields))
+      → (InRange (pairIn (t .fields) i) → ⊥)
+      → PoolFault n t space 6
+  repeatedId :
+      (i j : ℕ)
+      → j < i
+      → i < n
+      → n ≤ 200
+      → Hold n t
+      → Before i (pairIn (t .fields))
+      → InRange (pairIn (t .fields) i)
+      → pairIn (t .fields) j .id ≡ pairIn (t .fields) i .id
+      → PoolFault n t space 7
+  notAShuffle :
+      n ≤ 200
+      → Hold n t
+      → Before n (pairIn (t .fields))
+      → (EachOnce n (λ j. getD (t .shuffle) j 0) → ⊥)
+      → PoolFault n t space 8
+  bufferTooShort : FaultlessPool n t → space < sheetLength n → PoolFault n t space 9

@@ -90,17 +90,17 @@ first-hit (suc n) f i {k} {o} l e x = go (λ s. first-hit n f i s e x) (decLt i 
         let q : i ≡ n = omega arith in
         rw (← q) (rw (e, x))
 
--- the first fault is one of them
-pub first-fault : (n : ℕ) (f : ℕ → Fault) {k o : ℕ} → firstBelow n f ≡ fault k o → (i : ℕ) × (i < n) × (f i ≡ fault k o)
+-- the first fault is one of them, and none before it has one
+pub first-fault : (n : ℕ) (f : ℕ → Fault) {k o : ℕ} → firstBelow n f ≡ fault k o → (i : ℕ) × (i < n) × (firstBelow i f ≡ none) × (f i ≡ fault k o)
 unfolding firstBelow
 first-fault zero f e = none-fault refl e
 first-fault (suc n) f {k} {o} e = go (first-fault n f) (then-fault (firstBelow n f) (f n) e)
   where
-    go : (firstBelow n f ≡ fault k o → (i : ℕ) × (i < n) × (f i ≡ fault k o))
+    go : (firstBelow n f ≡ fault k o → (i : ℕ) × (i < n) × (firstBelow i f ≡ none) × (f i ≡ fault k o))
         → (firstBelow n f ≡ fault k o) ⊎ ((firstBelow n f ≡ none) × (f n ≡ fault k o))
-        → (i : ℕ) × (i < suc n) × (f i ≡ fault k o)
-    go r (inl h) = (r h .0, omega (arith, r h .1), r h .2)
-    go r (inr h) = (n, omega arith, h .1)
+        → (i : ℕ) × (i < suc n) × (firstBelow i f ≡ none) × (f i ≡ fault k o)
+    go r (inl h) = (r h .0, omega (arith, r h .1), r h .2, r h .3)
+    go r (inr h) = (n, omega arith, h .0, h .1)
 
 -- a turn of a loop that looks for a fault
 pub first-more : (n : ℕ) (f : ℕ → Fault) → firstBelow n f ≡ none → f n ≡ none → firstBelow (n + 1) f ≡ none
@@ -119,11 +119,11 @@ module _ (P : ℕ → ℕ → Type 0) where
       → (j p : ℕ) → (f then g) ≡ fault j p → P j p
   by-then f g one other j p e = ⊎-elim (one j p) (λ r. other (r .0) j p (r .1)) (then-fault f g e)
 
-  pub by-first : (n : ℕ) (f : ℕ → Fault) → ((i : ℕ) → i < n → (j p : ℕ) → f i ≡ fault j p → P j p)
+  pub by-first : (n : ℕ) (f : ℕ → Fault) → ((i : ℕ) → i < n → ((h : ℕ) → h < i → f h ≡ none) → (j p : ℕ) → f i ≡ fault j p → P j p)
       → (j p : ℕ) → firstBelow n f ≡ fault j p → P j p
   by-first n f h j p e =
       let r = first-fault n f e in
-      h (r .0) (r .1) j p (r .2)
+      h (r .0) (r .1) (first-none (r .0) f (r .2)) j p (r .3)
 
 -- ## faultAt: what a check found
 

@@ -81,15 +81,17 @@ module _ (n : ℕ) (f : Fields) (g : Graph) where
       ∙ none-then _ _ (room-none _ _ (h .compatibilities))
       ∙ room-none _ _ (h .weights)
 
+  fields-passed : pairsFault n (fieldRoom f) (pairIn f) ≡ none → FaultlessFields n f
+  fields-passed e =
+      let p = pairs-passed n (fieldRoom f) (pairIn f) e in
+      record { few = p .0; hold = fieldRoom-hold n f (p .1); inRange = p .2; unlike = p .3 }
+
   pub build-passed : buildFault n f (length (g .compatibilities)) (length (g .weights)) ≡ none → FaultlessFields n f × Fit n g
   unfolding buildFault
   build-passed e =
       let s = then-none _ _ e in
       let r = then-none _ _ (s .1) in
-      let p = pairs-passed n (fieldRoom f) (pairIn f) (s .0) in (
-        record { few = p .0; hold = fieldRoom-hold n f (p .1); inRange = p .2; unlike = p .3 },
-        record { compatibilities = room-passed _ _ (r .0); weights = room-passed _ _ (r .1) },
-      )
+      (fields-passed (s .0), record { compatibilities = room-passed _ _ (r .0); weights = room-passed _ _ (r .1) })
 
   pub build-fault : (k o : ℕ) → buildFault n f (length (g .compatibilities)) (length (g .weights)) ≡ fault k o → (o ≡ 0) × BuildFault n f g k
   unfolding buildFault
@@ -97,8 +99,9 @@ module _ (n : ℕ) (f : Fields) (g : Graph) where
       let P : ℕ → ℕ → Type 0 = λ k o. (o ≡ 0) × BuildFault n f g k in
       by-then P _ _
       (pairs-fault n (fieldRoom f) (pairIn f) P (λ l. (refl, BuildFault.tooManyPairs l))
-      (λ l. (refl, BuildFault.fieldsTooShort (λ h. omega (arith, l, hold-fieldRoom n f h))))
-      (λ i l h. (refl, BuildFault.outOfRange i l h))
-      (λ i j k l e. (refl, BuildFault.repeatedId i j k l e)))
-      (λ _. by-then P _ _ (room-fault P _ _ (λ l. (refl, BuildFault.tablesTooShort (λ h. omega (arith, l, h .compatibilities)))))
-      (λ _. room-fault P _ _ (λ l. (refl, BuildFault.tablesTooShort (λ h. omega (arith, l, h .weights))))))
+      (λ few l. (refl, BuildFault.fieldsTooShort few (λ h. omega (arith, l, hold-fieldRoom n f h))))
+      (λ i l few held w h. (refl, BuildFault.outOfRange i l few (fieldRoom-hold n f held) w h))
+      (λ i j k l few held w r e. (refl, BuildFault.repeatedId i j k l few (fieldRoom-hold n f held) w r e)))
+      (λ a. let w : FaultlessFields n f = fields-passed a in
+      by-then P _ _ (room-fault P _ _ (λ l. (refl, BuildFault.tablesTooShort w (λ h. omega (arith, l, h .compatibilities)))))
+      (λ _. room-fault P _ _ (λ l. (refl, BuildFault.tablesTooShort w (λ h. omega (arith, l, h .weights))))))

@@ -22,7 +22,7 @@ use Rattle.weighing.specs.Building.{Graph, filledGraph, buildFault, buil
 use Rattle.weighing.specs.Said.{said, Buildable}
 use Rattle.weighing.specs.declared.Building.the-variants.{Built, Refused}
 use Rattle.weighing.specs.Promises.{entryAt, Entries, Plannable, BuildsRightly, OneWhereCompatible}
-use Rattle.weighing.proofs.Steps.{weight-same, document-least, document-most}
+use Rattle.weighing.proofs.Steps.{weight-same, document-least, document-most, document-some}
 use Rattle.weighing.proofs.Rows.{rows-entry}
 use Rattle.weighing.proofs.Faults.{build-none, build-passed, build-fault}
 
@@ -90,7 +90,7 @@ module _ (n : ℕ) (f : Fields) (old : Graph) where
       let p = pairIn f in
       let M = e .compatibilities in
       let W = e .weights in
-      let least : (i j : ℕ) → i < n → j < n → (i ≡ j → ⊥) → 1000 ≤ entryAt (g .weights) n i j =
+      let least : (i j : ℕ) → i < n → j < n → (i ≡ j → ⊥) → documentPoints .base ≤ entryAt (g .weights) n i j =
       λ i j l m h. rw (W i j l m) (document-least p i j h) in
       record {
         zeroOrOne = λ i j l m. rw (M i j l m) (compatibility-most p i j);
@@ -100,7 +100,7 @@ module _ (n : ℕ) (f : Fields) (old : Graph) where
         most = λ i j l m h. rw (W i j l m) (document-most p i j h);
         noneWeightless =
             λ i j l m h.
-            omega (arith, least i j l m (λ e. omega (arith, sym (M i j l m) ∙ h, compatibility-same p i j e)));
+            omega (arith, document-some, least i j l m (λ e. omega (arith, sym (M i j l m) ∙ h, compatibility-same p i j e)));
       }
 
   -- built, the tables are filled

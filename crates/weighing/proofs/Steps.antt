@@ -1,10 +1,10 @@
 -- The points, for any values that they have. Assumes nothing.
 use mathlib.Core.Path.{_≡_}
 use mathlib.Core.Bool.{Bool, true, false, _&&_, cond}
-use Prim.Native.Nat.{ℕ, _+_, _≤_}
+use Prim.Native.Nat.{ℕ, _+_, _≤_, _<_}
 use native.Mathlib.Omega.{arith}
 use borrow.Author.Tests.{eq-eqb, ne-eqb}
-use lib.Dec.{eqb, leb}
+use lib.Dec.{lit<, eqb, leb}
 use Rattle.pool.specs.Pool.{Pair}
 use Rattle.weighing.specs.Weight.{Points, documentPoints, young, senior, mismatches, mismatchPoints, agePoints, weight}
 
@@ -26,13 +26,13 @@ module _ (points : Points) (most : ℕ) where
       cond-most most (eqb donor patient) _ _ h (cond-most most (eqb donor young && eqb patient senior) _ _ k (omega arith))
 
 -- document 01's
-pub documentMismatch-most : (count : ℕ) → mismatchPoints documentPoints count ≤ 400
+pub documentMismatch-most : (count : ℕ) → mismatchPoints documentPoints count ≤ documentPoints .noMismatch
 unfolding documentPoints
-documentMismatch-most = mismatch-most documentPoints 400 (omega arith) (omega arith) (omega arith)
+documentMismatch-most = mismatch-most documentPoints (documentPoints .noMismatch) (omega arith) (omega arith) (omega arith)
 
-pub documentAge-most : (donor patient : ℕ) → agePoints documentPoints donor patient ≤ 50
+pub documentAge-most : (donor patient : ℕ) → agePoints documentPoints donor patient ≤ documentPoints .equalAges
 unfolding documentPoints
-documentAge-most = age-most documentPoints 50 (omega arith) (omega arith)
+documentAge-most = age-most documentPoints (documentPoints .equalAges) (omega arith) (omega arith)
 
 -- ## W
 
@@ -59,10 +59,12 @@ module _ (points : Points) (pair : ℕ → Pair) (i j : ℕ) where
 
 -- document 01's: 1,000 to 1,450
 module _ (pair : ℕ → Pair) (i j : ℕ) (h : i ≡ j → ⊥) where
-  pub document-least : 1000 ≤ weight documentPoints pair i j
-  unfolding documentPoints
+  pub document-least : documentPoints .base ≤ weight documentPoints pair i j
   document-least = weight-least documentPoints pair i j h
 
-  pub document-most : weight documentPoints pair i j ≤ 1450
-  unfolding documentPoints
-  document-most = weight-most documentPoints pair i j 400 50 documentMismatch-most documentAge-most h
+  pub document-most : weight documentPoints pair i j ≤ documentPoints .base + documentPoints .noMismatch + documentPoints .equalAges
+  document-most = weight-most documentPoints pair i j (documentPoints .noMismatch) (documentPoints .equalAges) documentMismatch-most documentAge-most h
+
+pub document-some : 0 < documentPoints .base
+unfolding documentPoints
+document-some = lit< tt

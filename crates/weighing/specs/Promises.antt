@@ -9,7 +9,7 @@ use lib.ListN.{length, getD}
 use Rattle.refusal.specs.Answer.{Answer, finished, refused}
 use Rattle.pool.specs.Pool.{Pair}
 use Rattle.pool.specs.Tables.{Fields, pairIn}
-use Rattle.pool.specs.Faultless.{InRange, Unlike, FieldsHold}
+use Rattle.pool.specs.Faultless.{InRange, Unlike, FieldsHold, Before}
 use Rattle.weighing.specs.Compatibility.{suits, entries, has, compatibility}
 use Rattle.weighing.specs.Weight.{documentPoints, weight}
 use Rattle.weighing.specs.Building.{Graph}
@@ -28,13 +28,22 @@ pub record Fit (n : ℕ) (g : Graph) : Type 0 where
   pub compatibilities : n * n ≤ length (g .compatibilities)
   pub weights : n * n ≤ length (g .weights)
 
--- fault k of building
+-- fault k of building: it is there, and none that is looked for before it
 pub data BuildFault (n : ℕ) (f : Fields) (g : Graph) : ℕ → Type 0 where
   tooManyPairs : 200 < n → BuildFault n f g 4
-  fieldsTooShort : (FieldsHold n f → ⊥) → BuildFault n f g 9
-  outOfRange : (i : ℕ) → i < n → (InRange (pairIn f i) → ⊥) → BuildFault n f g 6
-  repeatedId : (i j : ℕ) → j < i → i < n → pairIn f j .id ≡ pairIn f i .id → BuildFault n f g 7
-  tablesTooShort : (Fit n g → ⊥) → BuildFault n f g 9
+  fieldsTooShort : n ≤ 200 → (FieldsHold n f → ⊥) → BuildFault n f g 9
+  outOfRange : (i : ℕ) → i < n → n ≤ 200 → FieldsHold n f → Before i (pairIn f) → (InRange (pairIn f i) → ⊥) → BuildFault n f g 6
+  repeatedId :
+      (i j : ℕ)
+      → j < i
+      → i < n
+      → n ≤ 200
+      → FieldsHold n f
+      → Before i (pairIn f)
+      → InRange (pairIn f i)
+      → pairIn f j .id ≡ pairIn f i .id
+      → BuildFault n f g 7
+  tablesTooShort : FaultlessFields n f → (Fit n g → ⊥) → BuildFault n f g 9
 
 -- ## What is built
 
@@ -52,8 +61,8 @@ pub record Plannable (n : ℕ) (g : Graph) : Type 0 where
   pub zeroOrOne : (i j : ℕ) → i < n → j < n → entryAt (g .compatibilities) n i j ≤ 1
   pub ownCompatibility : (i : ℕ) → i < n → entryAt (g .compatibilities) n i i ≡ 0
   pub ownWeight : (i : ℕ) → i < n → entryAt (g .weights) n i i ≡ 0
-  pub least : (i j : ℕ) → i < n → j < n → (i ≡ j → ⊥) → 1000 ≤ entryAt (g .weights) n i j
-  pub most : (i j : ℕ) → i < n → j < n → (i ≡ j → ⊥) → entryAt (g .weights) n i j ≤ 1450
+  pub least : (i j : ℕ) → i < n → j < n → (i ≡ j → ⊥) → documentPoints .base ≤ entryAt (g .weights) n i j
+  pub most : (i j : ℕ) → i < n → j < n → (i ≡ j → ⊥) → entryAt (g .weights) n i j ≤ documentPoints .base + documentPoints .noMismatch + documentPoints .equalAges
   pub noneWeightless : (i j : ℕ) → i < n → j < n → entryAt (g .compatibilities) n i j ≡ 1 → 0 < entryAt (g .weights) n i j
 
 -- "Every .. pool with none of the listed faults is accepted", and no other; a refusal names a fault that is there, with place 0; what is built has

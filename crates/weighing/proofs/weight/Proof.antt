@@ -14,12 +14,14 @@ mismatch-points-requires : tie.Need-mismatch-points-requires
 mismatch-points-requires c κs = search needs
 
 add-result : tie.Need-add-result
+unfolding documentPoints
 add-result c = omega (arith, documentMismatch-most (c .before .mismatches .result))
 
 age-points-requires : tie.Need-age-points-requires
 age-points-requires c κs = search needs
 
 add-result-2 : tie.Need-add-result-2
+unfolding documentPoints
 add-result-2 c =
     let s = c .before .before .before .before .args in
     omega (arith, documentMismatch-most (c .before .before .mismatches .result), documentAge-most (s .donor-age) (s .patient-age))
