@@ -1,0 +1,64 @@
+-- Evaluation and all rounds. Assumes nothing.
+use Prim.Native.Nat.{ℕ, _+_, _*_, _/_, _^_, _≤_, _<_}
+use mathlib.Core.List.{List, map}
+use mathlib.Core.Path.{_≡_, refl, sym, ap, ap₂, _∙_}
+use native.Mathlib.Nat.{mul-le-mul}
+use native.Mathlib.Omega.{arith}
+use lib.ListN.{length, length-map}
+use Rattle.greedy.specs.Tally as Tallies
+use Rattle.greedy.specs.Rounds.{Left, left, rounds}
+use Rattle.exchange.specs.Subsets.{subsets, entry, subsetWeight, evaluating}
+use Rattle.exchange.specs.Planning.{roundCount, leftBy}
+use Rattle.gates.specs.Counts.{counted, Room}
+use Rattle.gates.specs.declared.Tally.{Tally}
+use Rattle.cursor.proofs.Number.{count-le}
+use Rattle.evaluation.specs.Readable.{Evaluating}
+use Rattle.evaluation.proofs.Evaluated.{evaluating-le}
+use Rattle.rounds.specs.Rounding.{Rounding}
+use Rattle.planner.specs.Checks.{Stepping}
+
+-- the tally begins at 0
+abbrev pub zeros : Tally
+zeros = record { comparisons = 0; products = 0; rounds = 0 }
+
+module _ (n : ℕ) (M W s weights choices : List ℕ) (asked : Stepping n M W s weights choices) where
+  few : length (subsets 3 n) ≤ 1333333
+  few = count-le n (asked .readable .few)
+
+  pub asks-evaluate : Evaluating n M W s weights zeros
+  asks-evaluate = record {
+    readable = asked .readable;
+    shuffled = asked .shuffled;
+    whole = asked .whole;
+    room = record { comparisons = omega (arith, few, asked .whole); products = omega (arith, few, asked .whole) };
+  }
+
+  module _ (evaluated : List ℕ) (t : Tally)
+      (e : (evaluated ≡ map (subsetWeight (entry M n) (entry W n) s) (subsets 3 n)) × (counted t ≡ evaluating (subsets 3 n) (counted zeros))) where
+    long : length evaluated ≡ length (subsets 3 n)
+    long = ap length (e .0) ∙ length-map (subsets 3 n) (subsetWeight (entry M n) (entry W n) s)
+
+    pub asks-rounds : Rounding n evaluated choices t
+    asks-rounds =
+        let le = evaluating-le (subsets 3 n) (counted zeros) in
+        let half : length choices ≤ 100 = omega (arith, asked .all, asked .readable .few) in
+        let some : length evaluated ≤ 1333333 = omega (arith, long, few) in
+        let eight : 8 * length evaluated ≤ 8 * 1333333 = omega (arith, some) in
+        let products : length choices * (8 * length evaluated) ≤ 100 * (8 * 1333333) = mul-le-mul half eight in
+        let comparisons : length choices * length evaluated ≤ 100 * 1333333 = mul-le-mul half some in
+        record {
+          few = asked .readable .few;
+          whole = long;
+          all = asked .all;
+          room = record {
+            comparisons = omega (arith, ap (λ (x : Tallies.Tally). x .comparisons) (e .1), le .0, few);
+            products = omega (arith, ap (λ (x : Tallies.Tally). x .products) (e .1), le .1, few);
+            rounds = omega (arith, ap (λ (x : Tallies.Tally). x .rounds) (e .1), le .2);
+          };
+        }
+
+    pub stepped : (l : Left) → l ≡ rounds 0 (length choices) (subsets 3 n) evaluated (counted t) → l ≡ leftBy 0 3 n (entry M n) (entry W n) s
+    unfolding leftBy
+    stepped l el =
+        el ∙ ap (λ (k : ℕ). rounds 0 k (subsets 3 n) evaluated (counted t)) (asked .all)
+        ∙ ap₂ (λ (ws : List ℕ) (u : Tallies.Tally). rounds 0 (roundCount n) (subsets 3 n) ws u) (e .0) (e .1)

@@ -1,0 +1,92 @@
+-- `planner::make` meets its contract. Assumes nothing.
+use native.Mathlib.Omega.{arith}
+use Rattle.planner.proofs.MadePlan.{front, weights-front, choices-front, asks-steps, choices-part, asks-resolve, plan-is, tables-are}
+use borrow.Author.Needs.{needs}
+use Rattle.planner.proofs.make.Statement.{statement}
+use Rattle.planner.proofs.make.Tie as tie
+use Rattle.planner.proofs.make.Reads as reads
+use Rattle.planner.proofs.make.Lts as lts
+use Rattle.cursor.proofs.count.Reads as count-reads
+use Rattle.planner.proofs.steps.Reads as steps-reads
+use Rattle.resolution.proofs.resolve.Reads as resolve-reads
+
+count-requires : tie.Need-count-requires
+count-requires c κs = search needs
+
+slice-relend-prefix-steps : tie.Need-slice-relend-prefix-steps
+slice-relend-prefix-steps c = search needs
+
+slice-aggregate-steps : tie.Need-slice-aggregate-steps
+slice-aggregate-steps c = weights-front _ _ _ _ _ (c .before .before .before .before .before .before .before .before .before .before .pre) _ (c .before .count .ensures)
+
+slice-relend-prefix-steps-2 : tie.Need-slice-relend-prefix-steps-2
+slice-relend-prefix-steps-2 c = search needs
+
+slice-aggregate-steps-2 : tie.Need-slice-aggregate-steps-2
+slice-aggregate-steps-2 c = choices-front _ _ _ _ _ (c .before .before .before .before .before .before .before .before .before .before .before .pre) _ (c .before .before .count .ensures)
+
+steps-requires : tie.Need-steps-requires
+steps-requires c κs = asks-steps _ _ _ _ _ (c .before .before .before .before .before .before .before .before .before .before .before .pre) _ (c .before .before .count .ensures)
+
+slice-reshare-prefix-resolve : tie.Need-slice-reshare-prefix-resolve
+slice-reshare-prefix-resolve c = search needs
+
+slice-aggregate-resolve : tie.Need-slice-aggregate-resolve
+slice-aggregate-resolve c = choices-part _ _ _ _ _ (c .before .before .before .before .before .before .before .before .before .before .before .before .before .before .before .before .before .pre) _ (c .before .before .before .before .before .before .before .before .count .ensures) _ _ _ (c .before .before .before .before .before .steps .ensures)
+
+slice-relend-prefix-resolve : tie.Need-slice-relend-prefix-resolve
+slice-relend-prefix-resolve c = search needs
+
+slice-aggregate-resolve-2 : tie.Need-slice-aggregate-resolve-2
+slice-aggregate-resolve-2 c = front _ _ (c .before .before .before .before .before .before .before .before .before .before .before .before .before .before .before .before .before .before .pre .donors)
+
+slice-relend-prefix-resolve-2 : tie.Need-slice-relend-prefix-resolve-2
+slice-relend-prefix-resolve-2 c = search needs
+
+slice-aggregate-resolve-3 : tie.Need-slice-aggregate-resolve-3
+slice-aggregate-resolve-3 c = front _ _ (c .before .before .before .before .before .before .before .before .before .before .before .before .before .before .before .before .before .before .before .pre .recipients)
+
+resolve-requires : tie.Need-resolve-requires
+resolve-requires c κs = asks-resolve _ _ _ _ _ (c .before .before .before .before .before .before .before .before .before .before .before .before .before .before .before .before .before .before .before .before .pre) _ (c .before .before .before .before .before .before .before .before .before .before .before .count .ensures) _ _ _ (c .before .before .before .before .before .before .before .before .steps .ensures)
+
+same-length : tie.Need-same-length
+same-length c = search needs
+
+same-length-2 : tie.Need-same-length-2
+same-length-2 c = search needs
+
+same-length-3 : tie.Need-same-length-3
+same-length-3 c = search needs
+
+same-length-4 : tie.Need-same-length-4
+same-length-4 c = search needs
+
+same-length-5 : tie.Need-same-length-5
+same-length-5 c = search needs
+
+returns : tie.Need-returns
+returns c = (plan-is _ _ _ _ _ (c .before .before .before .before .before .before .before .before .before .before .before .before .before .before .before .before .before .before .before .before .before .before .before .before .before .before .before .pre) _ (c .before .before .before .before .before .before .before .before .before .before .before .before .before .before .before .before .before .before .count .ensures) _ _ _ (c .before .before .before .before .before .before .before .before .before .before .before .before .before .before .before .steps .ensures) _ _ _ _ (c .before .before .before .before .before .before .resolve .ensures), tables-are _ _ _ _ _ (c .before .before .before .before .before .before .before .before .before .before .before .before .before .before .before .before .before .before .before .before .before .before .before .before .before .before .before .pre) _ (c .before .before .before .before .before .before .before .before .before .before .before .before .before .before .before .before .before .before .count .ensures) _ _ _ (c .before .before .before .before .before .before .before .before .before .before .before .before .before .before .before .steps .ensures) _ _ _ _ (c .before .before .before .before .before .before .resolve .ensures))
+
+pub make-spec : {M : Type 1} → statement M
+make-spec =
+    tie.close
+    (tie.spec
+    count-requires
+    slice-relend-prefix-steps
+    slice-aggregate-steps
+    slice-relend-prefix-steps-2
+    slice-aggregate-steps-2
+    steps-requires
+    slice-reshare-prefix-resolve
+    slice-aggregate-resolve
+    slice-relend-prefix-resolve
+    slice-aggregate-resolve-2
+    slice-relend-prefix-resolve-2
+    slice-aggregate-resolve-3
+    resolve-requires
+    same-length
+    same-length-2
+    same-length-3
+    same-length-4
+    same-length-5
+    returns)

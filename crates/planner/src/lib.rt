@@ -1,0 +1,221 @@
+// The planning call.
+use gates::Tally;
+use refusal::Refusal;
+use refusal::Verdict;
+ghost use mathlib.Core.Path.{_≡_};
+ghost use Prim.Native.Nat.{_*_, _≤_, _<_};
+ghost use lib.Dec.{ltb};
+ghost use lib.ListN.{length};
+ghost use Rattle.laws.specs.Below.{anyBelow};
+ghost use Rattle.refusal.specs.Fault.{refuse, _then_};
+ghost use Rattle.refusal.specs.Answer.{finished, outcome};
+ghost use Rattle.refusal.specs.Number.{faultAt};
+ghost use Rattle.greedy.specs.Rounds.{left};
+ghost use Rattle.exchange.specs.Subsets.{entry};
+ghost use Rattle.exchange.specs.Planning.{Plan, leftBy, tableFault};
+ghost use Rattle.exchange.specs.Promises.{Guarantee};
+ghost use Rattle.gates.specs.Counts.{counted};
+ghost use Rattle.planner.specs.Tables.{tables, lentIn, planningOf, plannedBy, answerOf};
+ghost use Rattle.planner.specs.Checks.{shortToRead, shortToFill, Stepping, Checked, planOf, madeOf};
+
+// "The result carries the plan's weight, number of cycles and tally."
+pub struct Planned {
+    pub weight: u64,
+    pub cycles: usize,
+    pub tally: Tally,
+}
+
+pub enum Planning {
+    Made(Planned),
+    Refused(Refusal),
+}
+
+// 4, then 9 of the tables that are read, by their lengths.
+fn readable(n: usize, m: usize, w: usize, shuffle: usize) -> Verdict
+    ensures { λ r. ⌜ faultAt 0 r ≡ (refuse 4 0 (ltb 200 n) then shortToRead n m w shuffle) ⌝ }
+{
+    if n > 200 {
+        return Verdict::Faulty(Refusal::TooManyPairs);
+    }
+    if m < n * n {
+        return Verdict::Faulty(Refusal::TooShort);
+    }
+    if w < n * n {
+        return Verdict::Faulty(Refusal::TooShort);
+    }
+    if shuffle < n {
+        return Verdict::Faulty(Refusal::TooShort);
+    }
+    Verdict::Sound
+}
+
+// 9 of the tables that are to be filled, by their lengths.
+fn fillable(
+    n: usize,
+    weights: usize,
+    choices: usize,
+    donors: usize,
+    recipients: usize,
+    records: usize,
+) -> Verdict
+    requires { ⌜ n ≤ 200 ⌝ }
+    ensures { λ r. ⌜ faultAt 0 r ≡ shortToFill n weights choices donors recipients records ⌝ }
+{
+    if weights < cursor::count(n) {
+        return Verdict::Faulty(Refusal::TooShort);
+    }
+    if choices < n / 2 {
+        return Verdict::Faulty(Refusal::TooShort);
+    }
+    if donors < n {
+        return Verdict::Faulty(Refusal::TooShort);
+    }
+    if recipients < n {
+        return Verdict::Faulty(Refusal::TooShort);
+    }
+    if records < 3 * (n / 2) {
+        return Verdict::Faulty(Refusal::TooShort);
+    }
+    Verdict::Sound
+}
+
+// Is an entry of row i above 1?
+fn above_one(n: usize, m: &[u8], i: usize) -> bool
+    requires { ⌜ (i < n) × (n ≤ 200) × (n * n ≤ length (now m)) ⌝ }
+    ensures { λ r. ⌜ r ≡ anyBelow n (λ j. ltb 1 (entry (now (m .entry)) n i j)) ⌝ }
+{
+    let mut j: usize = 0;
+    while j < n {
+        if evaluation::compatible(m, n, i, j) > 1 {
+            return true;
+        }
+        j += 1;
+    }
+    false
+}
+
+// 10: an M entry above 1, or M(i, i) not 0.
+fn compatibility(n: usize, m: &[u8]) -> Verdict
+    requires { ⌜ (n ≤ 200) × (n * n ≤ length (now m)) ⌝ }
+    ensures { λ r. ⌜ faultAt 0 r ≡ tableFault n (now (m .entry)) ⌝ }
+{
+    let mut i: usize = 0;
+    while i < n {
+        if above_one(n, m, i) {
+            return Verdict::Faulty(Refusal::NotCompatibility);
+        }
+        if evaluation::compatible(m, n, i, i) != 0 {
+            return Verdict::Faulty(Refusal::NotCompatibility);
+        }
+        i += 1;
+    }
+    Verdict::Sound
+}
+
+// Evaluation, then all rounds; the tally begins at 0.
+fn steps(
+    n: usize,
+    m: &[u8],
+    w: &[u16],
+    s: &[u16],
+    weights: &mut [u32],
+    choices: &mut [u32],
+) -> Tally
+    requires { ⌜ Stepping n (now m) (now w) (now s) (now weights) (now choices) ⌝ }
+    ensures { λ r. ⌜ left (now (weights .exit)) (now (choices .exit)) (counted r) ≡ leftBy 0 3 n (entry (now (m .entry)) n) (entry (now (w .entry)) n) (now (s .entry)) ⌝ }
+{
+    let begun = Tally {
+        comparisons: 0,
+        products: 0,
+        rounds: 0,
+    };
+    let evaluated = evaluation::evaluate(n, m, w, s, weights, begun);
+    rounds::all_rounds(n, weights, choices, evaluated)
+}
+
+// The plan, from checked input.
+fn make(
+    n: usize,
+    m: &[u8],
+    w: &[u16],
+    s: &[u16],
+    weights: &mut [u32],
+    choices: &mut [u32],
+    donors: &mut [u16],
+    recipients: &mut [u16],
+    records: &mut [u16],
+) -> Planned
+    requires { ⌜ Checked n (now m) (now w) (now s) (tables (now weights) (now choices) (now donors) (now recipients) (now records)) ⌝ }
+    ensures { λ r. ⌜ (plannedBy r ≡ planOf n (now (m .entry)) (now (w .entry)) (now (s .entry))) × (tables (now (weights .exit)) (now (choices .exit)) (now (donors .exit)) (now (recipients .exit)) (now (records .exit)) ≡ madeOf n (now (m .entry)) (now (w .entry)) (now (s .entry)) (tables (now (weights .entry)) (now (choices .entry)) (now (donors .entry)) (now (recipients .entry)) (now (records .entry)))) ⌝ }
+{
+    let all = cursor::count(n);
+    let rounds = n / 2;
+    let tally = steps(n, m, w, s, &mut weights[..all], &mut choices[..rounds]);
+    let resolved = resolution::resolve(
+        n,
+        m,
+        w,
+        s,
+        &choices[..rounds],
+        &mut donors[..n],
+        &mut recipients[..n],
+        records,
+    );
+    Planned {
+        weight: resolved.weight as u64,
+        cycles: resolved.cycles,
+        tally: tally,
+    }
+}
+
+// Plans the pool of n pairs whose tables are m and w, with the shuffle: "planning checks 4, 9, 8, 10".
+pub fn plan(
+    n: usize,
+    m: &[u8],
+    w: &[u16],
+    shuffle: &[u16],
+    weights: &mut [u32],
+    choices: &mut [u32],
+    donors: &mut [u16],
+    recipients: &mut [u16],
+    records: &mut [u16],
+) -> Planning
+    ensures { λ r. ⌜ outcome (answerOf r) (tables (now (weights .exit)) (now (choices .exit)) (now (donors .exit)) (now (recipients .exit)) (now (records .exit))) ≡ planningOf n (now (m .entry)) (now (w .entry)) (now (shuffle .entry)) (tables (now (weights .entry)) (now (choices .entry)) (now (donors .entry)) (now (recipients .entry)) (now (records .entry))) ⌝ }
+    ensures guarantee { λ r. ⌜ ((p : Plan) → answerOf r ≡ finished p → Guarantee n (now (m .entry)) (now (w .entry)) (now (shuffle .entry)) p (lentIn (tables (now (weights .exit)) (now (choices .exit)) (now (donors .exit)) (now (recipients .exit)) (now (records .exit))))) ⌝ }
+{
+    match readable(n, m.len(), w.len(), shuffle.len()) {
+        Verdict::Faulty(why) => {
+            return Planning::Refused(why);
+        }
+        Verdict::Sound => {}
+    }
+    match fillable(
+        n,
+        weights.len(),
+        choices.len(),
+        donors.len(),
+        recipients.len(),
+        records.len(),
+    ) {
+        Verdict::Faulty(why) => {
+            return Planning::Refused(why);
+        }
+        Verdict::Sound => {}
+    }
+    match checks::shuffle(shuffle, n) {
+        Verdict::Faulty(why) => {
+            return Planning::Refused(why);
+        }
+        Verdict::Sound => {}
+    }
+    match compatibility(n, m) {
+        Verdict::Faulty(why) => {
+            return Planning::Refused(why);
+        }
+        Verdict::Sound => {}
+    }
+    let made = make(
+        n, m, w, shuffle, weights, choices, donors, recipients, records,
+    );
+    Planning::Made(made)
+}
