@@ -1,7 +1,7 @@
 -- The theorems of this crate, from the leaves up. `Ordered` and `Published`: the published order. `Weighed` and `Evaluated`: the weights of
 -- cycles and subsets. `Seated`: the shuffle and its inverse. `Charged`, `Sets` and `Planned`: the planned cycles against every rival set.
 -- `Tallied`: the closed form. `Loop` and `Shuffled`: Algorithm 1. `Partners`: donors and recipients. `Checked`: what planning checks.
--- `Guaranteed`: the guarantee for every plan made. `AllPools`: k1 to k12.
+-- `Guaranteed`: the guarantee for every plan made. `Diagonal`: W(i, i) is not read. `AllPools`: k1 to k12.
 pub mod Ordered
 pub mod Published
 pub mod Weighed
@@ -16,4 +16,5 @@ pub mod Shuffled
 pub mod Partners
 pub mod Checked
 pub mod Guaranteed
+pub mod Diagonal
 pub mod AllPools

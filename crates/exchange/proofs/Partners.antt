@@ -1,14 +1,14 @@
--- Donors and recipients: each other's inverse, and those of Algorithm 1 with the shuffle undone. Assumes nothing.
+-- Donors and recipients: the order of the cycles, each other's inverse, and those of Algorithm 1 with the shuffle undone. Assumes nothing.
 use Prim.Native.Nat.{ℕ, zero, suc, _≤_, _<_}
 use mathlib.Core.Bool.{Bool, true, false, cond}
-use mathlib.Core.List.{List, [], _∷_, _++_, map, flatMap, List·Memᴰ, List·Memᴰ·head, List·Memᴰ·tail}
+use mathlib.Core.List.{List, [], _∷_, _++_, map, flatMap, List·Memᴰ, List·Memᴰ·head, List·Memᴰ·tail, Memᴰ·cast, Memᴰ·append-left, Memᴰ·append-right}
 use mathlib.Core.Logic.{inl, inr}
 use mathlib.Core.Path.{_≡_, refl, sym, ap, ap₂, _∙_}
 use native.Mathlib.Omega.{arith}
 use native.Mathlib.Nat.{eq-zero-or-pos}
 use native.Mathlib.Decide.{decLt}
 use lib.Dec.{eqb, leb}
-use lib.ListN.{length, getD, List·getD-append}
+use lib.ListN.{length, getD, length-append, List·getD-append}
 use lib.Seq.{getD-at}
 use borrow.Author.Tests.{lt-ltb, le-ltb, eq-eqb, ne-eqb, leb-true, le-leb, lt-leb}
 use Rattle.laws.specs.Below.{table, one, Once}
@@ -17,7 +17,7 @@ use Rattle.greedy.proofs.Counts.{times, NoneTwice, AllBelow, Alike, one-eq, sam
 use Rattle.exchange.specs.Subsets.{Edge, along, edges, pairsAt}
 use Rattle.exchange.specs.Resolution.{recipientBy, donorBy, recipientTable, donorTable}
 use Rattle.exchange.specs.Algorithm1 as Algorithm1
-use Rattle.exchange.specs.Promises.{Consistent}
+use Rattle.exchange.specs.Promises.{GivingOrder, Consistent}
 use Rattle.exchange.specs.Rivals.{Each}
 use Rattle.exchange.proofs.Ordered.{each-append}
 use Rattle.exchange.proofs.Seated.{Seated, length-table}
@@ -172,6 +172,41 @@ unfolding flatMap
 edges-all n [] h = tt
 edges-all n (c ∷ cs) h = each-append (Inside n) (edges c) (flatMap edges cs) (edges-inside n c (below-pool n c (h .0))) (edges-all n cs (h .1))
 
+-- ---- the edge from a place of a cycle to the next, and from the last to the first
+
+abbrev edge : ℕ → ℕ → Edge
+edge a b = record { donor = a; patient = b }
+
+along-at : (xs : List ℕ) (q : ℕ) → suc q < length xs → List·Memᴰ (edge (getD xs q 0) (getD xs (suc q) 0)) (along xs)
+unfolding along
+along-at [] q h = absurd (omega arith)
+along-at (a ∷ []) q h = absurd (omega arith)
+along-at (a ∷ b ∷ xs) zero h = List·Memᴰ·head refl
+along-at (a ∷ b ∷ xs) (suc q) h = List·Memᴰ·tail (along-at (b ∷ xs) q (omega arith))
+
+edge-next : (c : List ℕ) (q : ℕ) → suc q < length c → List·Memᴰ (edge (getD c q 0) (getD c (suc q) 0)) (edges c)
+unfolding edges
+edge-next [] q h = absurd (omega arith)
+edge-next (a ∷ c) q h = Memᴰ·cast
+    (ap₂ edge (sym (List·getD-append (a ∷ c) (a ∷ []) 0 q (omega arith))) (sym (List·getD-append (a ∷ c) (a ∷ []) 0 (suc q) h)))
+    (along-at (a ∷ c ++ (a ∷ [])) q (omega (arith, length-append (a ∷ c) (a ∷ []))))
+
+edge-last : (c : List ℕ) (q : ℕ) → suc q ≡ length c → List·Memᴰ (edge (getD c q 0) (getD c 0 0)) (edges c)
+unfolding edges
+edge-last [] q h = absurd (omega arith)
+edge-last (a ∷ c) q h = Memᴰ·cast
+    (ap₂ edge (sym (List·getD-append (a ∷ c) (a ∷ []) 0 q (omega arith))) (sym (getD-at (a ∷ c) a [] 0 (suc q) (sym h))))
+    (along-at (a ∷ c ++ (a ∷ [])) q (omega (arith, length-append (a ∷ c) (a ∷ []))))
+
+mem-all : (e : Edge) (c : List ℕ) (cs : List (List ℕ)) → List·Memᴰ c cs → List·Memᴰ e (edges c) → List·Memᴰ e (flatMap edges cs)
+unfolding flatMap
+mem-all e c (d ∷ cs) (List·Memᴰ·head q) k = Memᴰ·append-left (flatMap edges cs) (rw q at k)
+mem-all e c (d ∷ cs) (List·Memᴰ·tail m) k = Memᴰ·append-right (edges d) (mem-all e c cs m k)
+
+each-is : {A : Type 0} (P : A → Type 0) (xs : List A) → ((x : A) → List·Memᴰ x xs → P x) → Each P xs
+each-is P [] h = tt
+each-is P (x ∷ xs) h = (h x (List·Memᴰ·head refl), each-is P xs (λ y k. h y (List·Memᴰ·tail k)))
+
 -- ---- in exactly one cycle
 
 joined-at : (cs : List (List ℕ)) (k i : ℕ) → times i (getD cs k []) ≤ times i (joined cs)
@@ -280,6 +315,19 @@ module _ (n : ℕ) (cs : List (List ℕ)) (below : Each (AllBelow n) cs) (once :
       let k : 1 ≤ times i (to es) = omega (arith, to-all cs i) in
       omega (arith, donor-turned es n i, given n (map turned es) (each-turned n es inside) turned-once i (rw (from-turned es) k))
 
+  donor-known : (i : ℕ) → donorBy es n i ≤ n
+  donor-known i = elim (eq-zero-or-pos (times i (from (map turned es)))) [
+    | inl z ↦ omega (arith, donor-turned es n i, absent (map turned es) n i z)
+    | inr z ↦ omega (arith, donor-turned es n i, given n (map turned es) (each-turned n es inside) turned-once i z)
+  ]
+
+  -- the two ends of an edge
+  gives-to : (e : Edge) → List·Memᴰ e es → recipientBy es n (e .donor) ≡ e .patient
+  gives-to e k = present es n e k gives-once
+
+  receives-from : (e : Edge) → List·Memᴰ e es → donorBy es n (e .patient) ≡ e .donor
+  receives-from e k = donor-turned es n (e .patient) ∙ present (map turned es) n (turned e) (mem-turned e es k) turned-once
+
   pub consistent : (donors recipients : List ℕ) → ((i : ℕ) → i < n → getD donors i 0 ≡ donorBy (flatMap edges cs) n i)
       → ((i : ℕ) → i < n → getD recipients i 0 ≡ recipientBy (flatMap edges cs) n i) → Consistent n cs donors recipients
   unfolding es
@@ -295,8 +343,21 @@ module _ (n : ℕ) (cs : List (List ℕ)) (below : Each (AllBelow n) cs) (once :
     inOne = λ i h e. in-one i cs once (gives-in i (omega (arith, r i h)));
     inNone = λ i k h e. not-among i (getD cs k []) (absent-at i k h e);
     known = λ i h. omega (arith, r i h, recipient-known i);
+    donorKnown = λ i h. omega (arith, d i h, donor-known i);
+    inOrder = each-is (λ (c : List ℕ). GivingOrder c donors recipients) cs (λ c k. record {
+      gives = λ q h. recipient-of _ (mem-all _ c cs k (edge-next c q h));
+      closes = λ q h. recipient-of _ (mem-all _ c cs k (edge-last c q h));
+      receives = λ q h. donor-of _ (mem-all _ c cs k (edge-next c q h));
+      closed = λ q h. donor-of _ (mem-all _ c cs k (edge-last c q h));
+    });
   }
     where
+      recipient-of : (e : Edge) → List·Memᴰ e es → getD recipients (e .donor) 0 ≡ e .patient
+      recipient-of e k = r (e .donor) (each-mem (Inside n) e es k inside .0) ∙ gives-to e k
+
+      donor-of : (e : Edge) → List·Memᴰ e es → getD donors (e .patient) 0 ≡ e .donor
+      donor-of e k = d (e .patient) (each-mem (Inside n) e es k inside .1) ∙ receives-from e k
+
       absent-at : (i k : ℕ) → i < n → getD recipients i 0 ≡ n → times i (getD cs k []) ≡ 0
       absent-at i k h e = elim (eq-zero-or-pos (times i (getD cs k []))) [
         | inl z ↦ z

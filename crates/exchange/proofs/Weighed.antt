@@ -121,7 +121,7 @@ each-order zero [] e = ((λ p. refl), tt)
 each-order zero (x ∷ t) e = absurd (omega arith)
 each-order (suc k) t e = each-eachFirst (λ l. orders k l) k (λ l q. each-order k l q) [] t (omega arith)
 
-each-cycle : (t : List ℕ) → Each (λ (c : List ℕ). Alike c t) (cycles t)
+pub each-cycle : (t : List ℕ) → Each (λ (c : List ℕ). Alike c t) (cycles t)
 unfolding cycles
 each-cycle [] = tt
 each-cycle (u ∷ t) = each-map (λ (c : List ℕ). Alike c t) (λ (c : List ℕ). Alike c (u ∷ t)) (λ (l : List ℕ). u ∷ l)

@@ -16,7 +16,7 @@ use Rattle.exchange.specs.Resolution.{pairsOf, total}
 use Rattle.exchange.specs.Planning.{Lent, Plan, roundCount, planning}
 use Rattle.exchange.specs.Algorithm1 as Algorithm1
 use Rattle.exchange.specs.Faultless.{FaultlessInput, PlanFault}
-use Rattle.exchange.specs.Rivals.{ExchangeSet, credited}
+use Rattle.exchange.specs.Rivals.{Each, ExchangeSet, credited}
 
 -- ## The planned cycles
 
@@ -56,6 +56,15 @@ pub record TallyOf (n : ℕ) (t : Tally) : Type 0 where
 
 -- ## Donors and recipients
 
+-- one planned cycle c in the two tables, place by place
+pub record GivingOrder (c donors recipients : List ℕ) : Type 0 where
+  -- "the donor of a place gives to the patient of the next", and that of the last place to the patient of the first
+  pub gives : (q : ℕ) → suc q < length c → getD recipients (getD c q 0) 0 ≡ getD c (suc q) 0
+  pub closes : (q : ℕ) → suc q ≡ length c → getD recipients (getD c q 0) 0 ≡ getD c 0 0
+  -- "the donor table who gives to patient i"
+  pub receives : (q : ℕ) → suc q < length c → getD donors (getD c (suc q) 0) 0 ≡ getD c q 0
+  pub closed : (q : ℕ) → suc q ≡ length c → getD donors (getD c 0 0) 0 ≡ getD c q 0
+
 -- the partners in cycles cs of n pairs
 pub record Consistent (n : ℕ) (cs : List (List ℕ)) (donors recipients : List ℕ) : Type 0 where
   -- the two tables are each other's inverse
@@ -65,6 +74,9 @@ pub record Consistent (n : ℕ) (cs : List (List ℕ)) (donors recipients : List
   pub inOne : (i : ℕ) → i < n → getD recipients i 0 < n → Once (length cs) (λ k. one (among i (getD cs k []))) 1
   pub inNone : (i k : ℕ) → i < n → getD recipients i 0 ≡ n → one (among i (getD cs k [])) ≡ 0
   pub known : (i : ℕ) → i < n → getD recipients i 0 ≤ n
+  pub donorKnown : (i : ℕ) → i < n → getD donors i 0 ≤ n
+  -- "For each chosen cycle", the partners are those of its order
+  pub inOrder : Each (λ (c : List ℕ). GivingOrder c donors recipients) cs
 
 -- ## The guarantee, for a plan p that was made and what it left in the lent tables
 
@@ -128,6 +140,14 @@ SameTally =
     → planning n M W s t .answer ≡ finished p
     → planning n M′ W′ s′ t′ .answer ≡ finished p′
     → p .tally ≡ p′ .tally
+
+-- "W(i, i) is not read": equally long weight tables with the same entries for different pairs have the same answer, and leave the same
+abbrev pub DiagonalUnread : Type 0
+DiagonalUnread =
+    (n : ℕ) (M W W′ s : List ℕ) (t : Lent)
+    → length W ≡ length W′
+    → ((i j : ℕ) → i < n → j < n → (i ≡ j → ⊥) → entry W n i j ≡ entry W′ n i j)
+    → planning n M W s t ≡ planning n M W′ s t
 
 -- Algorithm 1's loop has ended: nothing above the floor is left, whatever the graph
 abbrev pub LoopEnds : Type 0

@@ -1,0 +1,168 @@
+-- The weight of a pair's donor for its own patient is not read. Assumes nothing.
+use Prim.Native.Nat.{ℕ, _+_, _*_, _≤_, _<_}
+use mathlib.Core.Bool.{Bool, true, false, cond}
+use mathlib.Core.List.{List, [], _∷_, _++_, map}
+use mathlib.Core.Path.{_≡_, refl, ap, ap₂, _∙_}
+use native.Mathlib.Omega.{arith}
+use lib.Dec.{ltb}
+use lib.ListN.{length, getD, length-map}
+use Rattle.refusal.specs.Fault.{Fault, none, fault}
+use Rattle.refusal.specs.Answer.{finished, Outcome, outcome, unless}
+use Rattle.greedy.specs.Places.{firstAt}
+use Rattle.greedy.specs.Tally.{tally}
+use Rattle.greedy.specs.Rounds.{Left, rounds}
+use Rattle.greedy.proofs.Counts.{times, NoneTwice, AllBelow, Alike, one-same, one-eq, times-append, times-cons, alike-length}
+use Rattle.exchange.specs.Subsets.{subsets, cycles, Edge, along, edges, entry, productOf, sumOf, weigh, firstOf, heaviest, pairsAt, bestCycle, subsetWeight, evaluating}
+use Rattle.exchange.specs.Resolution.{resolved, total}
+use Rattle.exchange.specs.Planning.{Lent, Plan, plan, roundCount, planFault, shortFault, leftBy, plannedBy, filledLent, planning}
+use Rattle.exchange.specs.Rivals.{Each, Exchange}
+use Rattle.exchange.specs.Promises.{DiagonalUnread}
+use Rattle.exchange.proofs.Ordered.{Subset, subsets-all, each-at, each-mono}
+use Rattle.exchange.proofs.Weighed.{each-cycle}
+use Rattle.exchange.proofs.Seated.{Seated, seated, pairs-below, pairs-times}
+use Rattle.exchange.proofs.Charged.{bestCycle-alike}
+use Rattle.exchange.proofs.Sets.{Inside, pool-below, below-pool, edges-inside, different-once}
+use Rattle.exchange.proofs.Planned.{planned-set}
+use Rattle.exchange.proofs.Checked.{checked}
+
+-- ---- a cycle of two or more different pairs has edges between different pairs
+
+abbrev BetweenTwo : Edge → Type 0
+BetweenTwo e = e .donor ≡ e .patient → ⊥
+
+along-between : (c : List ℕ) → NoneTwice c → Each BetweenTwo (along c)
+unfolding along times
+along-between [] h = tt
+along-between (a ∷ []) h = tt
+along-between (a ∷ b ∷ c) h = ((λ e. omega (arith, h a, one-same a, one-eq a b e)), along-between (b ∷ c) (λ p. omega (arith, h p)))
+
+edges-between : (c : List ℕ) → 2 ≤ length c → NoneTwice c → Each BetweenTwo (edges c)
+unfolding edges along times
+edges-between [] k h = tt
+edges-between (a ∷ []) k h = absurd (omega arith)
+edges-between (a ∷ b ∷ c) k h = (
+  λ e. omega (arith, h a, one-same a, one-eq a b e),
+  along-between (b ∷ c ++ (a ∷ [])) (λ p. omega (arith, h p, times-append p (b ∷ c) (a ∷ []), times-cons p b c, times-cons p a [])),
+)
+
+-- ---- the heaviest by equal weights
+
+module _ (g h : List ℕ → ℕ) where
+  firstOf-agree : (c : List ℕ) (cs : List (List ℕ)) → g c ≡ h c → Each (λ (d : List ℕ). g d ≡ h d) cs → firstOf g c cs ≡ firstOf h c cs
+  unfolding firstOf
+  firstOf-agree c [] e k = refl
+  firstOf-agree c (d ∷ cs) e k =
+      ap₂ (λ (x y : ℕ). firstOf g (cond (ltb x y) d c) cs) e (k .0)
+      ∙ firstOf-agree (cond (ltb (h c) (h d)) d c) cs (pick (ltb (h c) (h d))) (k .1)
+    where
+      pick : (b : Bool) → g (cond b d c) ≡ h (cond b d c)
+      pick true = k .0
+      pick false = e
+
+  heaviest-agree : (cs : List (List ℕ)) → Each (λ (d : List ℕ). g d ≡ h d) cs → heaviest g cs ≡ heaviest h cs
+  unfolding heaviest
+  heaviest-agree [] k = refl
+  heaviest-agree (c ∷ cs) k = firstOf-agree c cs (k .0) (k .1)
+
+-- ---- weights w and v that are equal for different pairs
+
+module _ (n : ℕ) (m w v : ℕ → ℕ → ℕ) (agree : (i j : ℕ) → i < n → j < n → (i ≡ j → ⊥) → w i j ≡ v i j) where
+  sum-agree : (es : List Edge) → Each (Inside n) es → Each BetweenTwo es → sumOf w es ≡ sumOf v es
+  unfolding sumOf
+  sum-agree [] h k = refl
+  sum-agree (e ∷ es) h k = ap₂ _+_ (agree (e .donor) (e .patient) (h .0 .0) (h .0 .1) (k .0)) (sum-agree es (h .1) (k .1))
+
+  weigh-agree : (c : List ℕ) → 2 ≤ length c → NoneTwice c → AllBelow n c → weigh m w c ≡ weigh m v c
+  unfolding weigh
+  weigh-agree c k o b =
+      ap (λ (z : ℕ). productOf m (edges c) * z) (sum-agree (edges c) (edges-inside n c (below-pool n c b)) (edges-between c k o))
+
+  total-agree : (l : ℕ) (cs : List (List ℕ)) → Each (Exchange l n m) cs → total m w cs ≡ total m v cs
+  unfolding total
+  total-agree l [] h = refl
+  total-agree l (c ∷ cs) h =
+      ap₂ _+_ (weigh-agree c (h .0 .least) (different-once c (h .0 .different)) (pool-below n c (h .0 .pool))) (total-agree l cs (h .1))
+
+  module _ (f l : ℕ) (s : List ℕ) (sh : Seated n s) where
+    -- a cycle of a subset's places
+    score-agree : (c t : List ℕ) → Subset l n t → Alike c t → weigh m w (pairsAt s c) ≡ weigh m v (pairsAt s c)
+    unfolding pairsAt
+    score-agree c t h a =
+        let b : AllBelow n c = λ p k. omega (arith, a p, h .below p k) in
+        weigh-agree (pairsAt s c) (omega (arith, length-map c (λ (p : ℕ). getD s p 0), alike-length n c t (h .below) a, h .least))
+        (λ p. omega (arith, pairs-times n s sh c b p, a (firstAt p s), h .once (firstAt p s))) (pairs-below n s sh c b)
+
+    best-agree : (t : List ℕ) → Subset l n t → bestCycle m w s t ≡ bestCycle m v s t
+    unfolding bestCycle
+    best-agree t h = heaviest-agree (λ c. weigh m w (pairsAt s c)) (λ c. weigh m v (pairsAt s c)) (cycles t)
+        (each-mono (λ (c : List ℕ). Alike c t) (λ (c : List ℕ). weigh m w (pairsAt s c) ≡ weigh m v (pairsAt s c))
+        (λ c a. score-agree c t h a) (cycles t) (each-cycle t))
+
+    weight-agree : (t : List ℕ) → Subset l n t → subsetWeight m w s t ≡ subsetWeight m v s t
+    unfolding subsetWeight
+    weight-agree t h =
+        ap (λ (c : List ℕ). weigh m w (pairsAt s c)) (best-agree t h) ∙ score-agree (bestCycle m v s t) t h (bestCycle-alike m v s t)
+
+    weights-agree : (ss : List (List ℕ)) → Each (Subset l n) ss → map (subsetWeight m w s) ss ≡ map (subsetWeight m v s) ss
+    weights-agree [] h = refl
+    weights-agree (t ∷ ss) h = ap₂ _∷_ (weight-agree t (h .0)) (weights-agree ss (h .1))
+
+    best-at : (c : ℕ) → bestCycle m w s (getD (subsets l n) c []) ≡ bestCycle m v s (getD (subsets l n) c [])
+    unfolding bestCycle cycles heaviest
+    best-at = each-at (λ (t : List ℕ). bestCycle m w s t ≡ bestCycle m v s t) (subsets l n) refl
+        (each-mono (Subset l n) (λ (t : List ℕ). bestCycle m w s t ≡ bestCycle m v s t) best-agree (subsets l n) (subsets-all l n))
+
+    resolved-agree : (cs : List ℕ) → resolved m w s (subsets l n) cs ≡ resolved m v s (subsets l n) cs
+    unfolding resolved
+    resolved-agree [] = refl
+    resolved-agree (c ∷ cs) =
+        ap₂ (λ (b : List ℕ) (r : List (List ℕ)). cond (ltb c (length (subsets l n))) (pairsAt s b ∷ r) r) (best-at c) (resolved-agree cs)
+
+    left-agree : leftBy f l n m w s ≡ leftBy f l n m v s
+    unfolding leftBy
+    left-agree =
+        ap (λ (ws : List ℕ). rounds f (roundCount n) (subsets l n) ws (evaluating (subsets l n) (tally 0 0 0)))
+        (weights-agree (subsets l n) (subsets-all l n))
+
+    planned-agree : plannedBy f l n m w s ≡ plannedBy f l n m v s
+    unfolding plannedBy
+    planned-agree =
+        resolved-agree (leftBy f l n m w s .choices) ∙ ap (λ (r : Left). resolved m v s (subsets l n) (r .choices)) left-agree
+
+-- ---- the same answer
+
+fault-agree : (n : ℕ) (M W W′ s : List ℕ) (t : Lent) → length W ≡ length W′ → planFault n M W s t ≡ planFault n M W′ s t
+unfolding planFault shortFault
+fault-agree n M W W′ s t e = rw e
+
+-- what planning leaves with cycles cs of weight x, after rounds that left r; or the refusal
+abbrev ends : ℕ → Lent → Fault → ℕ → List (List ℕ) → Left → Outcome Plan Lent
+ends n t f x cs r = unless f (plan x (length cs) (r .tally)) (filledLent n r cs t) t
+
+pub diagonal-unread : DiagonalUnread
+unfolding planning unless
+diagonal-unread n M W W′ s t e agree =
+    ap (λ (f : Fault). ends n t f (total m w (plannedBy 0 3 n m w s)) (plannedBy 0 3 n m w s) (leftBy 0 3 n m w s)) (fault-agree n M W W′ s t e)
+    ∙ go (planFault n M W′ s t) refl
+  where
+    m : ℕ → ℕ → ℕ
+    m = entry M n
+
+    w : ℕ → ℕ → ℕ
+    w = entry W n
+
+    v : ℕ → ℕ → ℕ
+    v = entry W′ n
+
+    go : (f : Fault) → planFault n M W′ s t ≡ f
+        → ends n t f (total m w (plannedBy 0 3 n m w s)) (plannedBy 0 3 n m w s) (leftBy 0 3 n m w s)
+        ≡ ends n t f (total m v (plannedBy 0 3 n m v s)) (plannedBy 0 3 n m v s) (leftBy 0 3 n m v s)
+    go (fault k o) q = refl
+    go none q =
+        let k = checked n M W′ s t q in
+        let sh : Seated n s = seated n s (k .long .shuffle) (k .eachOnce) in
+        let set = planned-set 0 3 n m v s sh (k .compatible .zeroOrOne) in
+        ap₂ (λ (cs : List (List ℕ)) (r : Left). ends n t none (total m w cs) cs r)
+        (planned-agree n m w v agree 0 3 s sh) (left-agree n m w v agree 0 3 s sh)
+        ∙ ap (λ (x : ℕ). ends n t none x (plannedBy 0 3 n m v s) (leftBy 0 3 n m v s))
+        (total-agree n m w v agree 3 (plannedBy 0 3 n m v s) (set .exchanges))
