@@ -1,12 +1,11 @@
 -- A join by gates. Assumes nothing.
 use Prim.Native.Nat.{ℕ}
 use mathlib.Core.Bool.{Bool, true, false, cond}
-use mathlib.Core.Path.{_≡_, refl, sym, ap, _∙_}
+use mathlib.Core.Path.{_≡_, refl, _∙_}
 use lib.Dec.{eqb, ltb}
 use Rattle.laws.specs.Below.{one}
 use Rattle.gates.proofs.Gates.{pick-by}
 use Rattle.cursor.specs.Cursor.{places}
-use Rattle.cursor.specs.declared.Places.{Places}
 use Rattle.choosing.specs.declared.Best.{Best}
 
 -- a winner from its parts

@@ -1,9 +1,8 @@
 -- The final test, as `choice` makes it. Assumes nothing.
-use Prim.Native.Nat.{ℕ, _+_, _-_, _*_, _≤_, _<_}
+use Prim.Native.Nat.{ℕ, _≤_, _<_}
 use mathlib.Core.Bool.{Bool, true, false, cond}
 use mathlib.Core.List.{List}
-use mathlib.Core.Path.{_≡_, refl, sym, ap, ap₂, _∙_}
-use native.Mathlib.Nat.{le-refl, le-of-eq}
+use mathlib.Core.Path.{_≡_, sym, ap, _∙_}
 use native.Mathlib.Omega.{arith}
 use lib.Dec.{eqb, ltb}
 use lib.ListN.{length}
@@ -19,8 +18,7 @@ use Rattle.gates.proofs.Gates.{pick-by, raised}
 use Rattle.cursor.specs.Cursor.{places, placesAt}
 use Rattle.cursor.specs.declared.Places.{Places}
 use Rattle.cursor.proofs.Order.{past}
-use Rattle.choosing.specs.Parts.{wonBy, chosenBy, Part, Whole}
-use Rattle.choosing.specs.declared.Best.{Best}
+use Rattle.choosing.specs.Parts.{chosenBy, Part, Whole}
 use Rattle.choosing.specs.declared.Won.{Won}
 use Rattle.choosing.specs.declared.Chosen.{Chosen}
 use Rattle.choosing.proofs.Halves.{won, won-number, won-comparisons, won-products}

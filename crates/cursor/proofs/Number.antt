@@ -1,12 +1,12 @@
 -- How many subsets there are. Assumes nothing.
-use Prim.Native.Nat.{ℕ, zero, suc, _+_, _-_, _*_, _/_, _≤_, _<_}
+use Prim.Native.Nat.{ℕ, zero, suc, _+_, _-_, _*_, _≤_}
 use mathlib.Core.List.{[]}
-use mathlib.Core.Path.{_≡_, refl, sym, ap, _∙_}
+use mathlib.Core.Path.{_≡_}
 use native.Mathlib.Nat.{mul-le-mul}
 use native.Mathlib.Omega.{arith}
 use lib.ListN.{length}
 use Rattle.exchange.specs.Subsets.{subsets}
-use Rattle.exchange.specs.Promises.{TallyOf, howMany}
+use Rattle.exchange.specs.Promises.{howMany}
 use Rattle.exchange.proofs.Tallied.{tallied}
 
 -- six times their number, with n, is the cube of n

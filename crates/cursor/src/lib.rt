@@ -12,13 +12,6 @@ pub struct Places {
     pub w: usize,
 }
 
-// No subset: where the cursor stands past the last one.
-pub fn none(n: usize) -> Places
-    ensures { λ r. ⌜ r ≡ placesAt n (length (subsets 3 n)) ⌝ }
-{
-    Places { u: n, v: n, w: n }
-}
-
 // The subset of number 0.
 pub fn first(n: usize) -> Places
     ensures { λ r. ⌜ r ≡ placesAt n 0 ⌝ }
@@ -40,11 +33,7 @@ pub fn next(n: usize, p: Places) -> Places
     let w = p.w;
     if w == n {
         if v + 1 < n {
-            return Places {
-                u: u,
-                v: v + 1,
-                w: n,
-            };
+            return Places { u, v: v + 1, w: n };
         }
         if u + 2 < n {
             return Places {
@@ -56,11 +45,7 @@ pub fn next(n: usize, p: Places) -> Places
         return Places { u: n, v: n, w: n };
     }
     if w + 1 < n {
-        return Places {
-            u: u,
-            v: v,
-            w: w + 1,
-        };
+        return Places { u, v, w: w + 1 };
     }
     if v + 2 < n {
         return Places {

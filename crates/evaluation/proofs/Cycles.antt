@@ -1,14 +1,14 @@
 -- The weight of a cycle. Assumes nothing.
-use Prim.Native.Nat.{ℕ, zero, suc, _+_, _*_, _^_, _≤_, _<_}
+use Prim.Native.Nat.{ℕ, _+_, _*_, _^_, _≤_, _<_}
 use mathlib.Core.List.{List, [], _∷_}
-use mathlib.Core.Path.{_≡_, refl, sym, ap, _∙_}
+use mathlib.Core.Path.{_≡_, sym, _∙_}
 use native.Mathlib.Nat.{mul-le-mul-right, suc-mul}
 use native.Mathlib.Omega.{arith}
 use lib.ListN.{getD}
 use Rattle.exchange.specs.Subsets.{entry, weigh}
 use Rattle.exchange.proofs.Evaluated.{weigh-two, weigh-three}
 use Rattle.gates.proofs.Gates.{bit-times}
-use Rattle.evaluation.specs.Readable.{Readable, Pairs}
+use Rattle.evaluation.specs.Readable.{Pairs}
 
 -- ## An entry of a table of n rows of n
 

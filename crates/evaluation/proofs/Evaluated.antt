@@ -1,16 +1,14 @@
 -- The weights of all subsets, one after another. Assumes nothing.
-use Prim.Native.Nat.{ℕ, zero, suc, _+_, _*_, _^_, _≤_, _<_}
+use Prim.Native.Nat.{ℕ, suc, _+_, _*_, _^_, _≤_, _<_}
 use mathlib.Core.Bool.{Bool, true, false, cond}
-use mathlib.Core.List.{List, [], _∷_, _++_, map}
+use mathlib.Core.List.{List, [], _∷_, map}
 use mathlib.Core.Path.{_≡_, refl, sym, ap, subst, _∙_}
-use native.Mathlib.Nat.{not-suc-le-zero, le-refl}
 use native.Mathlib.Numerals.{add-one}
 use native.Mathlib.Omega.{arith}
 use lib.Dec.{eqb}
 use lib.ListN.{length, getD, take, set, length-map, List·getD-map}
 use lib.Seq.{take-suc, take-all, length-take-le}
 use Rattle.laws.specs.Below.{table}
-use Rattle.laws.specs.Lent.{filled}
 use Rattle.laws.proofs.Below.{table-getD, length-table}
 use Rattle.laws.proofs.Lent.{Filling, filling-none, filling-more, filling-all}
 use Rattle.laws.proofs.Whole.{filled-whole}

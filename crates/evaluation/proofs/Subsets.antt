@@ -1,20 +1,18 @@
 -- The weight of a subset. Assumes nothing.
-use Prim.Native.Nat.{ℕ, zero, suc, _+_, _*_, _^_, _≤_, _<_}
+use Prim.Native.Nat.{ℕ, _≤_}
 use mathlib.Core.Bool.{Bool, true, false, cond}
 use mathlib.Core.List.{List, [], _∷_, map}
 use mathlib.Core.Path.{_≡_, refl, sym, ap, subst, _∙_}
 use native.Mathlib.Omega.{arith}
-use borrow.Author.Tests.{eq-eqb, ne-eqb}
 use lib.Dec.{ltb, eqb}
-use lib.ListN.{length, getD}
+use lib.ListN.{getD}
 use Rattle.exchange.specs.Subsets.{entry, weigh, eachFirst, orders, cycles, firstOf, heaviest, pairsAt, bestCycle, subsetWeight, evaluating}
 use Rattle.laws.specs.Below.{one}
 use Rattle.greedy.specs.Tally.{Tally, raise}
 use Rattle.gates.proofs.Gates.{bit-le, pick-by}
-use Rattle.cursor.specs.Cursor.{InRange, placesOf, below, subsetAt}
+use Rattle.cursor.specs.Cursor.{InRange, subsetAt}
 use Rattle.cursor.specs.declared.Places.{Places}
-use Rattle.cursor.proofs.Order.{Subset, two, three}
-use Rattle.cursor.proofs.Standing.{stands, range-two, range-triple}
+use Rattle.cursor.proofs.Standing.{range-two, range-triple}
 use Rattle.evaluation.specs.Readable.{Readable, Shuffled, Pairs}
 
 -- of two cycles the first, where the second does not weigh more

@@ -1,35 +1,30 @@
 -- The answer of the planning call, and what it leaves. Assumes nothing.
-use Prim.Native.Nat.{ℕ, suc, _+_, _*_, _≤_, _<_}
+use Prim.Native.Nat.{ℕ, suc, _*_, _≤_}
 use mathlib.Core.Bool.{Bool, true, false, cond}
-use mathlib.Core.List.{List, [], _∷_, map, flatMap}
-use mathlib.Core.Path.{_≡_, refl, sym, ap, ap₂, subst, _∙_}
+use mathlib.Core.List.{List, [], _∷_, map}
+use mathlib.Core.Path.{_≡_, sym, ap, ap₂, subst, _∙_}
 use native.Mathlib.Omega.{arith}
 use borrow.Author.Tests.{ltb-false}
 use lib.Dec.{ltb}
 use lib.ListN.{length, getD, length-map}
-use Rattle.laws.specs.Lent.{filled}
 use Rattle.refusal.specs.Fault.{Fault, none, fault, refuse, _then_}
-use Rattle.refusal.specs.Answer.{Answer, finished, refused, Outcome, outcome, unless}
+use Rattle.refusal.specs.Answer.{Answer, finished, refused, Outcome, outcome}
 use Rattle.refusal.specs.Number.{numberOf}
 use Rattle.refusal.specs.declared.Refusal.{Refusal}
 use Rattle.refusal.proofs.Faults.{then-none, none-then, fault-then, then-assoc, refuse-none, unless-none, unless-fault}
 use Rattle.pool.specs.Turned.{shuffleFault, roomFault}
-use Rattle.greedy.specs.Rounds.{Left}
 use Rattle.exchange.specs.Subsets.{subsets, entry, pairsAt, bestCycle}
-use Rattle.exchange.specs.Resolution.{Cycle, recordOf, resolved}
-use Rattle.exchange.specs.Planning.{Lent, lent, Plan, plan, roundCount, leftBy, plannedBy, shortFault, tableFault, planFault, filledLent, planning}
+use Rattle.exchange.specs.Resolution.{recordOf, resolved}
+use Rattle.exchange.specs.Planning.{Lent, lent, Plan, roundCount, leftBy, plannedBy, shortFault, tableFault, planFault, filledLent, planning}
 use Rattle.exchange.specs.Faultless.{FaultlessInput}
 use Rattle.exchange.specs.Promises.{Guarantee}
 use Rattle.exchange.proofs.Checked.{checked}
 use Rattle.exchange.proofs.Seated.{seated}
 use Rattle.exchange.proofs.Guaranteed.{guaranteed, lengths-stay}
-use Rattle.evaluation.specs.Readable.{Readable, Shuffled}
-use Rattle.resolution.specs.Records.{numbers, flat}
 use Rattle.planner.specs.Tables as Code
 use Rattle.planner.specs.Tables.{Tables, tables, cyclesIn, lentIn, lentBack, planningOf, answerOf}
 use Rattle.planner.specs.Checks.{shortToRead, shortToFill, Checked, planOf, madeOf}
 use Rattle.planner.specs.declared.Planned.{Planned}
-use Rattle.planner.specs.declared.Planning.{Planning}
 use Rattle.planner.specs.declared.Planning.the-variants.{Made, Refused}
 use Rattle.planner.proofs.MadePlan.{left-lengths}
 use Rattle.planner.proofs.FlatRecords.{cycles-length, room-flat, put-back, put-records, read-back}

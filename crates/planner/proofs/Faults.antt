@@ -1,19 +1,17 @@
 -- What the checks find. Assumes nothing.
-use Prim.Native.Nat.{ℕ, _+_, _*_, _≤_, _<_}
+use Prim.Native.Nat.{ℕ, _≤_, _<_}
 use mathlib.Core.Bool.{Bool, true, false, not}
 use mathlib.Core.List.{List}
-use mathlib.Core.Path.{_≡_, refl, sym, ap, _∙_}
-use native.Mathlib.Omega.{arith}
+use mathlib.Core.Path.{_≡_, sym, ap, _∙_}
 use borrow.Author.Tests.{lt-ltb, le-ltb}
 use lib.Dec.{eqb, ltb}
 use Rattle.laws.specs.Below.{either, anyBelow}
-use Rattle.laws.proofs.Below.{any-hit, any-more, either-true}
+use Rattle.laws.proofs.Below.{any-hit, either-true}
 use Rattle.refusal.specs.Fault.{Fault, none, fault, refuse, _then_}
 use Rattle.refusal.proofs.Faults.{none-refuse, fault-refuse, none-then, fault-then}
 use Rattle.pool.specs.Turned.{roomFault}
 use Rattle.exchange.specs.Subsets.{entry}
 use Rattle.exchange.specs.Planning.{tableFault}
-use Rattle.planner.specs.Checks.{shortToRead, shortToFill}
 
 -- ## 4 and 9
 

@@ -1,19 +1,18 @@
 -- The plan from checked input. Assumes nothing.
-use Prim.Native.Nat.{ℕ, _+_, _*_, _/_, _^_, _≤_, _<_}
-use mathlib.Core.List.{List, [], _∷_, _++_, map}
-use mathlib.Core.Path.{_≡_, refl, sym, ap, ap₂, subst, _∙_}
+use Prim.Native.Nat.{ℕ, _/_, _≤_}
+use mathlib.Core.List.{List, _++_, map}
+use mathlib.Core.Path.{_≡_, sym, ap, _∙_}
 use native.Mathlib.Omega.{arith}
-use lib.ListN.{length, getD, take, drop, length-map}
+use lib.ListN.{length, take, drop, length-map}
 use lib.Seq.{length-take-le, take-at}
-use Rattle.laws.specs.Below.{table}
 use Rattle.laws.specs.Lent.{filled}
 use Rattle.laws.proofs.Below.{length-table}
 use Rattle.greedy.specs.Tally as Tallies
-use Rattle.greedy.specs.Rounds.{Left, left, rounds}
+use Rattle.greedy.specs.Rounds.{Left, left}
 use Rattle.greedy.proofs.Tallied.{rounds-length}
 use Rattle.exchange.specs.Subsets.{subsets, subsetCount, entry, subsetWeight}
-use Rattle.exchange.specs.Resolution.{resolved, total, donorTable, recipientTable}
-use Rattle.exchange.specs.Planning.{Plan, plan, roundCount, leftBy, plannedBy}
+use Rattle.exchange.specs.Resolution.{total, donorTable, recipientTable}
+use Rattle.exchange.specs.Planning.{plan, roundCount, leftBy, plannedBy}
 use Rattle.gates.specs.Counts.{counted}
 use Rattle.gates.specs.declared.Tally.{Tally}
 use Rattle.resolution.specs.Records.{flat, chosenBy, resultOf}

@@ -1,15 +1,15 @@
 -- Evaluation and all rounds. Assumes nothing.
-use Prim.Native.Nat.{ℕ, _+_, _*_, _/_, _^_, _≤_, _<_}
+use Prim.Native.Nat.{ℕ, _*_, _≤_}
 use mathlib.Core.List.{List, map}
-use mathlib.Core.Path.{_≡_, refl, sym, ap, ap₂, _∙_}
+use mathlib.Core.Path.{_≡_, ap, ap₂, _∙_}
 use native.Mathlib.Nat.{mul-le-mul}
 use native.Mathlib.Omega.{arith}
 use lib.ListN.{length, length-map}
 use Rattle.greedy.specs.Tally as Tallies
-use Rattle.greedy.specs.Rounds.{Left, left, rounds}
+use Rattle.greedy.specs.Rounds.{Left, rounds}
 use Rattle.exchange.specs.Subsets.{subsets, entry, subsetWeight, evaluating}
 use Rattle.exchange.specs.Planning.{roundCount, leftBy}
-use Rattle.gates.specs.Counts.{counted, Room}
+use Rattle.gates.specs.Counts.{counted}
 use Rattle.gates.specs.declared.Tally.{Tally}
 use Rattle.cursor.proofs.Number.{count-le}
 use Rattle.evaluation.specs.Readable.{Evaluating}

@@ -215,7 +215,15 @@ pub fn plan(
         Verdict::Sound => {}
     }
     let made = make(
-        n, m, w, shuffle, weights, choices, donors, recipients, records,
+        n,
+        m,
+        w,
+        shuffle,
+        weights,
+        choices,
+        donors,
+        recipients,
+        records,
     );
     Planning::Made(made)
 }

@@ -1,21 +1,20 @@
 -- The chosen cycles: two or three pairs of the pool. Assumes nothing.
-use Prim.Native.Nat.{ℕ, zero, suc, _+_, _^_, _≤_, _<_}
+use Prim.Native.Nat.{ℕ, _+_, _≤_, _<_}
 use mathlib.Core.Bool.{Bool, true, false, cond}
 use mathlib.Core.List.{List, [], _∷_, _++_}
 use mathlib.Core.Path.{_≡_, refl, sym, ap, subst, _∙_}
 use native.Mathlib.Omega.{arith}
 use borrow.Author.Tests.{eq-eqb, ne-eqb, lt-ltb, le-ltb}
-use lib.Dec.{eqb, ltb}
+use lib.Dec.{ltb}
 use lib.ListN.{length, getD}
-use Rattle.exchange.specs.Subsets.{subsets, entry, weigh, heaviest, pairsAt, bestCycle, subsetWeight}
-use Rattle.exchange.specs.Resolution.{Cycle, resolved, recordOf, pairsOf, total}
+use Rattle.exchange.specs.Subsets.{subsets, entry, weigh, heaviest, pairsAt, bestCycle}
+use Rattle.exchange.specs.Resolution.{resolved, recordOf, pairsOf, total}
 use Rattle.cursor.specs.Cursor.{InRange, subsetAt}
 use Rattle.cursor.specs.declared.Places.{Places}
 use Rattle.cursor.proofs.Order.{Subset, two, three, is-subset}
 use Rattle.cursor.proofs.Standing.{range-two, range-triple}
-use Rattle.evaluation.specs.Readable.{Readable, Shuffled}
+use Rattle.evaluation.specs.Readable.{Shuffled}
 use Rattle.evaluation.proofs.Subsets.{heavier, paired-two, paired-triple}
-use Rattle.evaluation.proofs.Evaluated.{weight-le}
 use Rattle.resolution.specs.Records.{cycleIn}
 
 pub data Cyclic (n : ℕ) : List ℕ → Type 0 where

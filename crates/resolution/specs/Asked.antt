@@ -2,8 +2,7 @@
 use Prim.Native.Nat.{ℕ, _+_, _*_, _^_, _≤_, _<_}
 use mathlib.Core.Path.{_≡_}
 use mathlib.Core.List.{List}
-use lib.ListN.{length, getD}
-use Rattle.exchange.specs.Subsets.{subsets}
+use lib.ListN.{length}
 use Rattle.evaluation.specs.Readable.{Readable, Shuffled}
 use Rattle.resolution.specs.declared.Giving.{Giving}
 

@@ -1,8 +1,8 @@
 -- One round after another. Assumes nothing.
-use Prim.Native.Nat.{ℕ, zero, suc, _+_, _-_, _*_, _/_, _^_, _≤_, _<_}
+use Prim.Native.Nat.{ℕ, zero, suc, _+_, _-_, _*_, _^_, _≤_, _<_}
 use mathlib.Core.List.{List, [], _∷_, _++_, append-assoc, append-nil}
 use mathlib.Core.Path.{_≡_, refl, sym, ap, ap₂, subst, _∙_}
-use native.Mathlib.Nat.{suc-mul, le-refl, le-of-eq}
+use native.Mathlib.Nat.{suc-mul, le-of-eq}
 use native.Mathlib.Numerals.{add-one}
 use native.Mathlib.Omega.{arith}
 use lib.ListN.{length, getD, take, set, length-set}
@@ -13,8 +13,7 @@ use Rattle.greedy.specs.Rounds.{Chosen, choosing, clear, clearing, Left, left, 
 use Rattle.greedy.proofs.Choosing.{choosing-tally}
 use Rattle.greedy.proofs.Tallied.{clear-length}
 use Rattle.exchange.specs.Subsets.{subsets}
-use Rattle.exchange.specs.Planning.{roundCount}
-use Rattle.gates.specs.Counts.{counted, Room}
+use Rattle.gates.specs.Counts.{counted}
 use Rattle.gates.specs.declared.Tally.{Tally}
 use Rattle.cursor.specs.Cursor.{placesAt, subsetAt}
 use Rattle.cursor.proofs.Order.{some-subset}

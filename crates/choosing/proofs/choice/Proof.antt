@@ -5,12 +5,6 @@ use Rattle.choosing.proofs.Tested.{asks-choose, room-test, tested}
 use borrow.Author.Needs.{needs}
 use Rattle.choosing.proofs.choice.Statement.{statement}
 use Rattle.choosing.proofs.choice.Tie as tie
-use Rattle.choosing.proofs.choice.Reads as reads
-use Rattle.choosing.proofs.choice.Lts as lts
-use Rattle.choosing.proofs.choose.Reads as choose-reads
-use Rattle.cursor.proofs.first.Reads as first-reads
-use Rattle.gates.proofs.comparison.Reads as comparison-reads
-use Rattle.gates.proofs.pick.Reads as pick-reads
 
 first-requires : tie.Need-first-requires
 first-requires c κs = search needs

@@ -5,10 +5,6 @@ use Rattle.choosing.proofs.Joins.{joined}
 use borrow.Author.Needs.{needs}
 use Rattle.choosing.proofs.join.Statement.{statement}
 use Rattle.choosing.proofs.join.Tie as tie
-use Rattle.choosing.proofs.join.Reads as reads
-use Rattle.choosing.proofs.join.Lts as lts
-use Rattle.gates.proofs.comparison.Reads as comparison-reads
-use Rattle.gates.proofs.pick.Reads as pick-reads
 
 comparison-requires : tie.Need-comparison-requires
 comparison-requires c κs = search needs

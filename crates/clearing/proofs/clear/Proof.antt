@@ -6,11 +6,6 @@ use lib.ListN.{length}
 use Rattle.clearing.proofs.AllCleared.{Cleared, begins, kept, ends, below, below-few, ranged, room, fits, again}
 use Rattle.clearing.proofs.clear.Statement.{statement}
 use Rattle.clearing.proofs.clear.Tie as tie
-use Rattle.clearing.proofs.clear.Reads as reads
-use Rattle.clearing.proofs.clear.Lts as lts
-use Rattle.clearing.proofs.cleared.Reads as cleared-reads
-use Rattle.cursor.proofs.first.Reads as first-reads
-use Rattle.cursor.proofs.next.Reads as next-reads
 
 abbrev Inv-loop : tie.InvT-loop
 Inv-loop n weights₀ choice p₀ tally₀ i₀ weights p tally i = Cleared n weights₀ choice tally₀ weights p tally i

@@ -5,10 +5,6 @@ use Rattle.clearing.proofs.Kept.{first-fits, second-fits, two-cleared, 
 use borrow.Author.Needs.{needs}
 use Rattle.clearing.proofs.cleared.Statement.{statement}
 use Rattle.clearing.proofs.cleared.Tie as tie
-use Rattle.clearing.proofs.cleared.Reads as reads
-use Rattle.clearing.proofs.cleared.Lts as lts
-use Rattle.clearing.proofs.keep.Reads as keep-reads
-use Rattle.gates.proofs.product.Reads as product-reads
 
 keep-requires : tie.Need-keep-requires
 keep-requires c κs = search needs

@@ -3,8 +3,6 @@ use Rattle.clearing.proofs.Kept.{in-le, kept}
 use borrow.Author.Needs.{needs}
 use Rattle.clearing.proofs.keep.Statement.{statement}
 use Rattle.clearing.proofs.keep.Tie as tie
-use Rattle.clearing.proofs.keep.Reads as reads
-use Rattle.clearing.proofs.keep.Lts as lts
 
 cast-result : tie.Need-cast-result
 cast-result c = search needs

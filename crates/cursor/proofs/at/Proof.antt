@@ -7,10 +7,6 @@ use Rattle.cursor.specs.Cursor.{placesAt}
 use Rattle.cursor.proofs.Order.{in-range}
 use Rattle.cursor.proofs.at.Statement.{statement}
 use Rattle.cursor.proofs.at.Tie as tie
-use Rattle.cursor.proofs.at.Reads as reads
-use Rattle.cursor.proofs.at.Lts as lts
-use Rattle.cursor.proofs.first.Reads as first-reads
-use Rattle.cursor.proofs.next.Reads as next-reads
 
 abbrev Inv-loop : tie.InvT-loop
 Inv-loop n k p₀ i₀ p i = (i ≤ k) × (p ≡ placesAt n i)

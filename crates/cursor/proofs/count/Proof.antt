@@ -3,8 +3,6 @@ use native.Mathlib.Omega.{arith}
 use Rattle.cursor.proofs.Number.{six-times, square-le, cube-le}
 use Rattle.cursor.proofs.count.Statement.{statement}
 use Rattle.cursor.proofs.count.Tie as tie
-use Rattle.cursor.proofs.count.Reads as reads
-use Rattle.cursor.proofs.count.Lts as lts
 
 mul-result : tie.Need-mul-result
 mul-result c = record { fits = omega (arith, square-le (c .args .n) (c .pre)) }

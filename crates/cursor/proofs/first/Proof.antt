@@ -2,8 +2,6 @@
 use Rattle.cursor.proofs.Order.{first-none, first-some}
 use Rattle.cursor.proofs.first.Statement.{statement}
 use Rattle.cursor.proofs.first.Tie as tie
-use Rattle.cursor.proofs.first.Reads as reads
-use Rattle.cursor.proofs.first.Lts as lts
 
 returns : tie.Need-returns
 returns c = first-none _ (c .if1 .taken)

@@ -4,8 +4,6 @@ use Rattle.cursor.proofs.Order.{two-more, two-over, two-last, third-mor
 use borrow.Author.Needs.{needs}
 use Rattle.cursor.proofs.next.Statement.{statement}
 use Rattle.cursor.proofs.next.Tie as tie
-use Rattle.cursor.proofs.next.Reads as reads
-use Rattle.cursor.proofs.next.Lts as lts
 
 add-if2 : tie.Need-add-if2
 add-if2 c = search needs

@@ -7,8 +7,6 @@ use Rattle.cursor.proofs.Number.{square-le}
 use Rattle.evaluation.proofs.Cycles.{row}
 use Rattle.evaluation.proofs.compatible.Statement.{statement}
 use Rattle.evaluation.proofs.compatible.Tie as tie
-use Rattle.evaluation.proofs.compatible.Reads as reads
-use Rattle.evaluation.proofs.compatible.Lts as lts
 
 mul-result : tie.Need-mul-result
 mul-result c = record { fits = omega (arith, row _ _ _ (c .pre .0) (c .pre .1), square-le _ (c .pre .2)) }

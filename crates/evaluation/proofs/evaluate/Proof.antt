@@ -6,11 +6,6 @@ use lib.ListN.{length}
 use Rattle.evaluation.proofs.Evaluated.{Evaluated, begins, kept, ends, below, below-few, ranged, room, fits, again}
 use Rattle.evaluation.proofs.evaluate.Statement.{statement}
 use Rattle.evaluation.proofs.evaluate.Tie as tie
-use Rattle.evaluation.proofs.evaluate.Reads as reads
-use Rattle.evaluation.proofs.evaluate.Lts as lts
-use Rattle.cursor.proofs.first.Reads as first-reads
-use Rattle.cursor.proofs.next.Reads as next-reads
-use Rattle.evaluation.proofs.weight_at.Reads as weight-at-reads
 
 abbrev Inv-loop : tie.InvT-loop
 Inv-loop n m w s weights₀ p₀ tally₀ i₀ weights p tally i = Evaluated n m w s weights₀ tally₀ weights p tally i

@@ -5,11 +5,6 @@ use Rattle.evaluation.proofs.Cycles.{points-of, three-fits, three-fits-
 use borrow.Author.Needs.{needs}
 use Rattle.evaluation.proofs.three.Statement.{statement}
 use Rattle.evaluation.proofs.three.Tie as tie
-use Rattle.evaluation.proofs.three.Reads as reads
-use Rattle.evaluation.proofs.three.Lts as lts
-use Rattle.evaluation.proofs.compatible.Reads as compatible-reads
-use Rattle.evaluation.proofs.points.Reads as points-reads
-use Rattle.gates.proofs.product.Reads as product-reads
 
 compatible-requires : tie.Need-compatible-requires
 compatible-requires c κs = search needs

@@ -5,11 +5,6 @@ use Rattle.evaluation.proofs.Subsets.{bit-small, larger}
 use borrow.Author.Needs.{needs}
 use Rattle.evaluation.proofs.triple.Statement.{statement}
 use Rattle.evaluation.proofs.triple.Tie as tie
-use Rattle.evaluation.proofs.triple.Reads as reads
-use Rattle.evaluation.proofs.triple.Lts as lts
-use Rattle.evaluation.proofs.three.Reads as three-reads
-use Rattle.gates.proofs.comparison.Reads as comparison-reads
-use Rattle.gates.proofs.pick.Reads as pick-reads
 
 three-requires : tie.Need-three-requires
 three-requires c κs = search needs

@@ -4,11 +4,6 @@ use Rattle.evaluation.proofs.Cycles.{two-fits, two-sum, two-product, tw
 use borrow.Author.Needs.{needs}
 use Rattle.evaluation.proofs.two.Statement.{statement}
 use Rattle.evaluation.proofs.two.Tie as tie
-use Rattle.evaluation.proofs.two.Reads as reads
-use Rattle.evaluation.proofs.two.Lts as lts
-use Rattle.evaluation.proofs.compatible.Reads as compatible-reads
-use Rattle.evaluation.proofs.points.Reads as points-reads
-use Rattle.gates.proofs.product.Reads as product-reads
 
 compatible-requires : tie.Need-compatible-requires
 compatible-requires c κs = search needs

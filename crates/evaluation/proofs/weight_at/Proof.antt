@@ -6,10 +6,6 @@ use Rattle.evaluation.proofs.Subsets.{asks-two, is-two, asks-triple, is
 use borrow.Author.Needs.{needs}
 use Rattle.evaluation.proofs.weight_at.Statement.{statement}
 use Rattle.evaluation.proofs.weight_at.Tie as tie
-use Rattle.evaluation.proofs.weight_at.Reads as reads
-use Rattle.evaluation.proofs.weight_at.Lts as lts
-use Rattle.evaluation.proofs.triple.Reads as triple-reads
-use Rattle.evaluation.proofs.two.Reads as two-reads
 
 mul-a : tie.Need-mul-a
 mul-a c = search needs

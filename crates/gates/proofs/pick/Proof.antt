@@ -4,11 +4,6 @@ use native.Mathlib.Omega.{arith}
 use Rattle.gates.proofs.Gates.{bit-times, picked}
 use Rattle.gates.proofs.pick.Statement.{statement}
 use Rattle.gates.proofs.pick.Tie as tie
-use Rattle.gates.proofs.pick.Reads as reads
-use Rattle.gates.proofs.pick.Lts as lts
-use Rattle.gates.proofs.product.Reads as product-reads
-use Rattle.std.proofs.num.wrapping_add_usize.Reads as wrapping-add-usize-reads
-use Rattle.std.proofs.num.wrapping_sub_usize.Reads as wrapping-sub-usize-reads
 
 wrapping-sub-usize-requires : tie.Need-wrapping-sub-usize-requires
 wrapping-sub-usize-requires c κs = search needs

@@ -11,9 +11,6 @@ use Rattle.laws.proofs.Below.{any-hit, any-more}
 use Rattle.exchange.specs.Subsets.{entry}
 use Rattle.planner.proofs.above_one.Statement.{statement}
 use Rattle.planner.proofs.above_one.Tie as tie
-use Rattle.planner.proofs.above_one.Reads as reads
-use Rattle.planner.proofs.above_one.Lts as lts
-use Rattle.evaluation.proofs.compatible.Reads as compatible-reads
 
 abbrev Inv-loop : tie.InvT-loop
 Inv-loop n m i j₀ j = (j ≤ n) × (anyBelow j (λ k. ltb 1 (entry m n i k)) ≡ false)

@@ -12,10 +12,6 @@ use Rattle.refusal.specs.Number.{faultAt}
 use Rattle.planner.proofs.Faults.{bad, hit, clean, either-first, either-second, either-none}
 use Rattle.planner.proofs.compatibility.Statement.{statement}
 use Rattle.planner.proofs.compatibility.Tie as tie
-use Rattle.planner.proofs.compatibility.Reads as reads
-use Rattle.planner.proofs.compatibility.Lts as lts
-use Rattle.evaluation.proofs.compatible.Reads as compatible-reads
-use Rattle.planner.proofs.above_one.Reads as above-one-reads
 
 abbrev Inv-loop : tie.InvT-loop
 Inv-loop n m i₀ i = (i ≤ n) × (anyBelow i (bad n m) ≡ false)

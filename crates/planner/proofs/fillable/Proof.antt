@@ -6,9 +6,6 @@ use Rattle.planner.proofs.Faults.{short, long, first, second}
 use borrow.Author.Needs.{needs}
 use Rattle.planner.proofs.fillable.Statement.{statement}
 use Rattle.planner.proofs.fillable.Tie as tie
-use Rattle.planner.proofs.fillable.Reads as reads
-use Rattle.planner.proofs.fillable.Lts as lts
-use Rattle.cursor.proofs.count.Reads as count-reads
 
 count-requires : tie.Need-count-requires
 count-requires c κs = search needs

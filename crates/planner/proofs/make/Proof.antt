@@ -1,14 +1,8 @@
 -- `planner::make` meets its contract. Assumes nothing.
-use native.Mathlib.Omega.{arith}
 use Rattle.planner.proofs.MadePlan.{front, weights-front, choices-front, asks-steps, choices-part, asks-resolve, plan-is, tables-are}
 use borrow.Author.Needs.{needs}
 use Rattle.planner.proofs.make.Statement.{statement}
 use Rattle.planner.proofs.make.Tie as tie
-use Rattle.planner.proofs.make.Reads as reads
-use Rattle.planner.proofs.make.Lts as lts
-use Rattle.cursor.proofs.count.Reads as count-reads
-use Rattle.planner.proofs.steps.Reads as steps-reads
-use Rattle.resolution.proofs.resolve.Reads as resolve-reads
 
 count-requires : tie.Need-count-requires
 count-requires c κs = search needs

@@ -5,13 +5,6 @@ use Rattle.planner.proofs.Answered.{unreadable, unfillable, few, in-com
 use borrow.Author.Needs.{needs}
 use Rattle.planner.proofs.plan.Statement.{statement}
 use Rattle.planner.proofs.plan.Tie as tie
-use Rattle.planner.proofs.plan.Reads as reads
-use Rattle.planner.proofs.plan.Lts as lts
-use Rattle.checks.proofs.shuffle.Reads as shuffle-reads
-use Rattle.planner.proofs.compatibility.Reads as compatibility-reads
-use Rattle.planner.proofs.fillable.Reads as fillable-reads
-use Rattle.planner.proofs.make.Reads as make-reads
-use Rattle.planner.proofs.readable.Reads as readable-reads
 
 readable-requires : tie.Need-readable-requires
 readable-requires c κs = search needs

@@ -8,8 +8,6 @@ use Rattle.planner.proofs.Faults.{many, not-many, short, long, first, s
 use borrow.Author.Needs.{needs}
 use Rattle.planner.proofs.readable.Statement.{statement}
 use Rattle.planner.proofs.readable.Tie as tie
-use Rattle.planner.proofs.readable.Reads as reads
-use Rattle.planner.proofs.readable.Lts as lts
 
 returns : tie.Need-returns
 unfolding faultAt shortToRead

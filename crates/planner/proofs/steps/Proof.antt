@@ -3,10 +3,6 @@ use Rattle.planner.proofs.Stepped.{asks-evaluate, asks-rounds, stepped}
 use borrow.Author.Needs.{needs}
 use Rattle.planner.proofs.steps.Statement.{statement}
 use Rattle.planner.proofs.steps.Tie as tie
-use Rattle.planner.proofs.steps.Reads as reads
-use Rattle.planner.proofs.steps.Lts as lts
-use Rattle.evaluation.proofs.evaluate.Reads as evaluate-reads
-use Rattle.rounds.proofs.all_rounds.Reads as all-rounds-reads
 
 evaluate-requires : tie.Need-evaluate-requires
 evaluate-requires c κs = asks-evaluate _ _ _ _ _ _ (c .before .before .before .before .before .before .pre)

@@ -10,8 +10,6 @@ use Rattle.laws.proofs.Lent.{Filling, filling-none, filling-more, filling-all}
 use Rattle.laws.proofs.Whole.{filled-whole}
 use Rattle.resolution.proofs.alone.Statement.{statement}
 use Rattle.resolution.proofs.alone.Tie as tie
-use Rattle.resolution.proofs.alone.Reads as reads
-use Rattle.resolution.proofs.alone.Lts as lts
 
 abbrev Inv-loop : tie.InvT-loop
 Inv-loop n partners₀ none i₀ partners i = (i ≤ length partners₀) × Filling i (λ (k : ℕ). n) partners₀ partners

@@ -6,10 +6,6 @@ use Rattle.resolution.proofs.Cyclic.{is-two, is-first, is-second, givin
 use borrow.Author.Needs.{needs}
 use Rattle.resolution.proofs.cycle_at.Statement.{statement}
 use Rattle.resolution.proofs.cycle_at.Tie as tie
-use Rattle.resolution.proofs.cycle_at.Reads as reads
-use Rattle.resolution.proofs.cycle_at.Lts as lts
-use Rattle.resolution.proofs.three.Reads as three-reads
-use Rattle.resolution.proofs.two.Reads as two-reads
 
 mul-a : tie.Need-mul-a
 mul-a c = search needs

@@ -3,9 +3,6 @@ use Rattle.resolution.proofs.Partnered.{given-two, received-two, given-
 use borrow.Author.Needs.{needs}
 use Rattle.resolution.proofs.engage.Statement.{statement}
 use Rattle.resolution.proofs.engage.Tie as tie
-use Rattle.resolution.proofs.engage.Reads as reads
-use Rattle.resolution.proofs.engage.Lts as lts
-use Rattle.resolution.proofs.give.Reads as give-reads
 
 give-requires : tie.Need-give-requires
 give-requires c κs = search needs

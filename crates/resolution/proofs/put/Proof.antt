@@ -5,8 +5,6 @@ use Rattle.resolution.proofs.Flat.{stored-three}
 use borrow.Author.Needs.{needs}
 use Rattle.resolution.proofs.put.Statement.{statement}
 use Rattle.resolution.proofs.put.Tie as tie
-use Rattle.resolution.proofs.put.Reads as reads
-use Rattle.resolution.proofs.put.Lts as lts
 
 cast-records : tie.Need-cast-records
 cast-records c = search needs

@@ -1,15 +1,10 @@
 -- `resolution::resolve` meets its contract. The loop's invariant is `Turned`. Assumes nothing.
 use Prim.Native.Nat.{_-_}
 use native.Mathlib.Omega.{arith}
-use borrow.Author.Needs.{needs}
 use lib.ListN.{length}
 use Rattle.resolution.proofs.AllResolved.{Turned, begins, donors-kept, recipients-kept, ends, turns-few, asks-one, weight-few, cycles-few, again}
 use Rattle.resolution.proofs.resolve.Statement.{statement}
 use Rattle.resolution.proofs.resolve.Tie as tie
-use Rattle.resolution.proofs.resolve.Reads as reads
-use Rattle.resolution.proofs.resolve.Lts as lts
-use Rattle.resolution.proofs.alone.Reads as alone-reads
-use Rattle.resolution.proofs.resolve_one.Reads as resolve-one-reads
 
 abbrev Inv-loop : tie.InvT-loop
 Inv-loop n m w s choices donors₀ recipients₀ records₀ weight₀ cycles₀ k₀ donors recipients records weight cycles k = Turned n m w s choices records₀ donors recipients records weight cycles k

@@ -4,13 +4,6 @@ use Rattle.resolution.proofs.AllResolved.{none, asks-cycle, asks-put, a
 use borrow.Author.Needs.{needs}
 use Rattle.resolution.proofs.resolve_one.Statement.{statement}
 use Rattle.resolution.proofs.resolve_one.Tie as tie
-use Rattle.resolution.proofs.resolve_one.Reads as reads
-use Rattle.resolution.proofs.resolve_one.Lts as lts
-use Rattle.cursor.proofs.at.Reads as at-reads
-use Rattle.cursor.proofs.count.Reads as count-reads
-use Rattle.resolution.proofs.cycle_at.Reads as cycle-at-reads
-use Rattle.resolution.proofs.engage.Reads as engage-reads
-use Rattle.resolution.proofs.put.Reads as put-reads
 
 count-requires : tie.Need-count-requires
 count-requires c κs = c .before .before .before .before .before .before .pre .readable .few

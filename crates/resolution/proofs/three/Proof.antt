@@ -5,10 +5,6 @@ use Rattle.evaluation.proofs.Cycles.{points-of, three-fits, three-fits-all, thr
 use borrow.Author.Needs.{needs}
 use Rattle.resolution.proofs.three.Statement.{statement}
 use Rattle.resolution.proofs.three.Tie as tie
-use Rattle.resolution.proofs.three.Reads as reads
-use Rattle.resolution.proofs.three.Lts as lts
-use Rattle.evaluation.proofs.compatible.Reads as compatible-reads
-use Rattle.evaluation.proofs.points.Reads as points-reads
 
 compatible-requires : tie.Need-compatible-requires
 compatible-requires c κs = search needs

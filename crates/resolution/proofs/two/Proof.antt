@@ -5,10 +5,6 @@ use Rattle.evaluation.proofs.Cycles.{two-fits, two-sum, two-product, two-is}
 use borrow.Author.Needs.{needs}
 use Rattle.resolution.proofs.two.Statement.{statement}
 use Rattle.resolution.proofs.two.Tie as tie
-use Rattle.resolution.proofs.two.Reads as reads
-use Rattle.resolution.proofs.two.Lts as lts
-use Rattle.evaluation.proofs.compatible.Reads as compatible-reads
-use Rattle.evaluation.proofs.points.Reads as points-reads
 
 compatible-requires : tie.Need-compatible-requires
 compatible-requires c κs = search needs

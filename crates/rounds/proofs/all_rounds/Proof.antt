@@ -11,11 +11,6 @@ use lib.ListN.{length}
 use Prim.Native.Nat.{_-_}
 use Rattle.rounds.proofs.all_rounds.Statement.{statement}
 use Rattle.rounds.proofs.all_rounds.Tie as tie
-use Rattle.rounds.proofs.all_rounds.Reads as reads
-use Rattle.rounds.proofs.all_rounds.Lts as lts
-use Rattle.choosing.proofs.choice.Reads as choice-reads
-use Rattle.clearing.proofs.clear.Reads as clear-reads
-use Rattle.gates.proofs.begin_round.Reads as begin-round-reads
 
 abbrev Inv-loop : tie.InvT-loop
 Inv-loop n weights₀ choices₀ tally₀ k₀ weights choices tally k = Turned n weights₀ choices₀ tally₀ weights choices tally k

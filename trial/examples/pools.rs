@@ -1,0 +1,165 @@
+//! Prints document 01's pools k1 to k12, a pool of 36 and one of 200, with the
+//! plans that this planner makes of them, in the words of the program `pools`
+//! of the proved library: what the two print is compared.
+
+use reference::{plan, Room};
+
+/// What every lent entry holds before a call.
+const GUARD: u32 = 99;
+
+/// A table as the caller sees it afterwards: what was filled, then guards.
+fn table(filled: &[u32], lent: usize) -> Vec<u32> {
+    let mut all = filled.to_vec();
+    all.resize(lent, GUARD);
+    all
+}
+
+fn line(name: &str, entries: &[u32], count: usize) -> String {
+    let shown: Vec<String> = entries.iter().take(count).map(u32::to_string).collect();
+    if shown.is_empty() {
+        format!("  {name}")
+    } else {
+        format!("  {name} {}", shown.join(" "))
+    }
+}
+
+struct Tables {
+    answer: String,
+    weights: Vec<u32>,
+    choices: Vec<u32>,
+    donors: Vec<u32>,
+    recipients: Vec<u32>,
+    records: Vec<u32>,
+}
+
+/// Plans, with tables of `room` entries, the records flat: three each.
+fn planned(n: usize, m: &[u8], w: &[u16], shuffle: &[u16], room: Room, flat: usize) -> Tables {
+    let wide = |t: &[u16]| t.iter().map(|&p| u32::from(p)).collect::<Vec<u32>>();
+    match plan(n, m, w, shuffle, room) {
+        Ok((plan, tally)) => Tables {
+            answer: format!(
+                "weight {} cycles {} tally {} {} {}",
+                plan.weight,
+                plan.records.len(),
+                tally.comparisons,
+                tally.products,
+                tally.rounds
+            ),
+            weights: table(&plan.weights, room.weights),
+            choices: table(&plan.choices, room.choices),
+            donors: table(&wide(&plan.donors), room.donors),
+            recipients: table(&wide(&plan.recipients), room.recipients),
+            records: table(&wide(&plan.records.concat()), flat),
+        },
+        Err(reason) => Tables {
+            answer: format!("refused {}", reason.number()),
+            weights: table(&[], room.weights),
+            choices: table(&[], room.choices),
+            donors: table(&[], room.donors),
+            recipients: table(&[], room.recipients),
+            records: table(&[], flat),
+        },
+    }
+}
+
+/// A pool of at most 6 pairs.
+fn small(name: &str, n: usize, m: &[u8], w: &[u16], shuffle: &[u16]) {
+    let room = Room {
+        weights: 36,
+        choices: 4,
+        donors: 7,
+        recipients: 7,
+        records: 4,
+    };
+    let t = planned(n, m, w, shuffle, room, 12);
+    println!("{name}: {}", t.answer);
+    println!("{}", line("weights", &t.weights, (n * n * n - n) / 6 + 1));
+    println!("{}", line("choices", &t.choices, n / 2 + 1));
+    println!("{}", line("donors", &t.donors, n + 1));
+    println!("{}", line("recipients", &t.recipients, n + 1));
+    println!("{}", line("records", &t.records, 3 * (n / 2) + 1));
+}
+
+/// A pool from edges donor → patient : weight.
+fn pool(n: usize, edges: &[(usize, usize, u16)]) -> (Vec<u8>, Vec<u16>) {
+    let mut m = vec![0; n * n];
+    let mut w = vec![0; n * n];
+    for &(i, j, weight) in edges {
+        m[i * n + j] = 1;
+        w[i * n + j] = weight;
+    }
+    (m, w)
+}
+
+fn of_edges(name: &str, n: usize, edges: &[(usize, usize, u16)], shuffle: &[u16]) {
+    let (m, w) = pool(n, edges);
+    small(name, n, &m, &w, shuffle);
+}
+
+/// An edge where (7i + 11j) mod 5 is below 2, of weight 1 + (31i + 17j) mod
+/// 997; place p holds pair 7p mod n.
+fn large(n: usize) -> (Vec<u8>, Vec<u16>, Vec<u16>) {
+    let mut m = Vec::new();
+    let mut w = Vec::new();
+    for i in 0..n {
+        for j in 0..n {
+            m.push(u8::from(i != j && (7 * i + 11 * j) % 5 < 2));
+            w.push((1 + (31 * i + 17 * j) % 997) as u16);
+        }
+    }
+    let shuffle = (0..n).map(|p| (7 * p % n) as u16).collect();
+    (m, w, shuffle)
+}
+
+fn room_past(n: usize) -> Room {
+    Room {
+        weights: (n * n * n - n) / 6 + 1,
+        choices: n / 2 + 1,
+        donors: n + 1,
+        recipients: n + 1,
+        records: n / 2,
+    }
+}
+
+fn main() {
+    of_edges("k1", 0, &[], &[]);
+    of_edges("k2", 1, &[], &[0]);
+    of_edges("k3", 2, &[(0, 1, 5), (1, 0, 7)], &[0, 1]);
+    of_edges("k4", 2, &[(0, 1, 5)], &[0, 1]);
+    of_edges("k5", 2, &[(0, 1, 0), (1, 0, 0)], &[0, 1]);
+
+    let identity = [0, 1, 2, 3, 4, 5];
+    let forward = [(0, 1), (1, 2), (2, 0)];
+    let backward = [(1, 0), (2, 1), (0, 2)];
+    let at = |edges: &[(usize, usize)], weight: u16| -> Vec<(usize, usize, u16)> {
+        edges.iter().map(|&(i, j)| (i, j, weight)).collect()
+    };
+    of_edges("k6", 3, &[at(&forward, 4), at(&backward, 4)].concat(), &identity[..3]);
+    of_edges("k7", 3, &[at(&forward, 1), at(&backward, 2)].concat(), &identity[..3]);
+    let k10 = at(&[(0, 1), (1, 0), (0, 2), (2, 0)], 5);
+    of_edges("k10", 3, &k10, &identity[..3]);
+    of_edges("k10 with shuffle 2 0 1", 3, &k10, &[2, 0, 1]);
+    let both = at(&[(0, 3), (3, 0), (1, 4), (4, 1), (2, 5), (5, 2)], 3);
+    of_edges("k8", 6, &[at(&forward, 2), both].concat(), &identity);
+    of_edges("k9", 4, &at(&[(0, 1), (1, 0), (2, 3), (3, 2)], 3), &identity[..4]);
+
+    of_edges("k11", 2, &[(0, 1, 5), (1, 0, 7)], &[0, 0]);
+    small("k12", 2, &[0, 2, 1, 0], &[0, 5, 7, 0], &[0, 1]);
+    small("M(0, 0) is 1", 2, &[1, 1, 1, 0], &[0, 5, 7, 0], &[0, 1]);
+    small("8 and 10", 2, &[1, 2, 1, 0], &[0, 5, 7, 0], &[1, 1]);
+    small("9, 8 and 10", 3, &[2; 8], &[0; 9], &[0; 3]);
+
+    let (m, w, shuffle) = large(36);
+    let t = planned(36, &m, &w, &shuffle, room_past(36), 55);
+    println!("36 pairs: {}", t.answer);
+    println!("{}", line("choices", &t.choices, 19));
+    println!("{}", line("donors", &t.donors, 37));
+    println!("{}", line("recipients", &t.recipients, 37));
+    println!("{}", line("records", &t.records, 55));
+
+    let (m, w, shuffle) = large(200);
+    let t = planned(200, &m, &w, &shuffle, room_past(200), 301);
+    println!("200 pairs: {}", t.answer);
+    println!("{}", line("choices", &t.choices, 101));
+    println!("{}", line("recipients", &t.recipients, 201));
+}

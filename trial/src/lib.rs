@@ -1,0 +1,77 @@
+//! An independent planner of kidney exchanges.
+//!
+//! Everything here is written from document 01 (the scope) alone, and shares
+//! no line with the proved library. The two are run side by side on the same
+//! inputs; wherever they answer differently, one of them has misread the
+//! document. So this crate prefers the plain way of saying a thing to the
+//! clever one, and says each thing where the document says it:
+//!
+//! | module         | document 01                                        |
+//! |----------------|----------------------------------------------------|
+//! | [`refusal`]    | 'Turned back, by whom it is caused'                |
+//! | [`pool`]       | a pool in its fields, and the checks on them       |
+//! | [`sheet`]      | 'The pool sheet' and the writer                    |
+//! | [`tables`]     | 'Compatibility and weight'                         |
+//! | [`subsets`]    | 'Subsets and their weights': the published order   |
+//! | [`tally`]      | 'Tally', and demand 3's closed form of it          |
+//! | [`planner`]    | 'Rounds' and 'Resolution'                          |
+//! | [`printout`]   | the printout of the program `plan`                 |
+//!
+//! Beside the planner by rounds stand four others:
+//!
+//! - [`mod@algorithm1`], the loop over a shrinking set as the paper (arXiv
+//!   2302.13880) prints it, which demand 2 names as the measure;
+//! - [`mod@best`], the heaviest set of exchanges there is, found by trying
+//!   them all, for the factor three of demand 3;
+//! - [`gates`], the rounds made of counting gates with no branch on a secret;
+//! - [`straight`], the plan as one writes it when nothing is secret and
+//!   nothing is counted.
+//!
+//! The last two are the baselines of the benchmark. [`random`] makes pools,
+//! tables and damaged sheets, each from a seed that is printed.
+//!
+//! # Example
+//!
+//! ```
+//! use reference::{build, plan, printed, read, Room};
+//!
+//! let sheet = reference::sheet::EXAMPLE;
+//! let pool = read(&sheet).unwrap();
+//! let n = pool.len();
+//!
+//! let tables = build(n, pool.fields(), n * n, n * n).unwrap();
+//! let (plan, tally) =
+//!     plan(n, &tables.m, &tables.w, &pool.shuffle, Room::due(n)).unwrap();
+//!
+//! assert_eq!(
+//!     printed(&pool.ids, &plan, tally),
+//!     "PLAN 2 1 2900\n11 12 12\n12 11 11\nCOUNTS 1 6 1\n",
+//! );
+//! ```
+
+#![forbid(unsafe_code)]
+#![warn(missing_docs)]
+
+pub mod algorithm1;
+pub mod best;
+pub mod gates;
+pub mod planner;
+pub mod pool;
+pub mod printout;
+pub mod random;
+pub mod refusal;
+pub mod sheet;
+pub mod straight;
+pub mod subsets;
+pub mod tables;
+pub mod tally;
+
+pub use crate::algorithm1::algorithm1;
+pub use crate::best::best;
+pub use crate::planner::{plan, Plan, Room};
+pub use crate::pool::{Fields, Pool};
+pub use crate::printout::printed;
+pub use crate::refusal::{Reason, Refusal};
+pub use crate::sheet::{read, write};
+pub use crate::tables::{build, Tables};
+pub use crate::tally::Tally;

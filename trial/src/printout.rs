@@ -1,0 +1,109 @@
+//! The printout of the program `plan`.
+
+use crate::planner::{plan, Plan, Room};
+use crate::refusal::Refusal;
+use crate::sheet::{self, read};
+use crate::tables::build;
+use crate::tally::Tally;
+use std::fmt::Write;
+
+/// How many bytes the program reads at most: one more than the longest sheet.
+pub const MOST_READ: usize = sheet::LONGEST + 1;
+
+/// For how many pairs the program lends buffers.
+pub const LENT_PAIRS: usize = 40;
+
+/// The printout of a plan for pairs with these ids.
+pub fn printed(ids: &[u32], plan: &Plan, tally: Tally) -> String {
+    let mut text = String::new();
+    let mut line = |words: &[&dyn std::fmt::Display]| {
+        for (i, word) in words.iter().enumerate() {
+            let space = if i == 0 { "" } else { " " };
+            write!(text, "{space}{word}").expect("a string takes all");
+        }
+        text.push('\n');
+    };
+
+    let n = ids.len();
+    line(&[&"PLAN", &n, &plan.cycles(), &plan.weight]);
+    // A pair number N, which stands for none, is past the ids.
+    let id_of = |pair: u16| match ids.get(usize::from(pair)) {
+        Some(id) => id.to_string(),
+        None => "-".to_string(),
+    };
+    for (i, id) in ids.iter().enumerate() {
+        line(&[id, &id_of(plan.donors[i]), &id_of(plan.recipients[i])]);
+    }
+    line(&[
+        &"COUNTS",
+        &tally.comparisons,
+        &tally.products,
+        &tally.rounds,
+    ]);
+    text
+}
+
+/// The printout of a refusal.
+pub fn refused(refusal: Refusal) -> String {
+    let (number, place) = refusal.pair();
+    format!("REFUSED {number} {place}\n")
+}
+
+/// What the program prints when this is its standard input.
+pub fn program(input: &[u8]) -> String {
+    let bytes = &input[..input.len().min(MOST_READ)];
+    let outcome = read(bytes).and_then(|pool| {
+        sheet::fits(&pool, &[LENT_PAIRS])?;
+        let n = pool.len();
+        // What has been read and fits is refused by nothing that follows.
+        let no_place = |reason: crate::Reason| reason.at(0);
+        let table = LENT_PAIRS * LENT_PAIRS;
+        let tables = build(n, pool.fields(), table, table).map_err(no_place)?;
+        let room = Room::due(LENT_PAIRS);
+        let (plan, tally) = plan(n, &tables.m, &tables.w, &pool.shuffle, room).map_err(no_place)?;
+        Ok(printed(&pool.ids, &plan, tally))
+    });
+    outcome.unwrap_or_else(refused)
+}
+
+#[cfg(test)]
+mod tests {
+    use super::*;
+    use crate::refusal::Reason;
+
+    #[test]
+    fn the_example() {
+        assert_eq!(
+            program(&sheet::EXAMPLE),
+            "PLAN 2 1 2900\n11 12 12\n12 11 11\nCOUNTS 1 6 1\n"
+        );
+    }
+
+    #[test]
+    fn none_is_a_dash() {
+        let plan = Plan {
+            donors: vec![2, 2],
+            recipients: vec![2, 2],
+            ..Plan::default()
+        };
+        assert_eq!(
+            printed(&[0, u32::MAX], &plan, Tally::demanded(2)),
+            "PLAN 2 0 0\n0 - -\n4294967295 - -\nCOUNTS 1 6 1\n"
+        );
+    }
+
+    #[test]
+    fn a_refusal_has_number_and_place() {
+        assert_eq!(program(&[]), "REFUSED 1 0\n");
+        assert_eq!(program(&sheet::EXAMPLE[..8]), "REFUSED 1 7\n");
+        let grown = [&sheet::EXAMPLE[..], &[0]].concat();
+        assert_eq!(program(&grown), "REFUSED 5 84\n");
+        assert_eq!(refused(Reason::TooShort.at(0)), "REFUSED 9 0\n");
+    }
+
+    #[test]
+    fn the_empty_pool_is_planned() {
+        let sheet = crate::write(0, crate::Fields::default(), &[], 10).unwrap();
+        assert_eq!(program(&sheet), "PLAN 0 0 0\nCOUNTS 0 0 0\n");
+    }
+}

@@ -1,0 +1,97 @@
+//! Refusals: document 01's numbers and places.
+
+use std::fmt;
+
+/// Why an input is turned back. The discriminants are document 01's numbers.
+#[derive(Clone, Copy, Debug, PartialEq, Eq, PartialOrd, Ord, Hash)]
+#[repr(u8)]
+pub enum Reason {
+    /// 1: a field's three-byte start, or its value, is cut off or missing.
+    CutOff = 1,
+    /// 2: the tag or the length is not the one due.
+    NotDue = 2,
+    /// 3: the version is not 1.
+    Version = 3,
+    /// 4: N is above 200.
+    TooManyPairs = 4,
+    /// 5: bytes are left over.
+    LeftOver = 5,
+    /// 6: a blood is above 3 or an age group above 1.
+    Group = 6,
+    /// 7: an id is that of an earlier pair.
+    RepeatedId = 7,
+    /// 8: the shuffle does not hold each number once.
+    Shuffle = 8,
+    /// 9: a lent buffer or table is too short.
+    TooShort = 9,
+    /// 10: an entry of M is above 1, or M(i, i) is not 0.
+    Entry = 10,
+}
+
+impl Reason {
+    /// All reasons, by number.
+    pub const ALL: [Reason; 10] = [
+        Reason::CutOff,
+        Reason::NotDue,
+        Reason::Version,
+        Reason::TooManyPairs,
+        Reason::LeftOver,
+        Reason::Group,
+        Reason::RepeatedId,
+        Reason::Shuffle,
+        Reason::TooShort,
+        Reason::Entry,
+    ];
+
+    /// Document 01's number.
+    pub const fn number(self) -> u8 {
+        self as u8
+    }
+
+    /// The refusal for this reason at `place`.
+    pub const fn at(self, place: usize) -> Refusal {
+        Refusal {
+            reason: self,
+            place,
+        }
+    }
+}
+
+/// What reading and writing answer when they turn an input back.
+///
+/// Building and planning give a bare [`Reason`], since theirs has no place.
+#[derive(Clone, Copy, Debug, PartialEq, Eq, Hash)]
+pub struct Refusal {
+    /// Why.
+    pub reason: Reason,
+    /// The offset in the sheet of the field that is at fault; for 5 that of
+    /// the first byte too many, for 9 and in the writer 0.
+    pub place: usize,
+}
+
+impl Refusal {
+    /// The number and the place.
+    pub const fn pair(self) -> (u8, usize) {
+        (self.reason.number(), self.place)
+    }
+}
+
+impl fmt::Display for Refusal {
+    fn fmt(&self, f: &mut fmt::Formatter<'_>) -> fmt::Result {
+        write!(f, "refused: {} at {}", self.reason.number(), self.place)
+    }
+}
+
+impl std::error::Error for Refusal {}
+
+#[cfg(test)]
+mod tests {
+    use super::*;
+
+    #[test]
+    fn reasons_are_numbered_from_one() {
+        for (reason, number) in Reason::ALL.into_iter().zip(1..) {
+            assert_eq!(reason.number(), number);
+        }
+    }
+}

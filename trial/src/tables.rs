@@ -1,0 +1,238 @@
+//! The compatibility table M and the weight table W.
+
+use crate::pool::{Fields, MOST_PAIRS};
+use crate::refusal::Reason;
+
+/// `SUITS[donor][patient]` says whether the donor's blood suits the patient.
+/// Rows and columns are O, A, B, AB.
+pub const SUITS: [[bool; 4]; 4] = [
+    [true, true, true, true],
+    [false, true, false, true],
+    [false, false, true, true],
+    [false, false, false, true],
+];
+
+/// The point values of the weighing.
+pub mod points {
+    /// What every edge weighs at least.
+    pub const BASE: u16 = 1_000;
+
+    /// No mismatch.
+    pub const NO_MISMATCH: u16 = 400;
+    /// Mismatches up to [`FEW`].
+    pub const FEW_MISMATCHES: u16 = 250;
+    /// Mismatches up to [`SOME`].
+    pub const SOME_MISMATCHES: u16 = 100;
+    /// Mismatches above [`SOME`].
+    pub const MANY_MISMATCHES: u16 = 0;
+
+    /// The most mismatches that are few.
+    pub const FEW: u32 = 2;
+    /// The most mismatches that are some.
+    pub const SOME: u32 = 4;
+
+    /// Donor and patient of the same age group.
+    pub const SAME_AGE: u16 = 50;
+    /// A young donor and a senior patient.
+    pub const YOUNG_TO_SENIOR: u16 = 30;
+    /// A senior donor and a young patient.
+    pub const SENIOR_TO_YOUNG: u16 = 0;
+}
+
+/// M and W of `n` pairs: `n` rows of `n`, row i holding donor i.
+#[derive(Clone, Debug, Default, PartialEq, Eq)]
+pub struct Tables {
+    /// Compatibility: 1 where donor i may give to patient j, else 0.
+    pub m: Vec<u8>,
+    /// Weight of donor i's giving to patient j.
+    pub w: Vec<u16>,
+}
+
+impl Tables {
+    /// Tables of `n` pairs with no edge and no weight.
+    pub fn empty(n: usize) -> Tables {
+        Tables {
+            m: vec![0; n * n],
+            w: vec![0; n * n],
+        }
+    }
+
+    /// Tables of `n` pairs with just these edges: donor, patient, weight.
+    pub fn of_edges(n: usize, edges: &[(usize, usize, u16)]) -> Tables {
+        let mut tables = Tables::empty(n);
+        for &(donor, patient, weight) in edges {
+            tables.m[donor * n + patient] = 1;
+            tables.w[donor * n + patient] = weight;
+        }
+        tables
+    }
+}
+
+/// Builds M and W from the fields of `n` pairs, for lent tables of `m_len`
+/// and `w_len` entries.
+///
+/// Checks 4; 9 for the tables of the fields; 6 and 7 pair by pair; 9 for the
+/// tables to be filled.
+pub fn build(n: usize, fields: Fields<'_>, m_len: usize, w_len: usize) -> Result<Tables, Reason> {
+    if n > MOST_PAIRS {
+        return Err(Reason::TooManyPairs);
+    }
+    if fields.shortest() < n {
+        return Err(Reason::TooShort);
+    }
+    fields.check_pairs(n)?;
+    if m_len < n * n || w_len < n * n {
+        return Err(Reason::TooShort);
+    }
+
+    let mut tables = Tables::empty(n);
+    for donor in 0..n {
+        for patient in (0..n).filter(|&patient| patient != donor) {
+            let entry = donor * n + patient;
+            tables.m[entry] = u8::from(compatible(fields, donor, patient));
+            tables.w[entry] = weight(fields, donor, patient);
+        }
+    }
+    Ok(tables)
+}
+
+/// Whether the blood suits, and no antigen meets an antibody.
+fn compatible(fields: Fields<'_>, donor: usize, patient: usize) -> bool {
+    let donor_blood = usize::from(fields.donor_bloods[donor]);
+    let patient_blood = usize::from(fields.patient_bloods[patient]);
+    let met = fields.donor_antigens[donor] & fields.patient_antibodies[patient];
+    SUITS[donor_blood][patient_blood] && met == 0
+}
+
+/// Base, mismatch and age points together.
+fn weight(fields: Fields<'_>, donor: usize, patient: usize) -> u16 {
+    let differing = fields.donor_antigens[donor] ^ fields.patient_antigens[patient];
+    points::BASE
+        + mismatch_points(differing.count_ones())
+        + age_points(fields.donor_ages[donor], fields.patient_ages[patient])
+}
+
+fn mismatch_points(mismatches: u32) -> u16 {
+    match mismatches {
+        0 => points::NO_MISMATCH,
+        few if few <= points::FEW => points::FEW_MISMATCHES,
+        some if some <= points::SOME => points::SOME_MISMATCHES,
+        _ => points::MANY_MISMATCHES,
+    }
+}
+
+fn age_points(donor: u8, patient: u8) -> u16 {
+    use std::cmp::Ordering::{Equal, Greater, Less};
+    match donor.cmp(&patient) {
+        Equal => points::SAME_AGE,
+        Less => points::YOUNG_TO_SENIOR,
+        Greater => points::SENIOR_TO_YOUNG,
+    }
+}
+
+#[cfg(test)]
+mod tests {
+    use super::*;
+    use crate::pool::Pool;
+
+    /// Two pairs; the first donor and the second patient as given.
+    fn edge(donor_antigens: u64, patient_antigens: u64, ages: (u8, u8)) -> u16 {
+        let pool = Pool {
+            ids: vec![0, u32::MAX],
+            donor_bloods: vec![0, 3],
+            patient_bloods: vec![0, 0],
+            donor_ages: vec![ages.0, 0],
+            patient_ages: vec![0, ages.1],
+            donor_antigens: vec![donor_antigens, 0],
+            patient_antigens: vec![0, patient_antigens],
+            patient_antibodies: vec![0, 0],
+            shuffle: vec![0, 1],
+        };
+        let tables = build(2, pool.fields(), 4, 4).unwrap();
+        assert_eq!(tables.m, [0, 1, 0, 0]);
+        assert_eq!((tables.w[0], tables.w[3]), (0, 0));
+        tables.w[1]
+    }
+
+    #[test]
+    fn the_edges_of_the_document() {
+        assert_eq!(edge(0b101, 0b101, (0, 0)), 1_450);
+        assert_eq!(edge(0b101, 0b101, (1, 1)), 1_450);
+        assert_eq!(edge(0b11, 0b00, (0, 0)), 1_300);
+        assert_eq!(edge(0b100, 0b11, (0, 1)), 1_130);
+        assert_eq!(edge(0b1100, 0b11, (0, 1)), 1_130);
+        assert_eq!(edge(0b11111, 0, (1, 0)), 1_000);
+        // and between them
+        assert_eq!(edge(1 << 63, 0, (1, 0)), 1_250);
+        assert_eq!(edge(u64::MAX, 0, (1, 1)), 1_050);
+    }
+
+    #[test]
+    fn blood_suits_as_the_document_says() {
+        let suits = |donor: usize| -> Vec<usize> {
+            (0..4).filter(|&patient| SUITS[donor][patient]).collect()
+        };
+        assert_eq!(suits(0), [0, 1, 2, 3]);
+        assert_eq!(suits(1), [1, 3]);
+        assert_eq!(suits(2), [2, 3]);
+        assert_eq!(suits(3), [3]);
+    }
+
+    #[test]
+    fn an_antibody_forbids_and_the_row_is_the_donors() {
+        let pool = Pool {
+            ids: vec![1, 2],
+            donor_bloods: vec![0, 0],
+            patient_bloods: vec![3, 3],
+            donor_ages: vec![0, 0],
+            patient_ages: vec![0, 0],
+            donor_antigens: vec![0b110, 0b001],
+            patient_antigens: vec![0, 0],
+            patient_antibodies: vec![0b110, 0b010],
+            shuffle: vec![0, 1],
+        };
+        // Donor 0 meets patient 1's antibody; donor 1 meets none of 0's.
+        let tables = build(2, pool.fields(), 4, 4).unwrap();
+        assert_eq!(tables.m, [0, 0, 1, 0]);
+        // Weights stand whatever M says.
+        assert_eq!(tables.w, [0, 1_300, 1_300, 0]);
+    }
+
+    #[test]
+    fn building_checks_in_order() {
+        let good = Pool {
+            ids: vec![7, 8, 9],
+            donor_bloods: vec![0; 3],
+            patient_bloods: vec![0; 3],
+            donor_ages: vec![0; 3],
+            patient_ages: vec![0; 3],
+            donor_antigens: vec![0; 3],
+            patient_antigens: vec![0; 3],
+            patient_antibodies: vec![0; 3],
+            shuffle: vec![],
+        };
+        let reason = |pool: &Pool, n, m_len, w_len| build(n, pool.fields(), m_len, w_len).err();
+        assert_eq!(reason(&good, 3, 9, 9), None);
+        assert_eq!(reason(&good, 2, 4, 4), None);
+        assert_eq!(reason(&good, 0, 0, 0), None);
+        assert_eq!(reason(&good, 201, 0, 0), Some(Reason::TooManyPairs));
+        assert_eq!(reason(&good, usize::MAX, 0, 0), Some(Reason::TooManyPairs));
+        assert_eq!(reason(&good, 4, 16, 16), Some(Reason::TooShort));
+        assert_eq!(reason(&good, 3, 8, 9), Some(Reason::TooShort));
+        assert_eq!(reason(&good, 3, 9, 8), Some(Reason::TooShort));
+
+        // A repeated id of pair 1 comes before a wrong blood of pair 2, but
+        // after one of its own; either comes before the tables to be filled,
+        // and after a field too short.
+        let mut bad = good.clone();
+        bad.ids[1] = 7;
+        bad.patient_bloods[2] = 4;
+        assert_eq!(reason(&bad, 3, 0, 0), Some(Reason::RepeatedId));
+        bad.donor_ages[1] = 2;
+        assert_eq!(reason(&bad, 3, 0, 0), Some(Reason::Group));
+        bad.patient_antibodies.truncate(2);
+        assert_eq!(reason(&bad, 3, 0, 0), Some(Reason::TooShort));
+        // Faults past the pairs asked for are none.
+        assert_eq!(reason(&bad, 1, 1, 1), None);
+    }
+}
