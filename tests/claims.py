@@ -1,5 +1,6 @@
-"""docs/CLAIMS.md holds to the tree. Of what stands there in backquotes: a path under crates/ is there; a must-fail edit, as `crate/label`, is there, and
-every edit of the tree is cited; any other single name is declared or written in some source. A line count beside a module is that file's."""
+"""docs/CLAIMS.md holds to the tree. Of what stands there in backquotes: a path under crates/ is there, and a name that follows a path directly is in that
+file; a must-fail edit, as `crate/label`, is there, and every edit of the tree is cited; any other single name is in some source. A line count beside a
+module is that file's."""
 import pathlib
 import re
 
@@ -29,6 +30,10 @@ for token in sorted(set(re.findall(r'`([^`\n]+)`', text))):
     elif re.fullmatch(r'[^\s/]+', token) and not re.fullmatch(r'[\d,.]+', token):
         for name in token.split('.'):
             check(not name or name in words or (crates / name).is_dir(), f'`{token}`: no source has the name {name}')
+
+for path, name in re.findall(r'`(\w+/(?:specs|proofs|src)/[\w/.]+)` `([^`\s/]+)`', text):
+    file = module(path)
+    check(file and re.search(r'(?<![\w-])' + re.escape(name) + r'(?![\w-])', file.read_text()), f'`{path}` has no {name}')
 
 check(edits, 'the tree has no must-fail edits')
 for edit in sorted(edits - cited):

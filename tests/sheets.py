@@ -138,10 +138,11 @@ def main():
     for _ in range(count):
         sheet = sheet_of(*whole(draw)) if draw.random() < 0.3 else damaged(draw)
         want = said(sheet)
-        got = subprocess.run([LOOK], input=sheet, capture_output=True).stdout.decode()
+        run = subprocess.run([LOOK], input=sheet, capture_output=True)
+        got = run.stdout.decode()
         kind = want.split()[1] if want.startswith('REFUSED') else 'accepted'
         answers[kind] = answers.get(kind, 0) + 1
-        check(got == want, f'sheet {sheet.hex()} wants {want[:80]!r} gives {got[:80]!r}')
+        check(run.returncode == 0 and got == want, f'sheet {sheet.hex()} wants {want[:80]!r} gives {got[:80]!r}')
     print('answers', ', '.join(f'{k}: {answers[k]}' for k in sorted(answers)))
     if count >= 2000:
         for kind in ('accepted', '1', '2', '3', '4', '5', '6', '7', '8'):

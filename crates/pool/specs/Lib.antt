@@ -1,5 +1,5 @@
 -- Document 01's 'The pool sheet', 'Writer and printout' and 'Turned back'. Believe `Pool`, `Sheet`, `Tables`, `Turned` and `Calls`:
--- the contracts cite them. `Faultless` says a second time, without them, what has none of the faults; `Promises` has the statements.
+-- the contracts cite them. `Faultless` says a second time, without the search for a fault, what has none of them; `Promises` has the statements.
 pub mod Pool
 pub mod Sheet
 pub mod Tables
