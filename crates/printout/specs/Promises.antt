@@ -1,0 +1,83 @@
+-- What is promised of the text and of the calls, as statements: the proofs are in `proofs/`, and the contracts of `print_plan` and `print_refusal`
+-- carry `PrintsPlan` and `PrintsRefusal`. Assumes nothing.
+use Prim.Native.Nat.{ℕ, _+_, _-_, _*_, _≤_, _<_}
+use Prim.Native.Char.{code}
+use mathlib.Core.Path.{_≡_}
+use mathlib.Core.List.{List, [], _∷_}
+use lib.ListN.{length, getD}
+use Rattle.refusal.specs.Answer.{Answer, finished, refused}
+use Rattle.printout.specs.Printed.{bytesOf, decimal, Plan, plan, planText, refusalText}
+use Rattle.printout.specs.Steps.{Hold}
+
+-- ## Decimal, said a second time
+
+-- the number that a text of digits stands for, the highest first, after digits that stand for `higher`
+unfoldable pub readOn : ℕ → List ℕ → ℕ
+readOn higher [] = higher
+readOn higher (c ∷ text) = readOn (higher * 10 + (c - code "0")) text
+
+-- one digit or more, that stand for x, the first of several no zero
+pub record Decimal (x : ℕ) (text : List ℕ) : Type 0 where
+  pub some : 0 < length text
+  pub digits : (i : ℕ) → i < length text → (code "0" ≤ getD text i 0) × (getD text i 0 ≤ code "9")
+  pub number : readOn 0 text ≡ x
+  pub front : 1 < length text → code "0" < getD text 0 0
+
+-- "The printout is decimal": what is printed of a number is such a text, and there is no other
+pub record PrintsDecimal (x : ℕ) : Type 0 where
+  pub is : Decimal x (decimal x)
+  pub only : (text : List ℕ) → Decimal x text → text ≡ decimal x
+
+-- ## Examples
+
+-- document 01's: 11 and 12 give to each other
+abbrev pub ExamplePrinted : Type 0
+ExamplePrinted =
+    planText (plan 2 1 2900 (11 ∷ 12 ∷ []) (1 ∷ 0 ∷ []) (1 ∷ 0 ∷ []) 1 6 1) ≡ bytesOf "PLAN 2 1 2900\n11 12 12\n12 11 11\nCOUNTS 1 6 1\n"
+
+-- nobody gives: pool k4 of document 01, with the same ids
+abbrev pub NonePrinted : Type 0
+NonePrinted = planText (plan 2 0 0 (11 ∷ 12 ∷ []) (2 ∷ 2 ∷ []) (2 ∷ 2 ∷ []) 1 6 1) ≡ bytesOf "PLAN 2 0 0\n11 - -\n12 - -\nCOUNTS 1 6 1\n"
+
+abbrev pub RefusalPrinted : Type 0
+RefusalPrinted = refusalText 7 42 ≡ bytesOf "REFUSED 7 42\n"
+
+-- ## Buffers that always suffice
+
+-- what the types of the arguments give: numbers of 64 bits, and ids of 32
+pub record Typed (p : Plan) : Type 0 where
+  pub pairs : p .pairs < 18446744073709551616
+  pub cycles : p .cycles < 18446744073709551616
+  pub weight : p .weight < 18446744073709551616
+  pub ids : (i : ℕ) → getD (p .ids) i 0 < 4294967296
+  pub comparisons : p .comparisons < 18446744073709551616
+  pub products : p .products < 18446744073709551616
+  pub rounds : p .rounds < 18446744073709551616
+
+-- bytes for any plan of n pairs: 1,458 for 40
+abbrev pub planRoom : ℕ → ℕ
+planRoom n = 138 + 33 * n
+
+-- and for any refusal, whose number has one byte
+abbrev pub refusalRoom : ℕ
+refusalRoom = 33
+
+abbrev pub PlanFits : Type 0
+PlanFits = (p : Plan) → Typed p → length (planText p) ≤ planRoom (p .pairs)
+
+abbrev pub RefusalFits : Type 0
+RefusalFits = (number place : ℕ) → number < 256 → place < 18446744073709551616 → length (refusalText number place) ≤ refusalRoom
+
+-- an answer of printing a text into a buffer of `room` bytes: surely its length, where `sure` holds; no length is above the buffer's; and a refusal
+-- is 9 with place 0
+pub record Prints (sure : Type 0) (text : List ℕ) (room : ℕ) (a : Answer ℕ) : Type 0 where
+  pub prints : sure → a ≡ finished (length text)
+  pub within : (n : ℕ) → a ≡ finished n → n ≤ room
+  pub refuses : (k o : ℕ) → a ≡ refused k o → (k ≡ 9) × (o ≡ 0)
+
+-- a plan is surely printed where its tables hold its pairs and the buffer has as many bytes
+abbrev pub PrintsPlan : Plan → ℕ → Answer ℕ → Type 0
+PrintsPlan p room = Prints (Hold (p .pairs) (p .ids) (p .donors) (p .recipients) × (planRoom (p .pairs) ≤ room)) (planText p) room
+
+abbrev pub PrintsRefusal : ℕ → ℕ → ℕ → Answer ℕ → Type 0
+PrintsRefusal number place room = Prints (refusalRoom ≤ room) (refusalText number place) room
