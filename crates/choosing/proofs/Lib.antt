@@ -3,3 +3,4 @@ pub mod Halves
 pub mod Joins
 pub mod Winners
 pub mod Tested
+pub mod InRound

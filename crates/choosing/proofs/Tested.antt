@@ -31,8 +31,8 @@ chosens : {i i′ : ℕ} {t t′ : Tallies.Tally} → i ≡ i′ → t ≡ t′ 
 chosens e f = cc
 
 module _ (n : ℕ) (ws : List ℕ) (t : Tally) (asked : Whole n ws t) where
-  pub asks-choose : (p : Places) → p ≡ placesAt n 0 → Part n ws 0 p t
-  asks-choose p e = record { few = asked .few; some = asked .some; within = omega (arith, asked .whole); there = e; room = asked .room }
+  pub asks-part : (p : Places) → p ≡ placesAt n 0 → Part n ws 0 p t
+  asks-part p e = record { few = asked .few; some = asked .some; within = omega (arith, asked .whole); there = e; room = asked .room }
 
   module _ (r : Won) (er : Ensured n ws 0 t r) where
     pub room-test : Room 1 4 (r .tally)

@@ -1,4 +1,4 @@
--- The winner of a part, as `choose` finds it. Assumes nothing.
+-- The winner of a part, as `choose_part` finds it. Assumes nothing.
 use Prim.Native.Nat.{ℕ, _+_, _-_, _*_, _/_, _≤_, _<_}
 use mathlib.Core.Bool.{Bool, true, false, cond}
 use mathlib.Core.List.{List}
@@ -28,7 +28,7 @@ rightOf ws = take (length ws - length ws / 2) (drop (length ws / 2) ws)
 pub right-length : (ws : List ℕ) → length (rightOf ws) ≡ length ws - length ws / 2
 right-length ws = ap length (right-is ws) ∙ length-right ws
 
--- what `choose` ensures of a part whose first number is i
+-- what `choose_part` ensures of a part whose first number is i
 abbrev pub Ensured : ℕ → List ℕ → ℕ → Tally → Won → Type 0
 Ensured n ws i t r = (wonBy r ≡ won i ws (counted t)) × (r .best .at ≡ placesAt n (r .best .number)) × (r .next ≡ placesAt n (i + length ws))
 

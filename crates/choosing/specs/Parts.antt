@@ -1,5 +1,5 @@
 -- What choosing gives, as the definitions have it, and what it asks of its arguments. Assumes nothing.
-use Prim.Native.Nat.{ℕ, _+_, _*_, _≤_, _<_}
+use Prim.Native.Nat.{ℕ, _+_, _*_, _^_, _≤_, _<_}
 use mathlib.Core.Path.{_≡_}
 use mathlib.Core.List.{List}
 use lib.ListN.{length}
@@ -20,6 +20,10 @@ wonBy r = Rounds.winner (r .best .weight) (r .best .number) (counted (r .tally))
 abbrev pub chosenBy : Chosen → Rounds.Chosen
 chosenBy r = record { number = r .number; tally = counted (r .tally) }
 
+-- the choice of a round that begins with the tally t
+abbrev pub choiceOf : ℕ → List ℕ → Tally → Rounds.Chosen
+choiceOf n weights t = Rounds.chosenIn 0 (subsets 3 n) weights (counted t)
+
 -- a part of the weights, whose first number is `first`, where the cursor stands
 pub record Part (n : ℕ) (weights : List ℕ) (first : ℕ) (p : Places) (t : Tally) : Type 0 where
   pub few : n ≤ 200
@@ -34,3 +38,9 @@ pub record Whole (n : ℕ) (weights : List ℕ) (t : Tally) : Type 0 where
   pub some : 0 < length weights
   pub whole : length weights ≡ length (subsets 3 n)
   pub room : Room (length weights) (5 * length weights) t
+
+-- round k: all weights, and a place for its choice
+pub record Turn (n : ℕ) (weights choices : List ℕ) (k : ℕ) (t : Tally) : Type 0 where
+  pub all : Whole n weights t
+  pub within : k < length choices
+  pub rounds : t .rounds + 1 < 2 ^ 64

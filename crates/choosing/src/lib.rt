@@ -5,12 +5,12 @@ ghost use mathlib.Core.Path.{_≡_};
 ghost use mathlib.Core.Bool.{cond};
 ghost use Prim.Native.Nat.{_+_};
 ghost use lib.Dec.{ltb};
-ghost use lib.ListN.{length};
+ghost use lib.ListN.{length, set};
 ghost use Rattle.greedy.specs.Rounds.{byHalves, choosing};
 ghost use Rattle.exchange.specs.Subsets.{subsets};
 ghost use Rattle.gates.specs.Counts.{counted, Room, Raised};
 ghost use Rattle.cursor.specs.Cursor.{placesAt};
-ghost use Rattle.choosing.specs.Parts.{wonBy, chosenBy, Part, Whole};
+ghost use Rattle.choosing.specs.Parts.{wonBy, chosenBy, choiceOf, Part, Whole, Turn};
 
 // A winner: its weight, its number and its places.
 pub struct Best {
@@ -35,6 +35,12 @@ pub struct Won {
 // A choice, its places, and the tally.
 pub struct Chosen {
     pub number: usize,
+    pub at: Places,
+    pub tally: Tally,
+}
+
+// The places of a choice that is stored, and the tally.
+pub struct Placed {
     pub at: Places,
     pub tally: Tally,
 }
@@ -68,7 +74,7 @@ fn join(a: Best, b: Best, t: Tally) -> Joined
 }
 
 // The winner of the part of the weights whose first number is `first`, where the cursor p stands. The part is halved until one is left.
-fn choose(n: usize, weights: &[u32], first: usize, p: Places, t: Tally) -> Won
+fn choose_part(n: usize, weights: &[u32], first: usize, p: Places, t: Tally) -> Won
     requires { ⌜ Part n (now weights) first p t ⌝ }
     ensures { λ r. ⌜ (wonBy r ≡ byHalves (length (now (weights .entry))) first (now (weights .entry)) (counted t)) × (r .best .at ≡ placesAt n (r .best .number)) × (r .next ≡ placesAt n (first + length (now (weights .entry)))) ⌝ }
 {
@@ -86,8 +92,8 @@ fn choose(n: usize, weights: &[u32], first: usize, p: Places, t: Tally) -> Won
         };
     }
     let half = weights.len() / 2;
-    let left = choose(n, &weights[..half], first, p, t);
-    let right = choose(n, &weights[half..], first + half, left.next, left.tally);
+    let left = choose_part(n, &weights[..half], first, p, t);
+    let right = choose_part(n, &weights[half..], first + half, left.next, left.tally);
     let joined = join(left.best, right.best, right.tally);
     let best = joined.best;
     let next = right.next;
@@ -99,12 +105,12 @@ fn choose(n: usize, weights: &[u32], first: usize, p: Places, t: Tally) -> Won
     }
 }
 
-// The choice of a round: the winner, or none where it weighs 0. The final test is 1 comparison and 4 products.
-pub fn choice(n: usize, weights: &[u32], t: Tally) -> Chosen
+// The choice: the winner, or none where it weighs 0. The final test is 1 comparison and 4 products.
+fn choice(n: usize, weights: &[u32], t: Tally) -> Chosen
     requires { ⌜ Whole n (now weights) t ⌝ }
     ensures { λ r. ⌜ (chosenBy r ≡ choosing 0 (subsets 3 n) (now (weights .entry)) (counted t)) × (r .at ≡ placesAt n (r .number)) ⌝ }
 {
-    let won = choose(n, weights, 0, cursor::first(n), t);
+    let won = choose_part(n, weights, 0, cursor::first(n), t);
     let best = won.best;
     let some = gates::comparison(0, best.weight, won.tally);
     let number = gates::pick(some.value, best.number, weights.len(), some.tally);
@@ -122,4 +128,30 @@ pub fn choice(n: usize, weights: &[u32], t: Tally) -> Chosen
         at: at,
         tally: tally,
     }
+}
+
+// Round k begins, and its choice is stored.
+fn chosen_in_round(n: usize, weights: &[u32], choices: &mut [u32], k: usize, t: Tally) -> Placed
+    requires { ⌜ Turn n (now weights) (now choices) k t ⌝ }
+    ensures { λ r. ⌜ (now (choices .exit) ≡ set (now (choices .entry)) k (choiceOf n (now (weights .entry)) t .number)) × (counted (r .tally) ≡ choiceOf n (now (weights .entry)) t .tally) × (r .at ≡ placesAt n (choiceOf n (now (weights .entry)) t .number)) ⌝ }
+{
+    let chosen = choice(n, weights, gates::begin_round(t));
+    choices[k] = chosen.number as u32;
+    let at = chosen.at;
+    let tally = chosen.tally;
+    Placed {
+        at: at,
+        tally: tally,
+    }
+}
+
+// The step: it raises the lent tally, and gives the places of the choice.
+pub fn choose(n: usize, weights: &[u32], choices: &mut [u32], k: usize, tally: &mut Tally) -> Places
+    requires { ⌜ Turn n (now weights) (now choices) k (now tally) ⌝ }
+    ensures { λ r. ⌜ (now (choices .exit) ≡ set (now (choices .entry)) k (choiceOf n (now (weights .entry)) (now (tally .entry)) .number)) × (counted (now (tally .exit)) ≡ choiceOf n (now (weights .entry)) (now (tally .entry)) .tally) × (r ≡ placesAt n (choiceOf n (now (weights .entry)) (now (tally .entry)) .number)) ⌝ }
+{
+    let old = *tally;
+    let made = chosen_in_round(n, weights, choices, k, old);
+    *tally = made.tally;
+    made.at
 }

@@ -15,7 +15,7 @@ use Rattle.laws.proofs.Whole.{filled-whole, filling-next}
 use Rattle.greedy.specs.Tally as Tallies
 use Rattle.greedy.specs.Tally.{raise}
 use Rattle.greedy.specs.Places.{meets}
-use Rattle.greedy.specs.Rounds.{clear, clearing}
+use Rattle.greedy.specs.Rounds.{clear, clearing, clearBefore, clearingBefore}
 use Rattle.greedy.proofs.Tallied.{clear-length, clearing-append}
 use Rattle.exchange.specs.Subsets.{subsets}
 use Rattle.gates.specs.Counts.{counted, Room}
@@ -78,7 +78,7 @@ cond-le : (b : Bool) (x : ℕ) → cond b 0 x ≤ x
 cond-le true x = omega arith
 cond-le false x = omega arith
 
--- ## The loop of `clear`, before the subset of number i
+-- ## The loop of `all_cleared`, before the subset of number i
 
 pub record Cleared (n : ℕ) (old : List ℕ) (choice : Places) (t : Tally) (weights : List ℕ) (p : Places) (u : Tally) (i : ℕ) : Type 0 where
   pub upto : i ≤ length (subsets 3 n)
@@ -148,3 +148,14 @@ module _ (n : ℕ) (old : List ℕ) (choice : Places) (t : Tally) (asked : Clear
               ∙ sym (clearing-append (take i (subsets 3 n)) (getD (subsets 3 n) i [] ∷ []) (counted t))
               ∙ ap (λ (ss : List (List ℕ)). clearing ss (counted t)) (sym (take-suc (subsets 3 n) i [] below) ∙ ap (λ (k : ℕ). take k (subsets 3 n)) (sym (add-one i)));
         }
+
+-- ## Where so many rounds are left
+
+pub none-left : (m : ℕ) → m < 1 → (c : List ℕ) (ss : List (List ℕ)) (ws : List ℕ) (t : Tallies.Tally) → (ws ≡ clearBefore m c ss ws) × (t ≡ clearingBefore m ss t)
+none-left zero l c ss ws t = (refl, refl)
+none-left (suc m) l c ss ws t = absurd (not-suc-le-zero (le-of-suc-le-suc l))
+
+pub some-left : (m : ℕ) → 1 ≤ m → (c : List ℕ) (ss : List (List ℕ)) (ws vs : List ℕ) (t u : Tallies.Tally)
+    → (vs ≡ clear c ss ws) × (u ≡ clearing ss t) → (vs ≡ clearBefore m c ss ws) × (u ≡ clearingBefore m ss t)
+some-left zero l c ss ws vs t u e = absurd (not-suc-le-zero l)
+some-left (suc m) l c ss ws vs t u e = e

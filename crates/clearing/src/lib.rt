@@ -1,5 +1,5 @@
-// Clearing: every subset sharing a place with the choice gets weight 0, by products. What runs depends on n and the cursor alone: after a
-// choice of none it runs as well.
+// Clearing: after each round but the last, every subset sharing a place with the choice gets weight 0, by products. What runs depends on n, the
+// cursor and the rounds that are left alone: after a choice of none it runs as well.
 use cursor::Places;
 use gates::Gated;
 use gates::Tally;
@@ -23,7 +23,7 @@ fn keep(p: usize, choice: Places) -> usize
 }
 
 // The weight x of the subset at the cursor after the choice: 2 products for a two, 3 for a triple.
-fn cleared(n: usize, x: usize, p: Places, choice: Places, t: Tally) -> Gated
+fn weight_after(n: usize, x: usize, p: Places, choice: Places, t: Tally) -> Gated
     requires { ⌜ InRange n p × (x < 2 ^ 32) × Room 0 3 t ⌝ }
     ensures { λ r. ⌜ (r .value ≡ cond (meets (subsetAt n p) (subsetAt n choice)) 0 x) × (counted (r .tally) ≡ Rounds.clearing (subsetAt n p ∷ []) (counted t)) ⌝ }
 {
@@ -35,7 +35,8 @@ fn cleared(n: usize, x: usize, p: Places, choice: Places, t: Tally) -> Gated
     gates::product(second.value, keep(p.w, choice), second.tally)
 }
 
-pub fn clear(n: usize, weights: &mut [u32], choice: Places, t: Tally) -> Tally
+// Every subset sharing a place with the choice gets weight 0.
+fn all_cleared(n: usize, weights: &mut [u32], choice: Places, t: Tally) -> Tally
     requires { ⌜ Clearing n (now weights) t ⌝ }
     ensures { λ r. ⌜ (now (weights .exit) ≡ Rounds.clear (subsetAt n choice) (subsets 3 n) (now (weights .entry))) × (counted r ≡ Rounds.clearing (subsets 3 n) (counted t)) ⌝ }
 {
@@ -43,11 +44,31 @@ pub fn clear(n: usize, weights: &mut [u32], choice: Places, t: Tally) -> Tally
     let mut tally = t;
     let mut i: usize = 0;
     while i < weights.len() {
-        let left = cleared(n, weights[i] as usize, p, choice, tally);
-        weights[i] = left.value as u32;
-        tally = left.tally;
+        let after = weight_after(n, weights[i] as usize, p, choice, tally);
+        weights[i] = after.value as u32;
+        tally = after.tally;
         p = cursor::next(n, p);
         i += 1;
     }
     tally
+}
+
+// The same where rounds are left; after the last, nothing.
+fn cleared(n: usize, weights: &mut [u32], choice: Places, left: usize, t: Tally) -> Tally
+    requires { ⌜ Clearing n (now weights) t ⌝ }
+    ensures { λ r. ⌜ (now (weights .exit) ≡ Rounds.clearBefore left (subsetAt n choice) (subsets 3 n) (now (weights .entry))) × (counted r ≡ Rounds.clearingBefore left (subsets 3 n) (counted t)) ⌝ }
+{
+    if left < 1 {
+        return t;
+    }
+    all_cleared(n, weights, choice, t)
+}
+
+// The step: it raises the lent tally.
+pub fn clear(n: usize, weights: &mut [u32], choice: Places, left: usize, tally: &mut Tally)
+    requires { ⌜ Clearing n (now weights) (now tally) ⌝ }
+    ensures { λ _. ⌜ (now (weights .exit) ≡ Rounds.clearBefore left (subsetAt n choice) (subsets 3 n) (now (weights .entry))) × (counted (now (tally .exit)) ≡ Rounds.clearingBefore left (subsets 3 n) (counted (now (tally .entry)))) ⌝ }
+{
+    let old = *tally;
+    *tally = cleared(n, weights, choice, left, old);
 }

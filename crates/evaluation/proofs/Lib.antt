@@ -1,4 +1,4 @@
--- `Cycles`: the weight of a cycle. `Subsets`: the weight of a subset. `Evaluated`: all of them.
+-- `Cycles`: the weight of a cycle. `Subsets`: the weight of a subset. `AllWeights`: all of them.
 pub mod Cycles
 pub mod Subsets
-pub mod Evaluated
+pub mod AllWeights

@@ -77,7 +77,7 @@ fn weight_at(n: usize, m: &[u8], w: &[u16], s: &[u16], p: Places, t: Tally) -> G
 }
 
 // The weight of each subset, in the published order.
-pub fn evaluate(n: usize, m: &[u8], w: &[u16], s: &[u16], weights: &mut [u32], t: Tally) -> Tally
+fn evaluated(n: usize, m: &[u8], w: &[u16], s: &[u16], weights: &mut [u32], t: Tally) -> Tally
     requires { ⌜ Evaluating n (now m) (now w) (now s) (now weights) t ⌝ }
     ensures { λ r. ⌜ (now (weights .exit) ≡ map (subsetWeight (entry (now (m .entry)) n) (entry (now (w .entry)) n) (now (s .entry))) (subsets 3 n)) × (counted r ≡ evaluating (subsets 3 n) (counted t)) ⌝ }
 {
@@ -92,4 +92,13 @@ pub fn evaluate(n: usize, m: &[u8], w: &[u16], s: &[u16], weights: &mut [u32], t
         i += 1;
     }
     tally
+}
+
+// The step: it raises the lent tally.
+pub fn evaluate(n: usize, m: &[u8], w: &[u16], s: &[u16], weights: &mut [u32], tally: &mut Tally)
+    requires { ⌜ Evaluating n (now m) (now w) (now s) (now weights) (now tally) ⌝ }
+    ensures { λ _. ⌜ (now (weights .exit) ≡ map (subsetWeight (entry (now (m .entry)) n) (entry (now (w .entry)) n) (now (s .entry))) (subsets 3 n)) × (counted (now (tally .exit)) ≡ evaluating (subsets 3 n) (counted (now (tally .entry)))) ⌝ }
+{
+    let old = *tally;
+    *tally = evaluated(n, m, w, s, weights, old);
 }

@@ -47,6 +47,10 @@ choosing f ss ws t =
     let best : Winner = byHalves (length ws) 0 ws t in
     record { number = cond (ltb f (best .weight)) (best .number) (length ss); tally = raise 1 4 (best .tally) }
 
+-- the choice of a round, which begins with it
+abbrev pub chosenIn : ℕ → List (List ℕ) → List ℕ → Tally → Chosen
+chosenIn f ss ws t = choosing f ss ws (nextRound t)
+
 -- ## Clearing
 
 -- "every subset sharing a place with the choice gets weight 0"
@@ -60,6 +64,15 @@ unfoldable pub clearing : List (List ℕ) → Tally → Tally
 clearing [] t = t
 clearing (s ∷ ss) t = clearing ss (raise 0 (length s) t)
 
+-- "After each round but the last": where r rounds are left
+abbrev pub clearBefore : ℕ → List ℕ → List (List ℕ) → List ℕ → List ℕ
+clearBefore zero c ss ws = ws
+clearBefore (suc r) c ss ws = clear c ss ws
+
+abbrev pub clearingBefore : ℕ → List (List ℕ) → Tally → Tally
+clearingBefore zero ss t = t
+clearingBefore (suc r) ss t = clearing ss t
+
 -- ## The rounds
 
 -- what rounds leave: the weights, the choices, the tally
@@ -71,13 +84,10 @@ pub record Left : Type 0 where
 abbrev pub left : List ℕ → List ℕ → Tally → Left
 left ws cs t = record { weights = ws; choices = cs; tally = t }
 
--- r rounds, "always all of them. After each round but the last, every subset sharing a place with the choice gets weight 0"
+-- r rounds, "always all of them"; each leaves one fewer
 unfoldable pub rounds : ℕ → ℕ → List (List ℕ) → List ℕ → Tally → Left
 rounds f zero ss ws t = left ws [] t
-rounds f (suc zero) ss ws t =
-    let c : Chosen = choosing f ss ws (nextRound t) in
-    left ws (c .number ∷ []) (c .tally)
-rounds f (suc (suc r)) ss ws t =
-    let c : Chosen = choosing f ss ws (nextRound t) in
-    let rest : Left = rounds f (suc r) ss (clear (getD ss (c .number) []) ss ws) (clearing ss (c .tally)) in
+rounds f (suc r) ss ws t =
+    let c : Chosen = chosenIn f ss ws t in
+    let rest : Left = rounds f r ss (clearBefore r (getD ss (c .number) []) ss ws) (clearingBefore r ss (c .tally)) in
     left (rest .weights) (c .number ∷ rest .choices) (rest .tally)

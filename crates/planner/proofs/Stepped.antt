@@ -13,7 +13,7 @@ use Rattle.gates.specs.Counts.{counted}
 use Rattle.gates.specs.declared.Tally.{Tally}
 use Rattle.cursor.proofs.Number.{count-le}
 use Rattle.evaluation.specs.Readable.{Evaluating}
-use Rattle.evaluation.proofs.Evaluated.{evaluating-le}
+use Rattle.evaluation.proofs.AllWeights.{evaluating-le}
 use Rattle.rounds.specs.Rounding.{Rounding}
 use Rattle.planner.specs.Checks.{Stepping}
 

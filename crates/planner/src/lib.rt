@@ -112,7 +112,7 @@ fn compatibility(n: usize, m: &[u8]) -> Verdict
     Verdict::Sound
 }
 
-// Evaluation, then all rounds; the tally begins at 0.
+// Evaluation, then all rounds; one tally, which begins at 0, is lent to both.
 fn steps(
     n: usize,
     m: &[u8],
@@ -124,13 +124,14 @@ fn steps(
     requires { ⌜ Stepping n (now m) (now w) (now s) (now weights) (now choices) ⌝ }
     ensures { λ r. ⌜ left (now (weights .exit)) (now (choices .exit)) (counted r) ≡ leftBy 0 3 n (entry (now (m .entry)) n) (entry (now (w .entry)) n) (now (s .entry)) ⌝ }
 {
-    let begun = Tally {
+    let mut tally = Tally {
         comparisons: 0,
         products: 0,
         rounds: 0,
     };
-    let evaluated = evaluation::evaluate(n, m, w, s, weights, begun);
-    rounds::all_rounds(n, weights, choices, evaluated)
+    evaluation::evaluate(n, m, w, s, weights, &mut tally);
+    rounds::all_rounds(n, weights, choices, &mut tally);
+    tally
 }
 
 // The plan, from checked input.

@@ -19,7 +19,7 @@ use Rattle.cursor.specs.declared.Places.{Places}
 use Rattle.cursor.proofs.Order.{is-subset, in-range}
 use Rattle.cursor.proofs.Standing.{stands-at}
 use Rattle.evaluation.specs.Readable.{Readable, Shuffled}
-use Rattle.evaluation.proofs.Evaluated.{weight-le}
+use Rattle.evaluation.proofs.AllWeights.{weight-le}
 use Rattle.resolution.specs.Records.{numbers, flat, cycleIn, given, received, chosenBy, resultOf, Added}
 use Rattle.resolution.specs.Asked.{Partners, Free, One, Resolving}
 use Rattle.resolution.specs.declared.Giving.{Giving}

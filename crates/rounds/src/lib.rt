@@ -7,21 +7,15 @@ ghost use Rattle.exchange.specs.Subsets.{subsets};
 ghost use Rattle.gates.specs.Counts.{counted};
 ghost use Rattle.rounds.specs.Rounding.{Rounding};
 
-// A round for each entry of `choices`, over a weight for each subset. Nothing is cleared after the last.
-pub fn all_rounds(n: usize, weights: &mut [u32], choices: &mut [u32], t: Tally) -> Tally
-    requires { ⌜ Rounding n (now weights) (now choices) t ⌝ }
-    ensures { λ r. ⌜ Rounds.left (now (weights .exit)) (now (choices .exit)) (counted r) ≡ Rounds.rounds 0 (length (now (choices .entry))) (subsets 3 n) (now (weights .entry)) (counted t) ⌝ }
+// A round for each entry of `choices`, over a weight for each subset. The tally is lent on to each step.
+pub fn all_rounds(n: usize, weights: &mut [u32], choices: &mut [u32], tally: &mut Tally)
+    requires { ⌜ Rounding n (now weights) (now choices) (now tally) ⌝ }
+    ensures { λ _. ⌜ Rounds.left (now (weights .exit)) (now (choices .exit)) (counted (now (tally .exit))) ≡ Rounds.rounds 0 (length (now (choices .entry))) (subsets 3 n) (now (weights .entry)) (counted (now (tally .entry))) ⌝ }
 {
-    let mut tally = t;
     let mut k: usize = 0;
     while k < choices.len() {
-        let chosen = choosing::choice(n, weights, gates::begin_round(tally));
-        choices[k] = chosen.number as u32;
-        tally = chosen.tally;
-        if k + 1 < choices.len() {
-            tally = clearing::clear(n, weights, chosen.at, tally);
-        }
+        let at = choosing::choose(n, weights, choices, k, tally);
+        clearing::clear(n, weights, at, choices.len() - k - 1, tally);
         k += 1;
     }
-    tally
 }
