@@ -1,7 +1,32 @@
 """The functions that are walked."""
-from walk import Walk, call, copy, give, lend, length, less, loop, make, relend, relend_ref, store, zero
+from walk import Walk, call, copy, give, lend, length, less, loop, make, put, relend, relend_ref, store, zero
 
 WALKS = [
+    Walk('records', 'put', 7, [
+        call(4, 'record_at', ['records', 'k'], 'pre .one'),
+        put(5, 6, 'out', 'k', 4, 'pre .within'),
+        give(),
+    ], 'ap (set (out .now) k) e1'),
+
+    Walk('records', 'write', 9, [
+        zero(4),
+        loop(
+            i=4, test=5, below='cycles',
+            body=[
+                relend(7, 8, 'out'),
+                call(6, 'put', [8, 'records', 4], 'written-asks pre {inv} more'),
+            ],
+            after=[give()],
+            inv='Written {cycles} {records} {out₀} {out} {i}',
+            start='written-none _ _ _',
+            upto='{inv} .upto',
+            long={'out': 'written-long pre {inv}'},
+            again='written-next pre (records-fits .1 .0 .1) {inv} more e1',
+        ),
+    ], 'written-all {inv} over', [
+        'use Rattle.records.proofs.Written.{Written, written-none, written-long, written-asks, written-next, written-all}',
+    ]),
+
     Walk('evaluation', 'evaluate', 11, [
         copy(7, 'tally'),
         relend(9, 10, 'weights'),
@@ -65,5 +90,22 @@ WALKS = [
         give(7),
     ], 'stepped _ _ _ _ _ _ pre _ _ e1 _ e2', [
         'use Rattle.planner.proofs.Stepped.{asks-evaluate, asks-rounds, stepped}',
+    ]),
+
+    Walk('planner', 'plan', 23, [
+        length(10, 'records'),
+        relend(12, 13, 'weights'),
+        relend(14, 15, 'choices'),
+        relend(16, 17, 'donors'),
+        relend(18, 19, 'recipients'),
+        call(11, 'plan_by_value', ['n', 'm', 'w', 'shuffle', 13, 15, 17, 19, 10]),
+        relend(21, 22, 'records'),
+        call(20, 'records::write', [22, (11, 'records'), (11, 'cycles')], 'record { held = e1-1 .1; room = e1-1 .0 }'),
+        give((11, 'planning')),
+    ], [
+        'recorded {n} {m} {w} {shuffle} (weights .now) (choices .now) (donors .now) (recipients .now) {weights} {choices} {donors} {recipients} r1 (records .now) {records} e2 e1-0',
+        'recorded-guarantee {n} {m} {w} {shuffle} (weights .now) (choices .now) (donors .now) (recipients .now) {weights} {choices} {donors} {recipients} r1 (records .now) {records} e2 e1-2',
+    ], [
+        'use Rattle.planner.proofs.Recorded.{recorded, recorded-guarantee}',
     ]),
 ]

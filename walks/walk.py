@@ -1,4 +1,5 @@
-"""Writes the walks: the proofs of functions that the borrow checker does not cover, since they are over a reference to a struct.
+"""Writes the walks: the proofs of functions that the borrow checker does not cover, since they are over a reference to a struct
+or to a slice of structs.
 
 Such a proof follows the function's MIR statement by statement. It keeps a list of what is owned, and each of its steps names places in that list; the
 statements are always the same few. So it is written by this program: from the function's signature and contract, which it reads in src/lib.rt, and from
@@ -7,14 +8,17 @@ what is written, and nothing here is believed.
 
     python3 walks/walk.py        writes each walk into crates/CRATE/proofs/FUNCTION/Proof.antt
 
-A parameter is a number or a struct of plain fields by value, a `&[T]`, a `&mut [T]` or a `&mut S`; a function returns a struct or nothing, and has
-one `ensures`. The statements, over the locals as `rt mir` numbers them:
+A parameter is a number, a struct or an array of structs by value, a `&[T]`, a `&mut [T]` or a `&mut S`; a function returns such a value, an enum, or
+nothing. The statements, over the locals as `rt mir` numbers them:
 
     copy(d, 't')                 d = *t
     store('t', x)                *t = x
     relend(p, s, 'xs')           s = &mut *xs, or &*xs, by way of the pointer p
     relend_ref(p, 't')           p = &mut *t
+    put(o, p, 'xs', k, x, shows) xs[k] = x, by way of the offset o and the pointer p, where `shows` shows k < xs.len()
     lend(p, x)                   p = &mut x, where the local x holds a struct
+    lend_array(p, s, x)          s = &mut x, as a slice, by way of the pointer p, where the local x holds an array
+    let(d, x)                    d = x
     zero(d)                      d = 0
     length(d, 'xs')              d = xs.len()
     less(d, x, y, shows)         d = x - y, where `shows` shows y ≤ x
@@ -24,9 +28,9 @@ one `ensures`. The statements, over the locals as `rt mir` numbers them:
     give(x)                      returns x; with no x, nothing
 
 Here x is a local, a field (local, 'name') of the struct in one, or a parameter's name. A slice or a struct that is lent for a call comes back after it,
-with what the call left in it. In the author's terms {x} is what the parameter x holds there (the number, the list, the struct); `pre` is what the
-function requires, `e1`, `e2`, .. what the calls ensure, in their order; and in a loop {x₀} is what x held at entry, {inv} the invariant, `more` that a
-turn is left, `over` that none is."""
+with what the call left in it. In the author's terms {x} is what the parameter x holds there (the number, the list, the struct), and {_9} what local 9
+holds; `pre` is what the function requires, `e1`, `e2`, .. what the calls ensure, in their order (`e1-0`, `e1-1`, .. where there are several clauses), `r1`,
+`r2`, .. what they give; and in a loop {x₀} is what x held at entry, {inv} the invariant, `more` that a turn is left, `over` that none is."""
 import functools
 import pathlib
 import re
@@ -115,8 +119,77 @@ class Struct:
     def fits(self, are):
         return f'({are})'
 
+    def told(self, term, fits):
+        """That the machine value of which `fits` speaks is `value(term)`."""
+        return f'({self.tells} {term} _ {fits})'
+
+    def part(self, k, term, fits):
+        """What `fits` says of the k-th field."""
+        return f'(LL.owed {self.laws()} {term} _ {fits} {nth(k)})'
+
+    def as_part(self, term, fits):
+        """That a field of this type fits, from what its struct says of it."""
+        return fits
+
+    mir = property(lambda self: f'{self.name}-laws.mir')
+    slot = property(lambda self: f'(plain (λ _. {self.row}))')
     vals = property(lambda self: f'LL.vals {self.laws()}')
     tells = property(lambda self: f'LL.tells {self.laws()}')
+
+
+class Mixed(Struct):
+    """A declared struct that also holds enums or arrays."""
+
+    def told(self, term, fits):
+        return f'({self.name}-laws.lowers .val-is {term} _ {fits})'
+
+
+class Enum(Mixed):
+    """A declared enum."""
+
+    def typed(self, term, fits):
+        return f'(EL.lawful {self.laws()} 𝓤 H A W tt .typed {term} _ {fits} .0)'
+
+    def owned(self, term, fits):
+        return f'owned ! {self.row} (Is {self.row}) (EL.makes {self.name}-row.the-type {self.name}-laws.the-plain 𝓤 H A) {term} _ {fits} $ '
+
+    def as_part(self, term, fits):
+        return f'(subst (Is {self.row} {term}) {self.told(term, fits)} {fits})'
+
+
+class Array:
+    """An array of n structs."""
+
+    def __init__(self, struct, n):
+        self.struct, self.n = struct, n
+        self.laws = f'{struct.laws()} {n}'
+        self.row, self.type = f'(Row {self.laws})', f'List {struct.name}'
+
+    def value(self, term):
+        return f'(rowVal {self.laws} {term})'
+
+    def typed(self, term, fits):
+        return f'(row-typed {self.laws} 𝓤 H A W {term} _ {fits})'
+
+    def owned(self, term, fits):
+        return f'owned ! {self.row} (Is {self.row}) (row-makes {self.laws} 𝓤 H A W {self.struct.name}-laws.the-plain) {term} _ {fits} $ '
+
+    def fitting(self, term):
+        return f'Is {self.row} {term} ({self.value(term)} ∷ [])'
+
+    def fits(self, are):
+        return f'({are})'
+
+    def told(self, term, fits):
+        return f'(row-tells {self.laws} {term} _ {fits})'
+
+    def as_part(self, term, fits):
+        return f'(row-field {self.laws} {term} _ {fits})'
+
+    mir = property(lambda self: f'(lone ({self.row} .mir))')
+    slot = property(lambda self: f'(arrayOf (plain (λ _. {self.struct.row})) {self.n})')
+    vals = property(lambda self: f'array-vals (LL.vals {self.struct.laws()})')
+    tells = property(lambda self: f'row-tells {self.laws}')
 
 
 class Number:
@@ -140,6 +213,10 @@ class Number:
     def fits(self, are):
         return f'({are} .1)'
 
+    def as_part(self, term, fits):
+        return f'({fits} .1)'
+
+    slot = property(lambda self: f'(plain (λ _. {self.row}))')
     vals = property(lambda self: f'uint-vals {self.width}')
     tells = property(lambda self: f'uint-tells {self.width}')
 
@@ -189,7 +266,7 @@ class Param:
         return {'plain': self.of.fits(are), 'ref': ''}.get(self.kind, f'({are} .0 .1)')
 
     def slot(self, i):
-        return f'(shrSliceOf ({i} ∷ []) tt (plain (λ _. {self.of.row})))' if self.lent else f'(plain (λ _. {self.of.row}))'
+        return f'(shrSliceOf ({i} ∷ []) tt (plain (λ _. {self.of.row})))' if self.lent else self.of.slot
 
     def stays(self, i):
         return f'stay-{"slice" if self.kind == "mut" else "ref"} ({i} ∷ []) tt (plain (λ _. {self.of.row}))' if self.kept else f'stay-dropped {self.slot(i)} yes'
@@ -222,8 +299,13 @@ class Source:
     def __init__(self, crate):
         self.crate = crate
         self.text = (TOP / 'crates' / crate / 'src' / 'lib.rt').read_text()
-        self.structs = {name: Struct(crate, name, re.findall(r'pub (\w+): (\w+)', fields)) for name, fields in re.findall(r'pub struct (\w+) \{(.*?)\}', self.text, re.S)}
+        self.enums = {name: Enum(crate, name, []) for name in re.findall(r'pub enum (\w+) \{', self.text)}
+        self.structs = {}
         self.others = {name: other for other, name in re.findall(r'^use (\w+)::(\w+);', self.text, re.M)}
+        for name, fields in re.findall(r'pub struct (\w+) \{(.*?)\}', self.text, re.S):
+            fields = re.findall(r'pub (\w+): ([^,\n]+)', fields)
+            mixed = any(isinstance(self.kind(of), (Array, Mixed)) for _, of in fields)
+            self.structs[name] = (Mixed if mixed else Struct)(crate, name, fields)
         # what contracts cite, by name: the module, and how the name is imported
         self.cited = {}
         for module, names in re.findall(r'^ghost use (\S+)\.\{(.*?)\};', self.text, re.M):
@@ -231,20 +313,21 @@ class Source:
         self.cited.update({name: (module, None) for module, name in re.findall(r'^ghost use (\S+) as (\w+);', self.text, re.M)})
 
     def kind(self, name):
-        if name in WIDTH:
-            return Number(name)
-        return self.structs[name] if name in self.structs else source(self.others[name]).structs[name]
+        array = re.fullmatch(r'\[(\w+); (\d+)\]', name)
+        if array:
+            return Array(self.kind(array[1]), int(array[2]))
+        return Number(name) if name in WIDTH else self.structs.get(name) or self.enums.get(name) or source(self.others[name]).kind(name)
 
     def param(self, text):
         name, of = text.strip().split(': ')
-        for start, kind in ('&mut [', 'mut'), ('&[', 'shr'), ('&mut ', 'ref'), ('', 'plain'):
-            if of.startswith(start):
-                return Param(kind, name, self.kind(of[len(start):].rstrip(']')))
+        for way, kind in (r'&mut \[(.*)\]', 'mut'), (r'&\[(.*)\]', 'shr'), ('&mut (.*)', 'ref'), ('(.*)', 'plain'):
+            found = re.fullmatch(way, of)
+            if found:
+                return Param(kind, name, self.kind(found[1]))
 
     def fn(self, name):
-        found = re.search(rf'fn {name}\(([^)]*)\)(?: -> (\w+))?\s*(?:requires \{{ ⌜ ([^⌝]*) ⌝ \}}\s*)?ensures \{{ λ (\w+)\. ⌜ ([^⌝]*) ⌝ \}}\s*\{{\n', self.text)
-        assert found, f'{self.crate}::{name} is not there, or has not one `ensures`'
-        given, result, requires, r, ensures = found.groups()
+        given, result, contracts = re.search(rf'fn {name}\(([^)]*)\)(?: -> (\S+(?: \d+\])?))?\n(.*?)^\{{$', self.text, re.S | re.M).groups()
+        requires = re.search(r'requires \{ ⌜ (.*) ⌝ \}', contracts)
         params = [self.param(p) for p in given.split(',') if p.strip()]
         values = {p.name: p.name for p in params if not p.lent}
 
@@ -255,7 +338,8 @@ class Source:
                 text = re.sub(rf'(?<![^\s(]){word}(?![^\s)])', f'{{{hole}}}', text)
             return text
 
-        return Fn(self.crate, name, params, result and self.kind(result), requires and contract(requires, values), contract(ensures, {**values, r: 'r'}))
+        return Fn(self.crate, name, params, result and self.kind(result), requires and contract(requires[1], values),
+                  [contract(clause, {**values, r: 'r'}) for r, clause in re.findall(r'ensures(?: \w+)? \{ λ (\w+)\. ⌜ (.*) ⌝ \}', contracts)])
 
     def citing(self, text, crate):
         """The imports of what a contract cites, as that crate names them."""
@@ -334,8 +418,9 @@ def statement(name):
     return lambda *args, **named: lambda walk: getattr(walk, name)(*args, **named)
 
 
-copy, store, relend, relend_ref, lend, zero, length, less, make, call, loop, give = map(statement, (
-    'copy', 'store', 'relend', 'relend_ref', 'lend', 'zero', 'length', 'less', 'make', 'call', 'loop', 'give'))
+copy, store, relend, relend_ref, put, lend, lend_array, let, zero, length, less, make, call, loop, give = map(statement, (
+    'copy', 'store', 'relend', 'relend_ref', 'put', 'lend', 'lend_array', 'let', 'zero', 'length', 'less', 'make', 'call', 'loop', 'give'))
+
 
 
 class Held:
@@ -346,11 +431,12 @@ class Held:
 
 
 class Walk:
-    """The walk of a function of so many locals. `ends` shows what it promises; `uses` imports what the author's terms cite."""
+    """The walk of a function of so many locals. `ends` shows what it promises, clause by clause; `uses` imports what the author's terms cite."""
 
     def __init__(self, crate, name, locals, ops, ends, uses=()):
         self.fn = fn = source(crate).fn(name)
-        self.locals, self.ops, self.ends, self.uses = locals, ops, ends, uses
+        self.locals, self.ops, self.uses = locals, ops, uses
+        self.ends = ends if isinstance(ends, list) else [ends]
         self.path = TOP / 'crates' / fn.crate / 'proofs' / fn.name / 'Proof.antt'
         self.place = {p.name: i + 1 for i, p in enumerate(fn.params)}
         self.param = {p.name: p for p in fn.params}
@@ -368,8 +454,9 @@ class Walk:
     # ### Names
 
     def know(self, kind):
-        if isinstance(kind, Struct):
-            self.structs[kind.name] = kind
+        struct = kind.struct if isinstance(kind, Array) else kind
+        if isinstance(struct, Struct):
+            self.structs[struct.name] = struct
 
     def κ(self, name): return f'κ{self.fn.life[name]}'
     def q(self, name): return f'q{self.fn.life[name]}'
@@ -379,7 +466,7 @@ class Walk:
 
     def owns(self, p, now):
         """The loan of a parameter, at what it holds now."""
-        return f'{self.row(p)} .own (lent {p.name} ({p.name} .name) {now}) ({p.value(p.name)} ∷ [])'
+        return f'{self.row(p)} .own (renamed {p.name} ({p.name} .name) {now}) ({p.value(p.name)} ∷ [])'
 
     def at_entry(self, text, last=(), result=''):
         """A contract's text, of the function itself."""
@@ -389,7 +476,7 @@ class Walk:
     def at_hand(self, text):
         """The author's text, with what the parameters hold here."""
         here = {p.name: p.name if not p.lent else self.now.get(p.name, f'({p.name} .now)') for p in self.fn.params}
-        return filled(text, {**here, **self.named})
+        return filled(text, {**here, **{f'_{d}': held.term for d, held in self.live.items() if held.term}, **self.named})
 
     def spelled(self, S):
         return f'{S.row} (Is {S.row}) (shows 𝓤 H A {S.row}) ({S.vals}) ({S.tells})'
@@ -415,9 +502,9 @@ class Walk:
             held = self.live[local]
             k, kind = held.kind.field(name)
             self.know(kind)
-            fits = f'(LL.owed {held.kind.laws()} {held.term} _ {held.fits} {nth(k)})'
+            term = f'({held.term} .{name})'
             return (f'(load ! (from ! (fld ! refl (stop !))) (look-in ! {self.cell(local)} (sub ! {k} refl (whole !))))',
-                    Held(kind, f'({held.term} .{name})', fits if isinstance(kind, Struct) else f'({fits} .1)'))
+                    Held(kind, term, kind.as_part(term, held.kind.part(k, held.term, held.fits))))
         local = self.place.get(x, x)
         return f'(load ! (from ! (stop !)) (look ! {self.cell(local)} refl))', self.live[local]
 
@@ -505,6 +592,46 @@ class Walk:
         self.k.line()
         self.closes(t, held)
 
+    # ### A store into a slice of structs: it is opened, one element is taken out and another put in, and it is closed at the new list
+
+    def put(self, o, p, xs, i, x, shows):
+        assert self.long[xs] == 'refl', f'{xs} has been changed'
+        k, S, ys, at, new = self.k, self.param[xs].of, self.now[xs], self.operand(i)[1].term, self.operand(x)[1]
+        b, q, size, within = f'({xs} .ptr .0)', f'({xs} .ptr .1)', f'(mem {S.row} .size)', f'({self.at_hand(shows)})'
+        spot = f'(place {size} {q} {at})'
+        k.line(f'{xs}[{i}] = _{x}')
+        fits = f'record {{ fits = place-fits {S.row} {at} (length {ys}) {xs}-room {within} }}'
+        self.assigns(o, f'bin ! {self.operand(i)[0]} (lit ! tt) ({fits})', f'(tt, {fits})', Held())
+        self.assigns(p, f'bin ! (load ! (from ! (fld ! refl (stop !))) (look-in ! {self.cell(self.place[xs])} (sub ! 0 refl (whole !)))) {self.operand(o)[0]} tt', '(tt, tt)', Held())
+        k.say(f'rewrite ! {self.cell(p)} (λ (p : ℕ). ‵ (fat fullShare tyPtr l{p} 0 (vptr {b} p))) (sym (place-is {size} {q} {at})) refl $')
+        k.line()
+        k.split(f'own-{xs}', 'at', 'rest', by='fsplit')
+        k.drop('at')
+        k.split('rest', 'obs', 'bor', by='fsplit')
+        k.move('obs', 'bor', self.lft(xs))
+        k.say(f'opens-slice ! tt {S.row} {ys} {b} {q} $ elem-out ! {self.spelled(S)} fullShare {ys} {at} {new.term} {b} {q} {within} (λ _. ', 1)
+        k.head(3, 'cell', 'old', 'others', 'obor', 'obs', 'auth')
+        k.drop('old')
+        k.line()
+        self.raw(S, b, spot, f'(getD {ys} {at} {new.term})')
+        k.line()
+        k.say(f'assigns ! (of-opd ! {self.operand(x)[0]}) (from ! (hop ! (look ! {self.cell(p)} refl) (stop !))) (store ! {k.at("cell")} refl {S.typed(new.term, new.fits)}) $')
+        k.line()
+        k.say(S.owned(new.term, new.fits))
+        k.head(0, 'new')
+        k.move('cell', 'new', 'others')
+        self.cooked(S, b, spot, new.term)
+        k.say(f'elem-put ! {S.row} fullShare {ys} {at} {new.term} ({S.value(new.term)} ∷ []) {b} {q} {within} $ ')
+        k.head(3, 'row')
+        k.move('row', 'obor', 'obs', 'auth')
+        k.line()
+        self.now[xs], long = f'(set {ys} {at} {new.term})', f'(length-set {ys} {at} {new.term})'
+        k.say(f'closes-slice ! tt {S.row} {ys} {self.now[xs]} {long} {b} {q} $ fjoin ! $ ')
+        k.say(f'pureI ! (at-slice {S.row} (renamed {xs} ({xs} .name) {self.now[xs]}) ({self.param[xs].value(xs)} ∷ [])) (tt, (tt, tt)) (ap (λ (c : ℕ). sliceVal ({xs} .ptr) c ∷ []) (sym {long}), subst (Room {S.row}) (sym {long}) {xs}-room) $ fjoin ! $')
+        k.head(4, f'own-{xs}', self.lft(xs))
+        k.line()
+        self.long[xs] = long
+
     # ### Loans
 
     def relend(self, p, s, xs):
@@ -521,6 +648,11 @@ class Walk:
     def lend(self, p, x):
         self.k.line(f'_{p} = &mut _{x}')
         self.assigns(p, 'addr ! (from ! (stop !))', '(tt, tt)', Held(loan=x))
+
+    def lend_array(self, p, s, x):
+        self.k.line(f'_{s} = &mut _{x}')
+        self.assigns(p, 'addr ! (from ! (stop !))', '(tt, tt)', Held())
+        self.assigns(s, f'agg ! {operands([self.operand(p)[0], "(lit ! tt)"])}', '(tt, (tt, (record { fits = lit< tt }, tt)))', Held(loan=x))
 
     def lending(self, p, x, ν):
         """The arguments that the laws of lending share."""
@@ -554,7 +686,8 @@ class Walk:
             self.know(kind)
         c = self.callees.setdefault(f.name, (f'f{len(self.callees) + 1}', f))[0]
         i = self.calls = self.calls + 1
-        here, names = zip(*(self.stands(i, j, p, a) for j, (p, a) in enumerate(zip(f.params, args))))
+        stand = [self.stands(i, j, p, a) for j, (p, a) in enumerate(zip(f.params, args))]
+        here, names = [at for at, _ in stand], [at for _, at in stand]
         self.asks.append(self.asking(i, c, f, names))
         self.k.line(f.name)
         for j in f.lending:
@@ -567,7 +700,7 @@ class Walk:
 
     def stands(self, i, j, p, a):
         """How an argument stands here, and under which names in the module that says what the call asks. Of what is lent for the call: its lifetime ν,
-        its name δ, and what it holds, y; of a local that is lent, its place l."""
+        its name δ, and what it holds, y; of a local that is lent, its place l, and of an array the count n."""
         local = self.place.get(a, a)
         if p.kind == 'plain':
             held = self.operand(a)[1]
@@ -577,7 +710,8 @@ class Walk:
             return {'of': a, 'load': a}, {'of': a}
         here, names = {'ν': f'ν{i}-{j}', 'δ': f'δ{i}-{j}', 'load': a}, {'ν': f'ν{j}', 'δ': f'δ{j}', 'y': f'a{j}'}
         if isinstance(loan, int):
-            return {**here, 'l': f'l{loan}', 'y': self.live[loan].term, 'local': loan}, {**names, 'l': f'l{j}'}
+            n = {'n': self.live[loan].kind.n} if p.kind == 'mut' else {}
+            return {**here, 'l': f'l{loan}', 'y': self.live[loan].term, 'local': loan, **n}, {**names, 'l': f'l{j}', **n}
         return {**here, 'of': loan, 'y': self.now[loan]}, {**names, 'of': loan}
 
     def ghost(self, f, at):
@@ -589,9 +723,9 @@ class Walk:
                 shares.append('fullShare' if 'ν' in a else self.q(a['of']))
             if 'l' in a:
                 given.append(f'(record {{ ptr = ({a["l"]}, 0); name = {a["δ"]}; now = {a["y"]} }})')
-                values.append(f'(vptr {a["l"]} 0)')
+                values.append(f'(sliceVal ({a["l"]}, 0) {a["n"]})' if 'n' in a else f'(vptr {a["l"]} 0)')
             elif 'ν' in a:
-                given.append(f'(lent {a["of"]} {a["δ"]} {a["y"]})')
+                given.append(f'(renamed {a["of"]} {a["δ"]} {a["y"]})')
                 values.append(self.param[a['of']].value(a['of']))
             else:
                 given.append(a.get('of') or a['y'])
@@ -622,12 +756,12 @@ class Walk:
                 k.head(0, f'given{j}')
             k.join(f'given{j}', 'rest', 'rest', by='fjoin')
         if not f.requires:
-            k.join('tokens', 'rest', 'all')
+            k.join('tokens', 'rest', 'rest')
             k.say('frame ! $ ')
         k.say('done !')
         needs = filled(f.requires, {p.name: a['y'] if 'y' in a else f'({a["of"]} .now)' for p, a in zip(f.params, names)}) if f.requires else None
         return f"""  -- `{f.name}`: what its contract binds, what it asks, and that this is had
-  module _ {' '.join(tele)} where
+  module {' '.join(['_', *tele])} where
     abbrev to-{i} : {C} .Ghost
     to-{i} = (({pairs(lives)}, {pairs(shares)}, tt, {pairs(given)}, {pairs([f'{v} ∷ []' for v in values])}), tt)
 
@@ -652,7 +786,14 @@ class Walk:
         ν, δ, y = f'({a["ν"]} ∷ [])', a['δ'], a['y']
         k.say(f'lft-new ! tt (λ {a["ν"]}. ', 1)
         k.head(0, f'tok{j}')
-        if 'l' in a:
+        if 'n' in a:
+            l, n, cell, held = a['l'], a['n'], f'_{a["local"]}', self.live[a['local']]
+            k.say(held.kind.owned(y, held.fits))
+            k.head(0, 'new')
+            k.move(cell, 'new')
+            new = f'MutSlice (named 0) {ν} {p.of.row} .own (record {{ ptr = ({l}, 0); name = δ; now = {y} }}) (sliceVal ({l}, 0) {n} ∷ [])'
+            waits, law = f'flent {ν} (Held {p.of.row} {n} {l} 0 δ)', f'array-out 𝓤 H A W {p.of.row} tt {n} {l} 0 (named 0) {ν} {y} {held.kind.value(y)} ({held.fits} .1 .0 .1) (lit< tt, lit< tt)'
+        elif 'l' in a:
             S, l, cell = p.of, a['l'], f'_{a["local"]}'
             k.move(cell)
             self.cooked(S, l, 0, y)
@@ -664,7 +805,7 @@ class Walk:
         else:
             x = a['of']
             k.move(f'own-{x}', self.lft(x))
-            new = f'{p.row(self.fn.life[x], ν)} .own (lent {x} δ {y}) ({self.param[x].value(x)} ∷ [])'
+            new = f'{p.row(self.fn.life[x], ν)} .own (renamed {x} δ {y}) ({self.param[x].value(x)} ∷ [])'
             waits, law = self.waits(p, x, ν, 'δ', y), self.lends(p, x, ν, y)
         k.say(f'use2 W (later (some (λ (δ : GName). ‵ ({new}) ⊛ ‵ ({waits})))) ({law}) $ await ! tt $ pick ! (λ {δ}. split ! $ ', 1)
         k.head(2, f'given{j}', f'kept{j}')
@@ -677,7 +818,7 @@ class Walk:
         k.move(*want)
         inst = ' '.join(a[key] for p, a in zip(f.params, here) for key in ('ν', 'δ', 'l', 'y', 'fits') if key in a)
         asked, to = (f'(asked-{i} {inst})', f'(to-{i} {inst})') if inst else (f'asked-{i}', f'to-{i}')
-        k.say(f'cut {asked} (raw ({C} .pre {to}) ∷ []) _ (goes-{i} {inst} ' + (f'({self.at_hand(shows)})' if f.requires else '') + ') $')
+        k.say(f'cut {asked} (raw ({C} .pre {to}) ∷ []) _ ({" ".join([f"goes-{i}", *([inst] if inst else []), *([f"({self.at_hand(shows)})"] if f.requires else [])])}) $')
         k.head(len(want), 'asked')
         k.line()
         k.say(f'calls-at ! fm ({C}) known-{c} {to} {operands([self.operand(a["load"])[0] for a in here])} (λ v{i}.', 1)
@@ -690,13 +831,17 @@ class Walk:
         k.split('asked', 'result', 'ensures')
         k.move('ensures')
         was = {p.name: a['y'] if 'y' in a else f'({a["of"]} .now)' for p, a in zip(f.params, here)}
-        said = lambda zs: filled(f.ensures, {**was, **{f"{p.name}'": f'({zs} {nth(j)})' for j, p in enumerate(f.params)}, 'r': f'r{i}'})
-        k.say(f'use1 W (some (λ (zs : {product([p.holds() for p in f.params])}). ‵ (lasts {c}.ended {pairs(lives)} {pairs(given)} zs) ⊛ raw (fact 𝓤 ({said("zs")})))) (id⊢ 𝓤 _) $ pick ! (λ zs{i}.', 1)
+        said = lambda zs: [filled(clause, {**was, **{f"{p.name}'": f'({zs} {nth(j)})' for j, p in enumerate(f.params)}, 'r': f'r{i}'}) for clause in f.ensures]
+        k.say(f'use1 W (some (λ (zs : {product([p.holds() for p in f.params])}). ‵ (lasts {c}.ended {pairs(lives)} {pairs(given)} zs) ⊛ {" ⊛ ".join(f"raw (fact 𝓤 ({clause}))" for clause in said("zs"))})) (id⊢ 𝓤 _) $ pick ! (λ zs{i}.', 1)
         k.line()
         k.split('ensures', 'lasts', 'fact')
-        k.move('fact')
-        k.say(f'heard ! ({said(f"zs{i}")}) (λ e{i}. ', 1)
-        k.head(1)
+        for n, clause in enumerate(said(f'zs{i}')):
+            if n + 1 < len(f.ensures):
+                k.split('fact', 'fact', 'facts')
+            k.move('fact')
+            k.say(f'heard ! ({clause}) (λ e{i}{f"-{n}" if len(f.ensures) > 1 else ""}. ', 1)
+            k.head(1)
+            k.has = ['fact' if label == 'facts' else label for label in k.has]
 
     def lands(self, i, d, f, here):
         """What each loan holds at last, and the result, which lands in d."""
@@ -725,8 +870,8 @@ class Walk:
         k.drop('tokens')
         k.line()
         if S:
-            k.say(f'land ! {self.puts(d, S.typed(f"r{i}", f"got{i}"))} $ rewrite ! {self.cell(d)} (λ (u : Val). ‵ (fat fullShare {S.name}-laws.mir l{d} 0 u)) (ap only ({S.tells} r{i} _ got{i})) refl $')
-            self.live[d] = Held(S, f'r{i}', f'(subst (Is {S.row} r{i}) ({S.tells} r{i} _ got{i}) got{i})')
+            k.say(f'land ! {self.puts(d, S.typed(f"r{i}", f"got{i}"))} $ rewrite ! {self.cell(d)} (λ (u : Val). ‵ (fat fullShare {S.mir} l{d} 0 u)) (ap only {S.told(f"r{i}", f"got{i}")}) refl $')
+            self.live[d] = Held(S, f'r{i}', f'(subst (Is {S.row} r{i}) {S.told(f"r{i}", f"got{i}")} got{i})')
         else:
             k.say(f'land ! {self.puts(d, f"(subst (λ (y : Val). Holds (hasTy tyUnit y) × WT y) (sym (ap only got{i})) (tt, tt))")} $')
             self.live[d] = Held()
@@ -738,7 +883,14 @@ class Walk:
         k.move(f'tok{j}')
         k.say('lft-end ! tt $ ')
         k.head(1, 'dead')
-        if 'l' in a:
+        if 'n' in a:
+            l, array = a['l'], self.live[a['local']].kind
+            k.move('dead', f'kept{j}', f'end{j}')
+            k.say(f'use3 W (later (some (λ (u : Val). ‵ (fat fullShare {array.mir} {l} 0 u) ⊛ ‵ ({array.row} .own {last} (u ∷ []))))) (array-back 𝓤 H A W {p.of.row} tt {a["n"]} {l} 0 {ν} {a["δ"]} {last}) $ await ! tt $ pick ! (λ u{i}-{j}. split ! $ ', 1)
+            k.head(3, f'_{a["local"]}', 'own')
+            k.drop('own')
+            self.live[a['local']] = Held(array, last)
+        elif 'l' in a:
             S, l = p.of, a['l']
             k.move('dead', f'kept{j}', f'end{j}')
             k.say(f'use3 W (later (some (λ (us : List Val). ‵ (cellAt fullShare ({S.row} .mir) us {l} 0) ⊛ ‵ ({S.row} .own {last} us)))) (local-back 𝓤 H A W {S.row} {ν} {a["δ"]} {last} {l} 0) $ await ! tt $ pick ! (λ us{i}. split ! $ spelt ! {self.spelled(S)} fullShare {last} us{i} {l} 0 $ ', 1)
@@ -766,7 +918,7 @@ class Walk:
         k, fn = self.k, self.fn
         if x is None:
             self.assigns(0, 'of-opd ! (unit-lit !)', '(tt, tt)', Held())
-        else:
+        elif x != 0:
             self.let(0, x)
         held = self.live[0]
         k.say(f'returns ! (look ! {self.cell(0)} refl) $ ')
@@ -781,7 +933,7 @@ class Walk:
         k.line()
         kept = [f'lft{i}' for i in range(len(fn.lent))] + [f'own-{p.name}' for p in fn.kept]
         result = f'{held.term} {held.fits} ' if fn.result else ''
-        k.say(f'keep ! ({listed(k.at(c) for c in kept)}) $ by ! (exits {result}{" ".join(self.now[p.name] for p in fn.kept)} ({self.at_hand(self.ends)})'
+        k.say(f'keep ! ({listed(k.at(c) for c in kept)}) $ by ! (exits {result}{" ".join(self.now[p.name] for p in fn.kept)} {" ".join(f"({self.at_hand(end)})" for end in self.ends)}'
               + ''.join(f' {self.long[p.name]}' for p in fn.kept if p.kind == 'mut') + ')')
 
     # ### A loop
@@ -955,11 +1107,14 @@ class Walk:
         takes = ([f'(r : {S.type}) (r-fits : {S.fitting("r")})'] if S else []) + [f'({z} : {p.holds()})' for p, z in zip(fn.kept, last)]
         slices = [p for p in fn.kept if p.kind == 'mut']
         ends, fits = pairs([f'{p.name}′' if p.kept else 'tt' for p in fn.params]), pairs([f'long-{p.name}' if p.kind == 'mut' else 'tt' for p in fn.params])
-        return f"""  exits : {' '.join(takes)} → {self.at_entry(fn.ensures, last, 'r')}{''.join(f' → (length {p.name}′) ≡ (length ({p.name} .now))' for p in slices)}
+        clauses = [self.at_entry(clause, last, 'r') for clause in fn.ensures]
+        several = len(clauses) > 1
+        shown = ' '.join(f'e-{n}' for n in range(len(clauses))) if several else 'e'
+        return f"""  exits : {' '.join(takes)} → {' → '.join(f'({clause})' for clause in clauses) if several else clauses[0]}{''.join(f' → (length {p.name}′) ≡ (length ({p.name} .now))' for p in slices)}
       → ent 𝓤 (⋆ 𝓤 H A ({has})) (Post {value})
-  exits {' '.join((['r r-fits'] if S else []) + last)} e{''.join(f' long-{p.name}' for p in slices)} =
+  exits {' '.join((['r r-fits'] if S else []) + last)} {shown}{''.join(f' long-{p.name}' for p in slices)} =
       qed W ({has}) ∵
-      suffices ! _ (ends-at 𝓤 H A me.ended stayed (me.clauses 𝓤 H A at-mem run) W {self.ghosts} {value} {r} {ends} {fits}) $ says ! e $
+      suffices ! _ (ends-at 𝓤 H A me.ended stayed (me.clauses 𝓤 H A at-mem run) W {self.ghosts} {value} {r} {ends} {fits}) $ {'says-two' if several else 'says'} ! {shown} $
       {k.text(0)}
 """
 
@@ -970,10 +1125,10 @@ class Walk:
         used = [name for name in GATHERED if name.strip('_') in words]
         here = f'Rattle.{crate}.proofs.{name}'
         out = [f'-- `{crate}::{name}` meets its contract: a walk of its MIR, written by walks/walk.py. Assumes nothing.',
-               f'use Rattle.lending.proofs.Walking.{{{", ".join(used)}}}', 'use denote.Struct.Laws as LL']
+               f'use Rattle.lending.proofs.Walking.{{{", ".join(used)}}}', 'use denote.Struct.Laws as LL'] + ['use denote.Enum.Laws as EL'] * ('EL.' in proof)
         cited = {}
         for f in [self.fn] + [f for c, f in self.callees.values()]:
-            for module, names in source(f.crate).citing(f'{f.requires} {f.ensures}', crate).items():
+            for module, names in source(f.crate).citing(' '.join([f.requires or '', *f.ensures]), crate).items():
                 cited.setdefault(module, {}).update(names)
         for module, names in cited.items():
             out += [f'use {module} {name}' for name in names if name.startswith('as ')]

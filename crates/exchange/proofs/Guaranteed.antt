@@ -68,7 +68,7 @@ unfolding filled
 filled-length new old h = omega (arith, length-append new (drop (length new) old), length-drop (length new) old)
 
 -- no more cycles than choices
-resolved-few : (m w : ℕ → ℕ → ℕ) (s : List ℕ) (ss : List (List ℕ)) (cs : List ℕ) → length (resolved m w s ss cs) ≤ length cs
+pub resolved-few : (m w : ℕ → ℕ → ℕ) (s : List ℕ) (ss : List (List ℕ)) (cs : List ℕ) → length (resolved m w s ss cs) ≤ length cs
 unfolding resolved
 resolved-few m w s ss [] = omega arith
 resolved-few m w s ss (c ∷ cs) = go (ltb c (length ss)) (resolved-few m w s ss cs)

@@ -9,10 +9,11 @@ use Rattle.laws.specs.Lent.{filled}
 use Rattle.refusal.specs.Fault.{Fault, refuse, _then_}
 use Rattle.refusal.specs.Answer.{Outcome, unless}
 use Rattle.pool.specs.Turned.{shuffleFault, roomFault}
+use Rattle.records.specs.declared.Cycle.{Cycle}
 use Rattle.greedy.specs.Tally.{Tally, tally}
 use Rattle.greedy.specs.Rounds.{Left, rounds}
 use Rattle.exchange.specs.Subsets.{subsets, subsetCount, entry, subsetWeight, evaluating}
-use Rattle.exchange.specs.Resolution.{Cycle, resolved, recordOf, recipientTable, donorTable, total}
+use Rattle.exchange.specs.Resolution.{resolved, recordOf, recipientTable, donorTable, total}
 
 -- the tables lent to be filled
 pub record Lent : Type 0 where

@@ -7,9 +7,10 @@ use lib.Dec.{eqb}
 use lib.ListN.{replicate}
 use Rattle.laws.specs.Below.{table}
 use Rattle.refusal.specs.Answer.{Answer, finished, refused, Outcome, outcome}
+use Rattle.records.specs.declared.Cycle.{Cycle}
 use Rattle.greedy.specs.Tally.{Tally, tally}
 use Rattle.exchange.specs.Subsets.{subsetCount, entry}
-use Rattle.exchange.specs.Resolution.{Cycle, total}
+use Rattle.exchange.specs.Resolution.{total}
 use Rattle.exchange.specs.Planning.{Lent, lent, Plan, plan, roundCount, planning}
 use Rattle.exchange.specs.Rivals.{ExchangeSet}
 

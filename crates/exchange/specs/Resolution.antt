@@ -5,6 +5,7 @@ use mathlib.Core.List.{List, [], _∷_, flatMap}
 use lib.Dec.{eqb, ltb}
 use lib.ListN.{length, getD}
 use Rattle.laws.specs.Below.{table}
+use Rattle.records.specs.declared.Cycle.{Cycle}
 use Rattle.exchange.specs.Subsets.{Edge, edges, weigh, pairsAt, bestCycle}
 
 -- the chosen cycles "in order of choice", each as its pairs "in giving order from the lowest place"; the choice n is none
@@ -13,12 +14,7 @@ resolved m w s ss [] = []
 resolved m w s ss (c ∷ cs) =
     cond (ltb c (length ss)) (pairsAt s (bestCycle m w s (getD ss c [])) ∷ resolved m w s ss cs) (resolved m w s ss cs)
 
--- "three pair numbers, the third N for a two"
-pub record Cycle : Type 0 where
-  pub first : ℕ
-  pub second : ℕ
-  pub third : ℕ
-
+-- a cycle's record: "three pair numbers, the third N for a two"
 unfoldable pub recordOf : ℕ → List ℕ → Cycle
 recordOf n c = record { first = getD c 0 n; second = getD c 1 n; third = getD c 2 n }
 

@@ -6,7 +6,7 @@ use native.Mathlib.Nat.{zero-add, add-zero}
 use native.Mathlib.Numerals.{add-one}
 use native.Mathlib.Omega.{arith}
 use lib.ListN.{length, getD, take, drop, set, length-append, length-take, length-drop, length-set, take-append-drop, List·getD-append}
-use lib.Seq.{drop-drop, take-at, set-at, drop-cons, drop-append-add, take-set-le, drop-set-add, take-append-seam}
+use lib.Seq.{drop-drop, take-at, set-at, drop-cons, drop-append-add, take-set-le, drop-set-add, take-append-seam, set-split}
 use Rattle.laws.specs.Below.{table}
 use Rattle.laws.specs.Digits.{bytes}
 use Rattle.laws.specs.Lent.{filled, stored}
@@ -29,12 +29,17 @@ module _ {A : Type 0} where
   unfolding filled
   take-filled new old = take-append-seam new (drop (length new) old)
 
+  -- a store right after what is filled
+  pub filled-next : (new old : List A) (x : A) (i : ℕ) → length new ≡ i → i < length old → set (filled new old) i x ≡ filled (new ++ (x ∷ [])) old
+  unfolding filled
+  filled-next new old x i e l =
+      let f : length (new ++ (x ∷ [])) ≡ suc i = simp length-append (omega arith) in
+      rw (f, e, drop-cons old i x l) (set-at new (getD old i x) (drop (suc i) old) x i e ∙ rw append-assoc)
+
 -- a store takes a table filled to i to one filled to i + 1
 filled-more : (i : ℕ) (f : ℕ → ℕ) (old : List ℕ) → i < length old → set (filled (table i f) old) i (f i) ≡ filled (table (i + 1) f) old
-unfolding filled table
-filled-more i f old l =
-    rw (add-one, length-append, length-table)
-    (rw (drop-cons old i 0) (set-at (table i f) (getD old i 0) (drop (suc i) old) (f i) i (length-table i f) ∙ rw (append-assoc, add-one)))
+unfolding table
+filled-more i f old l = rw add-one (filled-next (table i f) old (f i) i (length-table i f) l)
 
 -- a loop that fills a table: t is `old` filled to i, and as long
 pub record Filling (i : ℕ) (f : ℕ → ℕ) (old t : List ℕ) : Type 0 where
@@ -54,17 +59,43 @@ filling-all i n f old t w g = w .holds ∙ ap (λ (k : ℕ). filled (table k f) 
 
 -- ## stored
 
-pub stored-none : (at : ℕ) (old : List ℕ) → stored at [] old ≡ old
-unfolding stored
-stored-none at old = rw add-zero (take-append-drop at old)
+module _ {A : Type 0} where
+  pub stored-none : (at : ℕ) (old : List A) → stored at [] old ≡ old
+  unfolding stored
+  stored-none at old = rw add-zero (take-append-drop at old)
 
-pub length-stored : (at : ℕ) (l old : List ℕ) → at + length l ≤ length old → length (stored at l old) ≡ length old
-unfolding stored
-length-stored at l old h = simp (length-append, length-take, length-drop) (omega arith)
+  pub length-stored : (at : ℕ) (l old : List A) → at + length l ≤ length old → length (stored at l old) ≡ length old
+  unfolding stored
+  length-stored at l old h = simp (length-append, length-take, length-drop) (omega arith)
 
-pub stored-filled : (l old : List ℕ) → stored 0 l old ≡ filled l old
-unfolding stored filled
-stored-filled l old = rw zero-add
+  pub stored-filled : (l old : List A) → stored 0 l old ≡ filled l old
+  unfolding stored filled
+  stored-filled l old = rw zero-add
+
+  pub stored-one : (at : ℕ) (x : A) (old : List A) → at < length old → set old at x ≡ stored at (x ∷ []) old
+  unfolding stored
+  stored-one at x old h = set-split old at x h ∙ ap (λ (k : ℕ). take at old ++ (x ∷ drop k old)) (sym (add-one at))
+
+  -- one list after another
+  stored-stored : (at n : ℕ) (l m old : List A) → n ≡ at + length l → at + length l ≤ length old → stored n m (stored at l old) ≡ stored at (l ++ m) old
+  unfolding stored
+  stored-stored at n l m old e h =
+      let xs : List A = take at old ++ l in
+      let g : length xs ≡ n = simp (length-append, length-take) (omega arith) in
+      let a : take at old ++ (l ++ drop (at + length l) old) ≡ xs ++ drop (at + length l) old = rw append-assoc in
+      let j : at + length l + length m ≡ at + length (l ++ m) = simp length-append (omega arith) in
+      let d : drop (n + length m) (xs ++ drop (at + length l) old) ≡ drop (at + length (l ++ m)) old =
+      ap (λ (k : ℕ). drop (k + length m) (xs ++ drop (at + length l) old)) (sym g)
+      ∙ drop-append-add xs (drop (at + length l) old) (length m)
+      ∙ drop-drop (length m) (at + length l) old
+      ∙ ap (λ (k : ℕ). drop k old) j in
+      rw (a, take-at xs (drop (at + length l) old) n g, d) (simp append-assoc)
+
+  -- a second piece goes where the first one ends
+  pub stored-then : (at k : ℕ) (l m old mid new : List A) → length l ≡ k → at + k ≤ length old → mid ≡ stored at l old → new ≡ stored (at + k) m mid
+      → new ≡ stored at (l ++ m) old
+  stored-then at k l m old mid new g h e f =
+      f ∙ ap (stored (at + k) m) e ∙ stored-stored at (at + k) l m old (ap (λ (n : ℕ). at + n) (sym g)) (omega arith)
 
 -- one more element, stored before the others
 stored-more : (at : ℕ) (l : List ℕ) (y : ℕ) (old : List ℕ) → at + length l < length old
@@ -88,27 +119,6 @@ bytes-turn at (suc m) x out l h =
     rw e
     (ap (λ (k : ℕ). stored at (bytes m (x / 256)) (set out (at + k) (x % 256))) (sym b)
     ∙ sym (stored-more at (bytes m (x / 256)) (x % 256) out (omega arith)))
-
--- one list after another
-stored-stored : (at n : ℕ) (l m old : List ℕ) → n ≡ at + length l → at + length l ≤ length old → stored n m (stored at l old) ≡ stored at (l ++ m) old
-unfolding stored
-stored-stored at n l m old e h =
-    let xs : List ℕ = take at old ++ l in
-    let g : length xs ≡ n = simp (length-append, length-take) (omega arith) in
-    let a : take at old ++ (l ++ drop (at + length l) old) ≡ xs ++ drop (at + length l) old = rw append-assoc in
-    let j : at + length l + length m ≡ at + length (l ++ m) = simp length-append (omega arith) in
-    let d : drop (n + length m) (xs ++ drop (at + length l) old) ≡ drop (at + length (l ++ m)) old =
-    ap (λ (k : ℕ). drop (k + length m) (xs ++ drop (at + length l) old)) (sym g)
-    ∙ drop-append-add xs (drop (at + length l) old) (length m)
-    ∙ drop-drop (length m) (at + length l) old
-    ∙ ap (λ (k : ℕ). drop k old) j in
-    rw (a, take-at xs (drop (at + length l) old) n g, d) (simp append-assoc)
-
--- a second piece goes where the first one ends
-pub stored-then : (at k : ℕ) (l m old mid new : List ℕ) → length l ≡ k → at + k ≤ length old → mid ≡ stored at l old → new ≡ stored (at + k) m mid
-    → new ≡ stored at (l ++ m) old
-stored-then at k l m old mid new g h e f =
-    f ∙ ap (stored (at + k) m) e ∙ stored-stored at (at + k) l m old (ap (λ (n : ℕ). at + n) (sym g)) (omega arith)
 
 -- ## A loop that writes pieces of m elements in a row, from `at` on: out is `old` with i of them in it, and as long
 

@@ -1,163 +1,97 @@
--- The answer of the planning call, and what it leaves. Assumes nothing.
-use Prim.Native.Nat.{ℕ, suc, _*_, _≤_}
-use mathlib.Core.Bool.{Bool, true, false, cond}
-use mathlib.Core.List.{List, [], _∷_, map}
+-- The answer of planning, and what it leaves. Assumes nothing.
+use Prim.Native.Nat.{ℕ, _/_, _≤_}
+use mathlib.Core.List.{List}
 use mathlib.Core.Path.{_≡_, sym, ap, ap₂, subst, _∙_}
 use native.Mathlib.Omega.{arith}
-use borrow.Author.Tests.{ltb-false}
-use lib.Dec.{ltb}
-use lib.ListN.{length, getD, length-map}
-use Rattle.refusal.specs.Fault.{Fault, none, fault, refuse, _then_}
+use lib.ListN.{length, take, replicate, length-replicate}
+use Rattle.laws.specs.Lent.{filled}
+use Rattle.refusal.specs.Fault.{none, fault}
 use Rattle.refusal.specs.Answer.{Answer, finished, refused, Outcome, outcome}
-use Rattle.refusal.specs.Number.{numberOf}
+use Rattle.refusal.specs.Number.{numberOf, faultAt}
 use Rattle.refusal.specs.declared.Refusal.{Refusal}
-use Rattle.refusal.proofs.Faults.{then-none, none-then, fault-then, then-assoc, refuse-none, unless-none, unless-fault}
-use Rattle.pool.specs.Turned.{shuffleFault, roomFault}
-use Rattle.exchange.specs.Subsets.{subsets, entry, pairsAt, bestCycle}
-use Rattle.exchange.specs.Resolution.{recordOf, resolved}
-use Rattle.exchange.specs.Planning.{Lent, lent, Plan, roundCount, leftBy, plannedBy, shortFault, tableFault, planFault, filledLent, planning}
+use Rattle.refusal.specs.declared.Verdict.{Verdict}
+use Rattle.refusal.specs.declared.Verdict.the-variants.{Sound, Faulty}
+use Rattle.refusal.proofs.Faults.{then-assoc, unless-none, unless-fault, sound-none, faulty-fault}
+use Rattle.records.specs.declared.Cycle.{Cycle}
+use Rattle.exchange.specs.Planning.{Lent, lent, Plan, shortFault, planFault, planning}
 use Rattle.exchange.specs.Faultless.{FaultlessInput}
 use Rattle.exchange.specs.Promises.{Guarantee}
 use Rattle.exchange.proofs.Checked.{checked}
 use Rattle.exchange.proofs.Seated.{seated}
-use Rattle.exchange.proofs.Guaranteed.{guaranteed, lengths-stay}
-use Rattle.planner.specs.Tables as Code
-use Rattle.planner.specs.Tables.{Tables, tables, cyclesIn, lentIn, lentBack, planningOf, answerOf}
-use Rattle.planner.specs.Checks.{shortToRead, shortToFill, Checked, planOf, madeOf}
-use Rattle.planner.specs.declared.Planned.{Planned}
-use Rattle.planner.specs.declared.Planning.the-variants.{Made, Refused}
-use Rattle.planner.proofs.MadePlan.{left-lengths}
-use Rattle.planner.proofs.FlatRecords.{cycles-length, room-flat, put-back, put-records, read-back}
+use Rattle.exchange.proofs.Guaranteed.{guaranteed}
+use Rattle.planner.specs.Said.{answerOf, written}
+use Rattle.planner.specs.Checks.{shortToRead, shortToFill, faultsIn, Checked, planOf, madeOf}
+use Rattle.planner.specs.declared.Work.{Work}
 
--- there are no more cycles than rounds
-resolved-few : (m w : ℕ → ℕ → ℕ) (s : List ℕ) (ss : List (List ℕ)) (cs : List ℕ) → length (resolved m w s ss cs) ≤ length cs
-unfolding resolved
-resolved-few m w s ss [] = omega arith
-resolved-few m w s ss (c ∷ cs) = go (ltb c (length ss)) (resolved-few m w s ss cs)
-  where
-    go : (b : Bool) → length (resolved m w s ss cs) ≤ length cs
-        → length (cond b (pairsAt s (bestCycle m w s (getD ss c [])) ∷ resolved m w s ss cs) (resolved m w s ss cs)) ≤ suc (length cs)
-    go true h = omega arith
-    go false h = omega arith
+-- ## Demands 2 and 3, of a plan made
 
-planned-few : (n : ℕ) (m w : ℕ → ℕ → ℕ) (s : List ℕ) → length (plannedBy 0 3 n m w s) ≤ roundCount n
-unfolding plannedBy
-planned-few n m w s = omega (arith, resolved-few m w s (subsets 3 n) (leftBy 0 3 n m w s .choices), left-lengths n m w s .1)
+pub promised : (n : ℕ) (M W s : List ℕ) (t left : Lent) (a : Answer Plan) → outcome a left ≡ planning n M W s t
+    → (p : Plan) → a ≡ finished p → Guarantee n M W s p left
+promised n M W s t left a e p f =
+    subst (Guarantee n M W s p) (sym (ap (λ (x : Outcome Plan Lent). x .lent) e))
+    (guaranteed n M W s t p (sym (ap (λ (x : Outcome Plan Lent). x .answer) e) ∙ f))
 
-module _ (n : ℕ) (M W s : List ℕ) (t : Tables) where
-  -- ## The faults, in the order of the checks
+-- no record is few
 
-  abbrev pub reading : Fault
-  reading = refuse 4 0 (ltb 200 n) then shortToRead n (length M) (length W) (length s)
+pub none-few : (room k : ℕ) → k ≡ 0 → (k ≤ room) × (k ≤ 100)
+none-few room k e = (omega (arith, e), omega (arith, e))
 
-  abbrev pub filling : Fault
-  filling = shortToFill n (length (t .weights)) (length (t .choices)) (length (t .donors)) (length (t .recipients)) (length (t .records))
+-- ## The call: `found` is what the checks found, and `r` what it returns. `old` is what the lent records held
 
-  abbrev pub shuffling : Fault
-  shuffling = shuffleFault 0 n (λ j. getD s j 0)
+module _ (n : ℕ) (M W s weights choices donors recipients : List ℕ) (room : ℕ) (found : Verdict)
+    (e : faultAt 0 found ≡ faultsIn n M W s (length weights) (length choices) (length donors) (length recipients) room) where
+  faults-are : (old : List Cycle) → length old ≡ room → faultAt 0 found ≡ planFault n M W s (lent weights choices donors recipients old)
+  unfolding planFault shortFault shortToRead shortToFill faultsIn
+  faults-are old h = e ∙ rw h (simp then-assoc)
 
-  faults-are : planFault n M W s (lentIn t) ≡ (reading then filling then shuffling then tableFault n M)
-  unfolding planFault shortFault shortToRead shortToFill lentIn
-  faults-are =
-      rw (room-flat (t .records) (roundCount n))
-      (simp then-assoc)
+  -- a refusal leaves everything as it was
+  module _ (why : Refusal) (g : found ≡ Faulty why) (r : Work) (er : (answerOf (r .planning) ≡ refused (numberOf why) 0) × (r .cycles ≡ 0)) where
+    pub call-refused : (old : List Cycle) → length old ≡ room
+        → outcome (answerOf (r .planning)) (lent weights choices donors recipients (written r old)) ≡ planning n M W s (lent weights choices donors recipients old)
+    unfolding planning filled take
+    call-refused old h =
+        ap₂ (λ (a : Answer Plan) (k : ℕ). outcome a (lent weights choices donors recipients (filled (take k (r .records)) old))) (er .0) (er .1)
+        ∙ sym (unless-fault _ _ _ _ _ _ (faulty-fault 0 found (faults-are old h) why g))
 
-  -- ## A refusal leaves everything as it was
+  -- a plan is made
+  module _ (g : found ≡ Sound) where
+    sound : (old : List Cycle) → length old ≡ room → planFault n M W s (lent weights choices donors recipients old) ≡ none
+    sound old h = sound-none 0 found (faults-are old h) g
 
-  unchanged : lentBack (lentIn t) t ≡ t
-  unfolding lentBack lentIn
-  unchanged = ap (tables (t .weights) (t .choices) (t .donors) (t .recipients)) (put-back (t .records))
+    -- what that says does not depend on what the records held
+    input : (old : List Cycle) → length old ≡ room → FaultlessInput n M W s (lent weights choices donors recipients old)
+    input old h = checked n M W s (lent weights choices donors recipients old) (sound old h)
 
-  refused-is : (why : Refusal) → planFault n M W s (lentIn t) ≡ fault (numberOf why) 0 → outcome (answerOf (Refused why)) t ≡ planningOf n M W s t
-  unfolding planningOf planning answerOf
-  refused-is why e =
-      let o = unless-fault (planFault n M W s (lentIn t)) _ _ (lentIn t) (numberOf why) 0 e in
-      sym (ap (λ (x : Outcome Plan Lent). outcome (x .answer) (lentBack (x .lent) t)) o ∙ ap (outcome (refused (numberOf why) 0)) unchanged)
+    some : List Cycle
+    some = replicate room (record { first = 0; second = 0; third = 0 })
 
-  pub unreadable : (why : Refusal) → reading ≡ fault (numberOf why) 0 → outcome (answerOf (Refused why)) t ≡ planningOf n M W s t
-  unreadable why e = refused-is why (faults-are ∙ fault-then _ _ e)
+    some-long : length some ≡ room
+    unfolding some
+    some-long = length-replicate room _
 
-  module _ (r : reading ≡ none) where
-    after-read : planFault n M W s (lentIn t) ≡ (filling then shuffling then tableFault n M)
-    after-read = faults-are ∙ none-then _ _ r
+    pub call-asks : Checked n M W s weights choices donors recipients
+    call-asks =
+        let i = input some some-long in
+        record {
+          readable = record { few = i .few; compatibility = i .long .compatibility; points = i .long .points; zeroOrOne = i .compatible .zeroOrOne };
+          shuffled = record { long = i .long .shuffle; pairs = seated n s (i .long .shuffle) (i .eachOnce) .pair-below };
+          inWeights = i .long .weights;
+          inChoices = i .long .choices;
+          inDonors = i .long .donors;
+          inRecipients = i .long .recipients;
+        }
 
-    pub unfillable : (why : Refusal) → filling ≡ fault (numberOf why) 0 → outcome (answerOf (Refused why)) t ≡ planningOf n M W s t
-    unfillable why e = refused-is why (after-read ∙ fault-then _ _ e)
+    module _ (r : Work) (weights′ choices′ donors′ recipients′ : List ℕ)
+        (er : (answerOf (r .planning) ≡ finished (planOf n M W s)) × (r .cycles ≤ n / 2)
+        × ((old : List Cycle) → lent weights′ choices′ donors′ recipients′ (written r old) ≡ madeOf n M W s (lent weights choices donors recipients old))) where
+      pub call-made : (old : List Cycle) → length old ≡ room
+          → outcome (answerOf (r .planning)) (lent weights′ choices′ donors′ recipients′ (written r old)) ≡ planning n M W s (lent weights choices donors recipients old)
+      unfolding planning planOf madeOf
+      call-made old h =
+          ap₂ (λ (a : Answer Plan) (t : Lent). outcome a t) (er .0) (er .2 old)
+          ∙ sym (unless-none _ _ _ _ (sound old h))
 
-    -- what is known then
-    pub few : n ≤ 200
-    few = ltb-false 200 n (refuse-none 4 0 _ (then-none _ _ r .0))
-
-    room : (space due : ℕ) → roomFault space due ≡ none → due ≤ space
-    unfolding roomFault
-    room space due e = ltb-false space due (refuse-none 9 0 _ e)
-
-    pub in-compatibility : n * n ≤ length M
-    unfolding shortToRead
-    in-compatibility = room _ _ (then-none _ _ (then-none _ _ r .1) .0)
-
-    pub in-shuffle : n ≤ length s
-    unfolding shortToRead
-    in-shuffle = room _ _ (then-none _ _ (then-none _ _ (then-none _ _ r .1) .1) .1)
-
-    module _ (f : filling ≡ none) where
-      pub unshuffled : (why : Refusal) → shuffling ≡ fault (numberOf why) 0 → outcome (answerOf (Refused why)) t ≡ planningOf n M W s t
-      unshuffled why e = refused-is why (after-read ∙ none-then _ _ f ∙ fault-then _ _ e)
-
-      module _ (h : shuffling ≡ none) where
-        pub incompatible : (why : Refusal) → tableFault n M ≡ fault (numberOf why) 0 → outcome (answerOf (Refused why)) t ≡ planningOf n M W s t
-        incompatible why e = refused-is why (after-read ∙ none-then _ _ f ∙ none-then _ _ h ∙ e)
-
-        -- ## A plan is made
-
-        module _ (c : tableFault n M ≡ none) where
-          sound : planFault n M W s (lentIn t) ≡ none
-          sound = after-read ∙ none-then _ _ f ∙ none-then _ _ h ∙ c
-
-          input : FaultlessInput n M W s (lentIn t)
-          input = checked n M W s (lentIn t) sound
-
-          pub asks-make : Checked n M W s t
-          unfolding lentIn
-          asks-make = record {
-            readable = record {
-              few = input .few;
-              compatibility = input .long .compatibility;
-              points = input .long .points;
-              zeroOrOne = input .compatible .zeroOrOne;
-            };
-            shuffled = record { long = input .long .shuffle; pairs = seated n s (input .long .shuffle) (input .eachOnce) .pair-below };
-            weights = input .long .weights;
-            choices = input .long .choices;
-            donors = input .long .donors;
-            recipients = input .long .recipients;
-            records = omega (arith, input .long .records, cycles-length (t .records) .0);
-          }
-
-          records-fit : length (map (recordOf n) (plannedBy 0 3 n (entry M n) (entry W n) s)) ≤ length (cyclesIn (t .records))
-          unfolding lentIn
-          records-fit =
-              omega (arith, length-map (plannedBy 0 3 n (entry M n) (entry W n) s) (recordOf n), planned-few n (entry M n) (entry W n) s, input .long .records)
-
-          pub made : (p : Planned) (left : Tables) → (Code.plannedBy p ≡ planOf n M W s) × (left ≡ madeOf n M W s t) → outcome (answerOf (Made p)) left ≡ planningOf n M W s t
-          unfolding planningOf planning answerOf planOf madeOf lentBack filledLent lentIn
-          made p left e =
-              let o = unless-none (planFault n M W s (lentIn t)) (planOf n M W s) (filledLent n (leftBy 0 3 n (entry M n) (entry W n) s) (plannedBy 0 3 n (entry M n) (entry W n) s) (lentIn t)) (lentIn t) sound in
-              ap₂ (λ (x : Plan) (y : Tables). outcome (finished x) y) (e .0)
-              (e .1 ∙ ap (tables _ _ _ _) (sym (put-records (map (recordOf n) (plannedBy 0 3 n (entry M n) (entry W n) s)) (t .records) records-fit)))
-              ∙ sym (ap (λ (x : Outcome Plan Lent). outcome (x .answer) (lentBack (x .lent) t)) o)
-
--- ## Demands 2 and 3, of a plan made: what the call leaves is what the definition leaves
-
-module _ (n : ℕ) (M W s : List ℕ) (t left : Tables) (a : Answer Plan) (e : outcome a left ≡ planningOf n M W s t) where
-  lent-is : lentIn left ≡ planning n M W s (lentIn t) .lent
-  unfolding planningOf lentIn lentBack
-  lent-is =
-      ap (λ (x : Outcome Plan Tables). lentIn (x .lent)) e
-      ∙ ap (lent _ _ _ _) (read-back (planning n M W s (lentIn t) .lent .records) (t .records) (lengths-stay n M W s (lentIn t) .records))
-
-  pub guarantee : (p : Plan) → a ≡ finished p → Guarantee n M W s p (lentIn left)
-  unfolding planningOf
-  guarantee p f =
-      subst (Guarantee n M W s p) (sym lent-is)
-      (guaranteed n M W s (lentIn t) p (sym (ap (λ (x : Outcome Plan Tables). x .answer) e) ∙ f))
+      pub made-few : (r .cycles ≤ room) × (r .cycles ≤ 100)
+      made-few =
+          let i = input some some-long in
+          (omega (arith, er .1, i .long .records, some-long), omega (arith, er .1, i .few))

@@ -1,17 +1,23 @@
 -- What the checks find. Assumes nothing.
-use Prim.Native.Nat.{ℕ, _≤_, _<_}
+use Prim.Native.Nat.{ℕ, _*_, _≤_, _<_}
 use mathlib.Core.Bool.{Bool, true, false, not}
 use mathlib.Core.List.{List}
 use mathlib.Core.Path.{_≡_, sym, ap, _∙_}
-use borrow.Author.Tests.{lt-ltb, le-ltb}
+use borrow.Author.Tests.{lt-ltb, le-ltb, ltb-false}
 use lib.Dec.{eqb, ltb}
+use lib.ListN.{length, getD}
 use Rattle.laws.specs.Below.{either, anyBelow}
 use Rattle.laws.proofs.Below.{any-hit, either-true}
 use Rattle.refusal.specs.Fault.{Fault, none, fault, refuse, _then_}
-use Rattle.refusal.proofs.Faults.{none-refuse, fault-refuse, none-then, fault-then}
-use Rattle.pool.specs.Turned.{roomFault}
+use Rattle.refusal.specs.Number.{faultAt}
+use Rattle.refusal.specs.declared.Refusal.{Refusal}
+use Rattle.refusal.specs.declared.Verdict.{Verdict}
+use Rattle.refusal.specs.declared.Verdict.the-variants.{Sound, Faulty}
+use Rattle.refusal.proofs.Faults.{refuse-none, none-refuse, fault-refuse, then-none, none-then, fault-then, sound-none, faulty-fault}
+use Rattle.pool.specs.Turned.{shuffleFault, roomFault}
 use Rattle.exchange.specs.Subsets.{entry}
 use Rattle.exchange.specs.Planning.{tableFault}
+use Rattle.planner.specs.Checks.{shortToRead, shortToFill, faultsIn}
 
 -- ## 4 and 9
 
@@ -62,3 +68,52 @@ either-second a b e = ap (either a) e ∙ either-true a
 pub either-none : (a b : Bool) → a ≡ false → b ≡ false → either a b ≡ false
 unfolding either
 either-none a b e d = rw e d
+
+-- ## The checks, one after another: `a`, `b` and `c` are what each found
+
+-- of the tables that are read, by their lengths
+module _ (n m w s : ℕ) (a : Verdict) (ea : faultAt 0 a ≡ (refuse 4 0 (ltb 200 n) then shortToRead n m w s)) (ga : a ≡ Sound) where
+  read : (refuse 4 0 (ltb 200 n) then shortToRead n m w s) ≡ none
+  read = sound-none 0 a ea ga
+
+  pub read-few : n ≤ 200
+  read-few = ltb-false 200 n (refuse-none 4 0 _ (then-none _ _ read .0))
+
+  room : (space due : ℕ) → roomFault space due ≡ none → due ≤ space
+  unfolding roomFault
+  room space due e = ltb-false space due (refuse-none 9 0 _ e)
+
+  pub read-compatibility : n * n ≤ m
+  unfolding shortToRead
+  read-compatibility = room _ _ (then-none _ _ (then-none _ _ read .1) .0)
+
+  pub read-shuffle : n ≤ s
+  unfolding shortToRead
+  read-shuffle = room _ _ (then-none _ _ (then-none _ _ (then-none _ _ read .1) .1) .1)
+
+module _ (n : ℕ) (M W s : List ℕ) (weights choices donors recipients records : ℕ) (a : Verdict)
+    (ea : faultAt 0 a ≡ (refuse 4 0 (ltb 200 n) then shortToRead n (length M) (length W) (length s))) where
+  pub judge-read : (why : Refusal) → a ≡ Faulty why → faultAt 0 (Faulty why) ≡ faultsIn n M W s weights choices donors recipients records
+  unfolding faultsIn faultAt
+  judge-read why g = sym (fault-then _ _ (faulty-fault 0 a ea why g))
+
+  module _ (ga : a ≡ Sound) (b : Verdict) (eb : faultAt 0 b ≡ shortToFill n weights choices donors recipients records) where
+    after-read : faultsIn n M W s weights choices donors recipients records
+        ≡ (shortToFill n weights choices donors recipients records then shuffleFault 0 n (λ j. getD s j 0) then tableFault n M)
+    unfolding faultsIn
+    after-read = none-then _ _ (sound-none 0 a ea ga)
+
+    pub judge-fill : (why : Refusal) → b ≡ Faulty why → faultAt 0 (Faulty why) ≡ faultsIn n M W s weights choices donors recipients records
+    unfolding faultAt
+    judge-fill why g = sym (after-read ∙ fault-then _ _ (faulty-fault 0 b eb why g))
+
+    module _ (gb : b ≡ Sound) (c : Verdict) (ec : faultAt 0 c ≡ shuffleFault 0 n (λ j. getD s j 0)) where
+      after-fill : faultsIn n M W s weights choices donors recipients records ≡ (shuffleFault 0 n (λ j. getD s j 0) then tableFault n M)
+      after-fill = after-read ∙ none-then _ _ (sound-none 0 b eb gb)
+
+      pub judge-shuffle : (why : Refusal) → c ≡ Faulty why → faultAt 0 (Faulty why) ≡ faultsIn n M W s weights choices donors recipients records
+      unfolding faultAt
+      judge-shuffle why g = sym (after-fill ∙ fault-then _ _ (faulty-fault 0 c ec why g))
+
+      pub judge-table : c ≡ Sound → (d : Verdict) → faultAt 0 d ≡ tableFault n M → faultAt 0 d ≡ faultsIn n M W s weights choices donors recipients records
+      judge-table gc d ed = ed ∙ sym (after-fill ∙ none-then _ _ (sound-none 0 c ec gc))

@@ -1,7 +1,7 @@
--- `Faults`: what the checks find. `Stepped`: evaluation and all rounds. `MadePlan`: the plan from checked input. `FlatRecords`: records in a flat
--- table. `Answered`: the answer and what is left.
+-- `Faults`: what the checks find. `Stepped`: evaluation and all rounds. `MadePlan`: the plan from checked input. `Answered`: the answer and
+-- what is left. `Recorded`: the records, written to a lent table.
 pub mod Faults
 pub mod Stepped
 pub mod MadePlan
-pub mod FlatRecords
 pub mod Answered
+pub mod Recorded

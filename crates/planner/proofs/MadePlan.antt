@@ -7,27 +7,37 @@ use lib.ListN.{length, take, drop, length-map}
 use lib.Seq.{length-take-le, take-at}
 use Rattle.laws.specs.Lent.{filled}
 use Rattle.laws.proofs.Below.{length-table}
+use Rattle.laws.proofs.Lent.{take-filled}
+use Rattle.refusal.specs.Answer.{finished}
+use Rattle.records.specs.declared.Cycle.{Cycle}
 use Rattle.greedy.specs.Tally as Tallies
 use Rattle.greedy.specs.Rounds.{Left, left}
 use Rattle.greedy.proofs.Tallied.{rounds-length}
 use Rattle.exchange.specs.Subsets.{subsets, subsetCount, entry, subsetWeight}
-use Rattle.exchange.specs.Resolution.{total, donorTable, recipientTable}
-use Rattle.exchange.specs.Planning.{plan, roundCount, leftBy, plannedBy}
+use Rattle.exchange.specs.Resolution.{recordOf, total, donorTable, recipientTable}
+use Rattle.exchange.specs.Planning.{lent, plan, roundCount, leftBy, plannedBy, filledLent}
+use Rattle.exchange.proofs.Guaranteed.{resolved-few}
 use Rattle.gates.specs.Counts.{counted}
 use Rattle.gates.specs.declared.Tally.{Tally}
-use Rattle.resolution.specs.Records.{flat, chosenBy, resultOf}
+use Rattle.resolution.specs.Records.{chosenBy, noRecords, resultOf}
 use Rattle.resolution.specs.Asked.{Resolving}
 use Rattle.resolution.specs.declared.Resolved.{Resolved}
-use Rattle.planner.specs.Tables.{Tables, tables}
+use Rattle.planner.specs.Said.{answerOf}
 use Rattle.planner.specs.Checks.{Stepping, Checked, planOf, madeOf}
+use Rattle.planner.specs.declared.Planning.the-variants.{Made}
 
 -- ## What is left has the length due
 
-pub left-lengths : (n : ℕ) (m w : ℕ → ℕ → ℕ) (s : List ℕ) → (length (leftBy 0 3 n m w s .weights) ≡ subsetCount n) × (length (leftBy 0 3 n m w s .choices) ≡ roundCount n)
+left-lengths : (n : ℕ) (m w : ℕ → ℕ → ℕ) (s : List ℕ) → (length (leftBy 0 3 n m w s .weights) ≡ subsetCount n) × (length (leftBy 0 3 n m w s .choices) ≡ roundCount n)
 unfolding leftBy
 left-lengths n m w s =
     let e = rounds-length 0 (roundCount n) (subsets 3 n) (map (subsetWeight m w s) (subsets 3 n)) _ in
     (e .0 ∙ length-map (subsets 3 n) (subsetWeight m w s), e .1)
+
+-- there are no more cycles than rounds
+planned-few : (n : ℕ) (m w : ℕ → ℕ → ℕ) (s : List ℕ) → length (plannedBy 0 3 n m w s) ≤ roundCount n
+unfolding plannedBy
+planned-few n m w s = omega (arith, resolved-few m w s (subsets 3 n) (leftBy 0 3 n m w s .choices), left-lengths n m w s .1)
 
 -- a part of a lent table, from its start
 pub front : (k : ℕ) (l : List ℕ) → k ≤ length l → k ≡ length (take k l)
@@ -38,14 +48,14 @@ past : (k : ℕ) (new old : List ℕ) → length new ≡ k → new ++ drop k old
 unfolding filled
 past k new old e = ap (λ (j : ℕ). new ++ drop j old) (sym e)
 
-module _ (n : ℕ) (M W s : List ℕ) (t : Tables) (asked : Checked n M W s t) (all : ℕ) (ea : all ≡ subsetCount n) where
-  pub weights-front : all ≡ length (take all (t .weights))
-  weights-front = front all (t .weights) (omega (arith, asked .weights))
+module _ (n : ℕ) (M W s weights choices donors recipients : List ℕ) (asked : Checked n M W s weights choices donors recipients) (all : ℕ) (ea : all ≡ subsetCount n) where
+  pub weights-front : all ≡ length (take all weights)
+  weights-front = front all weights (omega (arith, asked .inWeights))
 
-  pub choices-front : n / 2 ≡ length (take (n / 2) (t .choices))
-  choices-front = front (n / 2) (t .choices) (asked .choices)
+  pub choices-front : n / 2 ≡ length (take (n / 2) choices)
+  choices-front = front (n / 2) choices (asked .inChoices)
 
-  pub asks-steps : Stepping n M W s (take all (t .weights)) (take (n / 2) (t .choices))
+  pub asks-steps : Stepping n M W s (take all weights) (take (n / 2) choices)
   asks-steps = record {
     readable = asked .readable;
     shuffled = asked .shuffled;
@@ -67,54 +77,67 @@ module _ (n : ℕ) (M W s : List ℕ) (t : Tables) (asked : Checked n M W s t) (
     weights-long = ap length weights-are ∙ left-lengths n (entry M n) (entry W n) s .0 ∙ sym ea
 
     -- the choices, as resolution is lent them
-    pub choices-again : take (n / 2) (cs ++ drop (n / 2) (t .choices)) ≡ cs
-    choices-again = take-at cs (drop (n / 2) (t .choices)) (n / 2) choices-long
+    abbrev again : List ℕ
+    again = take (n / 2) (cs ++ drop (n / 2) choices)
 
-    pub choices-part : n / 2 ≡ length (take (n / 2) (cs ++ drop (n / 2) (t .choices)))
+    choices-again : again ≡ cs
+    choices-again = take-at cs (drop (n / 2) choices) (n / 2) choices-long
+
+    pub choices-part : n / 2 ≡ length again
     choices-part = sym (ap length choices-again ∙ choices-long)
 
-    pub asks-resolve : Resolving n M W s (take (n / 2) (cs ++ drop (n / 2) (t .choices))) (take n (t .donors)) (take n (t .recipients)) (t .records)
+    pub asks-resolve : Resolving n M W s again (take n donors) (take n recipients)
     asks-resolve = record {
       readable = asked .readable;
       shuffled = asked .shuffled;
       few = omega (arith, choices-part, asked .readable .few);
-      allDonors = length-take-le n (t .donors) (asked .donors);
-      allRecipients = length-take-le n (t .recipients) (asked .recipients);
-      room = omega (arith, choices-part, asked .records);
+      allDonors = length-take-le n donors (asked .inDonors);
+      allRecipients = length-take-le n recipients (asked .inRecipients);
     }
 
-    module _ (found : Resolved) (ds rs rec : List ℕ)
-        (f : (found ≡ resultOf n M W (chosenBy n M W s (take (n / 2) (cs ++ drop (n / 2) (t .choices)))))
-        × (ds ≡ donorTable n (chosenBy n M W s (take (n / 2) (cs ++ drop (n / 2) (t .choices)))))
-        × (rs ≡ recipientTable n (chosenBy n M W s (take (n / 2) (cs ++ drop (n / 2) (t .choices)))))
-        × (rec ≡ filled (flat n (chosenBy n M W s (take (n / 2) (cs ++ drop (n / 2) (t .choices))))) (t .records))) where
-      cycles-are : chosenBy n M W s (take (n / 2) (cs ++ drop (n / 2) (t .choices))) ≡ plannedBy 0 3 n (entry M n) (entry W n) s
+    module _ (found : Resolved) (ds rs : List ℕ)
+        (f : (found ≡ resultOf n M W (chosenBy n M W s again)) × (ds ≡ donorTable n (chosenBy n M W s again)) × (rs ≡ recipientTable n (chosenBy n M W s again))) where
+      cycles-are : chosenBy n M W s again ≡ plannedBy 0 3 n (entry M n) (entry W n) s
       unfolding plannedBy
       cycles-are = ap (chosenBy n M W s) (choices-again ∙ choices-are)
+
+      found-is : found ≡ resultOf n M W (plannedBy 0 3 n (entry M n) (entry W n) s)
+      found-is = f .0 ∙ ap (resultOf n M W) cycles-are
+
+      number-is : found .cycles ≡ length (plannedBy 0 3 n (entry M n) (entry W n) s)
+      number-is = ap (λ (x : Resolved). x .cycles) found-is
 
       plans : {a a′ b b′ : ℕ} {c c′ : Tallies.Tally} → a ≡ a′ → b ≡ b′ → c ≡ c′ → plan a b c ≡ plan a′ b′ c′
       plans a b c = cc
 
-      pub plan-is : plan (found .weight) (found .cycles) (counted u) ≡ planOf n M W s
-      unfolding planOf
-      plan-is =
-          plans
-          (ap (λ (x : Resolved). x .weight) (f .0) ∙ ap (total (entry M n) (entry W n)) cycles-are)
-          (ap (λ (x : Resolved). x .cycles) (f .0) ∙ ap length cycles-are)
-          (ap (λ (x : Left). x .tally) e)
+      pub plan-is : answerOf (Made (record { weight = found .weight; cycles = found .cycles; tally = u })) ≡ finished (planOf n M W s)
+      unfolding planOf answerOf
+      plan-is = ap finished (plans (ap (λ (x : Resolved). x .weight) found-is) number-is (ap (λ (x : Left). x .tally) e))
 
-      all-tables : {a a′ b b′ c c′ d d′ g g′ : List ℕ} → a ≡ a′ → b ≡ b′ → c ≡ c′ → d ≡ d′ → g ≡ g′ → tables a b c d g ≡ tables a′ b′ c′ d′ g′
-      all-tables a b c d g = cc
+      pub cycles-few : found .cycles ≤ n / 2
+      cycles-few = omega (arith, number-is, planned-few n (entry M n) (entry W n) s)
 
-      pub tables-are : tables (ws ++ drop all (t .weights)) (cs ++ drop (n / 2) (t .choices)) (ds ++ drop n (t .donors)) (rs ++ drop n (t .recipients)) rec
-          ≡ madeOf n M W s t
-      unfolding madeOf donorTable recipientTable
-      tables-are =
+      -- the first records are those of the cycles
+      records-are : take (found .cycles) (found .records) ≡ map (recordOf n) (plannedBy 0 3 n (entry M n) (entry W n) s)
+      records-are =
+          let cs = plannedBy 0 3 n (entry M n) (entry W n) s in
+          ap (λ (x : Resolved). take (x .cycles) (x .records)) found-is
+          ∙ ap (λ (k : ℕ). take k (filled (map (recordOf n) cs) (noRecords n))) (sym (length-map cs (recordOf n)))
+          ∙ take-filled (map (recordOf n) cs) (noRecords n)
+
+      all-lent : {a a′ b b′ c c′ d d′ : List ℕ} {g g′ : List Cycle} → a ≡ a′ → b ≡ b′ → c ≡ c′ → d ≡ d′ → g ≡ g′ → lent a b c d g ≡ lent a′ b′ c′ d′ g′
+      all-lent a b c d g = cc
+
+      pub lent-is : (old : List Cycle)
+          → lent (ws ++ drop all weights) (cs ++ drop (n / 2) choices) (ds ++ drop n donors) (rs ++ drop n recipients) (filled (take (found .cycles) (found .records)) old)
+          ≡ madeOf n M W s (lent weights choices donors recipients old)
+      unfolding madeOf filledLent donorTable recipientTable
+      lent-is old =
           let ed : ds ≡ donorTable n (plannedBy 0 3 n (entry M n) (entry W n) s) = f .1 ∙ ap (donorTable n) cycles-are in
           let er : rs ≡ recipientTable n (plannedBy 0 3 n (entry M n) (entry W n) s) = f .2 ∙ ap (recipientTable n) cycles-are in
-          all-tables
-          (past all ws (t .weights) weights-long ∙ ap (λ (l : List ℕ). filled l (t .weights)) weights-are)
-          (past (n / 2) cs (t .choices) choices-long ∙ ap (λ (l : List ℕ). filled l (t .choices)) choices-are)
-          (past n ds (t .donors) (ap length ed ∙ length-table n _) ∙ ap (λ (l : List ℕ). filled l (t .donors)) ed)
-          (past n rs (t .recipients) (ap length er ∙ length-table n _) ∙ ap (λ (l : List ℕ). filled l (t .recipients)) er)
-          (f .3 ∙ ap (λ (x : List (List ℕ)). filled (flat n x) (t .records)) cycles-are)
+          all-lent
+          (past all ws weights weights-long ∙ ap (λ (l : List ℕ). filled l weights) weights-are)
+          (past (n / 2) cs choices choices-long ∙ ap (λ (l : List ℕ). filled l choices) choices-are)
+          (past n ds donors (ap length ed ∙ length-table n _) ∙ ap (λ (l : List ℕ). filled l donors) ed)
+          (past n rs recipients (ap length er ∙ length-table n _) ∙ ap (λ (l : List ℕ). filled l recipients) er)
+          (ap (λ (l : List Cycle). filled l old) records-are)

@@ -1,3 +1,4 @@
--- `Tables`: the lent tables with their records flat, and what the planning call answers and leaves. `Checks`: what the steps ask of their arguments.
-pub mod Tables
+-- `Said`: the answer of planning in document 01's numbers, and its records. `Checks`: the checks by lengths, and what the steps ask of their
+-- arguments.
+pub mod Said
 pub mod Checks

@@ -1,6 +1,7 @@
 // Pools to try, and the plans that planning makes of them: document 01's k1 to k12, a pool of 36 and one of 200. What it prints is held to the
 // file 'stdout'. Every lent entry holds 99 before a call, and the first one past the filled part is printed too.
 use planner::Planning;
+use records::Cycle;
 ghost use Prim.Native.Nat.{_≤_, _<_};
 ghost use lib.ListN.{length};
 
@@ -44,6 +45,35 @@ fn print_choices(name: &[u8], t: &[u32], count: usize) {
     }
 }
 
+// One of a record's three numbers.
+fn number_of(record: Cycle, which: usize) -> u16 {
+    if which == 0 {
+        return record.first;
+    }
+    if which == 1 {
+        return record.second;
+    }
+    record.third
+}
+
+// The first numbers of a table of records that held 99s, with so many records in it.
+fn print_records(name: &[u8], records: [Cycle; 100], cycles: usize, count: usize)
+    requires { ⌜ cycles ≤ 100 ⌝ }
+{
+    print(name);
+    let mut i: usize = 0;
+    while i < count {
+        let k = i / 3;
+        if k < cycles {
+            let record = records[k];
+            print_pair(number_of(record, i % 3));
+        } else {
+            print_pair(99);
+        }
+        i += 1;
+    }
+}
+
 fn print_answer(answer: Planning) {
     match answer {
         Planning::Made(plan) => {
@@ -76,8 +106,7 @@ fn try_pool(name: &[u8], n: usize, subsets: usize, m: &[u8], w: &[u16], shuffle:
     let mut choices = [99u32; 4];
     let mut donors = [99u16; 7];
     let mut recipients = [99u16; 7];
-    let mut records = [99u16; 12];
-    let answer = planner::plan(
+    let work = planner::plan_by_value(
         n,
         m,
         w,
@@ -86,15 +115,18 @@ fn try_pool(name: &[u8], n: usize, subsets: usize, m: &[u8], w: &[u16], shuffle:
         &mut choices,
         &mut donors,
         &mut recipients,
-        &mut records,
+        4,
     );
+    let answer = work.planning;
+    let cycles = work.cycles;
+    let records = work.records;
     print(name);
     print_answer(answer);
     print_choices(b"\n  weights", &weights, past_weights);
     print_choices(b"\n  choices", &choices, past_choices);
     print_pairs(b"\n  donors", &donors, past);
     print_pairs(b"\n  recipients", &recipients, past);
-    print_pairs(b"\n  records", &records, past_records);
+    print_records(b"\n  records", records, cycles, past_records);
     print(b"\n");
 }
 
@@ -213,8 +245,7 @@ fn try_36() {
     let mut choices = [99u32; 19];
     let mut donors = [99u16; 37];
     let mut recipients = [99u16; 37];
-    let mut records = [99u16; 55];
-    let answer = planner::plan(
+    let work = planner::plan_by_value(
         36,
         &m,
         &w,
@@ -223,14 +254,17 @@ fn try_36() {
         &mut choices,
         &mut donors,
         &mut recipients,
-        &mut records,
+        18,
     );
+    let answer = work.planning;
+    let cycles = work.cycles;
+    let records = work.records;
     print(b"36 pairs:");
     print_answer(answer);
     print_choices(b"\n  choices", &choices, 19);
     print_pairs(b"\n  donors", &donors, 37);
     print_pairs(b"\n  recipients", &recipients, 37);
-    print_pairs(b"\n  records", &records, 55);
+    print_records(b"\n  records", records, cycles, 55);
     print(b"\n");
 }
 
@@ -244,8 +278,7 @@ fn try_200() {
     let mut choices = [99u32; 101];
     let mut donors = [99u16; 201];
     let mut recipients = [99u16; 201];
-    let mut records = [99u16; 301];
-    let answer = planner::plan(
+    let work = planner::plan_by_value(
         200,
         &m,
         &w,
@@ -254,8 +287,9 @@ fn try_200() {
         &mut choices,
         &mut donors,
         &mut recipients,
-        &mut records,
+        100,
     );
+    let answer = work.planning;
     print(b"200 pairs:");
     print_answer(answer);
     print_choices(b"\n  choices", &choices, 101);

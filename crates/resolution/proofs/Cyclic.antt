@@ -7,6 +7,7 @@ use native.Mathlib.Omega.{arith}
 use borrow.Author.Tests.{eq-eqb, ne-eqb, lt-ltb, le-ltb}
 use lib.Dec.{ltb}
 use lib.ListN.{length, getD}
+use Rattle.records.specs.declared.Cycle.{Cycle}
 use Rattle.exchange.specs.Subsets.{subsets, entry, weigh, heaviest, pairsAt, bestCycle}
 use Rattle.exchange.specs.Resolution.{resolved, recordOf, pairsOf, total}
 use Rattle.cursor.specs.Cursor.{InRange, subsetAt}
@@ -15,7 +16,6 @@ use Rattle.cursor.proofs.Order.{Subset, two, three, is-subset}
 use Rattle.cursor.proofs.Standing.{range-two, range-triple}
 use Rattle.evaluation.specs.Readable.{Shuffled}
 use Rattle.evaluation.proofs.Subsets.{heavier, paired-two, paired-triple}
-use Rattle.resolution.specs.Records.{cycleIn}
 
 pub data Cyclic (n : ℕ) : List ℕ → Type 0 where
   swap : {a b : ℕ} → a < n → b < n → Cyclic n (a ∷ b ∷ [])
@@ -109,14 +109,21 @@ module _ (n : ℕ) (M W s : List ℕ) (p : Places) (range : InRange n p) where
     pub is-first : y ≤ x → there ≡ getD s (p .u) 0 ∷ getD s (p .v) 0 ∷ getD s (p .w) 0 ∷ []
     is-first h = is-heavier ∙ rw (le-ltb x y h)
 
--- a cycle with its weight
-module _ (n : ℕ) (weight : List ℕ → ℕ) (x : ℕ) (t : List ℕ) where
-  pub giving-two : (a b : ℕ) → t ≡ a ∷ b ∷ [] → x ≡ weight (a ∷ b ∷ [])
-      → (cycleIn (record { first = a; second = b; third = n; weight = x }) ≡ recordOf n t) × (x ≡ weight t)
-  unfolding recordOf
-  giving-two a b e ex = (sym (ap (recordOf n) e), ex ∙ ap weight (sym e))
+same-record : {a b d a′ b′ d′ : ℕ} → a ≡ a′ → b ≡ b′ → d ≡ d′ → _≡_ {A = Cycle} (record { first = a; second = b; third = d }) (record { first = a′; second = b′; third = d′ })
+same-record e f g = cc
 
-  pub giving-three : (a b c : ℕ) → t ≡ a ∷ b ∷ c ∷ [] → x ≡ weight (a ∷ b ∷ c ∷ [])
-      → (cycleIn (record { first = a; second = b; third = c; weight = x }) ≡ recordOf n t) × (x ≡ weight t)
+-- a cycle with its weight
+module _ (n : ℕ) (weight : List ℕ → ℕ) (x : ℕ) (t : List ℕ) (c : Cycle) where
+  pub giving-two : (a b : ℕ) → (c .first ≡ a) × (c .second ≡ b) × (c .third ≡ n) → t ≡ a ∷ b ∷ [] → x ≡ weight (a ∷ b ∷ []) → (c ≡ recordOf n t) × (x ≡ weight t)
   unfolding recordOf
-  giving-three a b c e ex = (sym (ap (recordOf n) e), ex ∙ ap weight (sym e))
+  giving-two a b ec e ex = (same-record (ec .0) (ec .1) (ec .2) ∙ sym (ap (recordOf n) e), ex ∙ ap weight (sym e))
+
+  pub giving-three : (a b d : ℕ) → (c .first ≡ a) × (c .second ≡ b) × (c .third ≡ d) → t ≡ a ∷ b ∷ d ∷ [] → x ≡ weight (a ∷ b ∷ d ∷ [])
+      → (c ≡ recordOf n t) × (x ≡ weight t)
+  unfolding recordOf
+  giving-three a b d ec e ex = (same-record (ec .0) (ec .1) (ec .2) ∙ sym (ap (recordOf n) e), ex ∙ ap weight (sym e))
+
+-- the record of no cycle
+pub no-record : (n : ℕ) (c : Cycle) → (c .first ≡ n) × (c .second ≡ n) × (c .third ≡ n) → c ≡ recordOf n []
+unfolding recordOf
+no-record n c e = same-record (e .0) (e .1) (e .2)

@@ -11,10 +11,10 @@ use lib.Seq.{getD-set-same, getD-set-other}
 use Rattle.laws.specs.Below.{table}
 use Rattle.laws.proofs.Below.{length-table, getD-table, table-cong, table-getD}
 use Rattle.laws.proofs.Lists.{flatMap-append}
+use Rattle.records.specs.declared.Cycle.{Cycle}
 use Rattle.exchange.specs.Subsets.{Edge, along, edges}
 use Rattle.exchange.specs.Resolution.{pairsOf, recipientBy, donorBy, recipientTable, donorTable}
-use Rattle.resolution.specs.Records.{cycleIn, given, received}
-use Rattle.resolution.specs.declared.Giving.{Giving}
+use Rattle.resolution.specs.Records.{given, received}
 use Rattle.resolution.proofs.Cyclic.{Cyclic, swap, triangle}
 
 -- all edges are between n pairs
@@ -116,39 +116,39 @@ cyclic-between n _ (swap p q) = (p, q, (q, p, tt))
 cyclic-between n _ (triangle p q r) = (p, q, (q, r, (r, p, tt)))
 
 -- what `engage` does, edge by edge
-module _ (n : ℕ) (g : Giving) where
-  two-pairs : g .third ≡ n → pairsOf n (cycleIn g) ≡ g .first ∷ g .second ∷ []
+module _ (n : ℕ) (c : Cycle) where
+  two-pairs : c .third ≡ n → pairsOf n c ≡ c .first ∷ c .second ∷ []
   unfolding pairsOf
-  two-pairs e = rw (eq-eqb (g .third) n e)
+  two-pairs e = rw (eq-eqb (c .third) n e)
 
-  three-pairs : (g .third ≡ n → ⊥) → pairsOf n (cycleIn g) ≡ g .first ∷ g .second ∷ g .third ∷ []
+  three-pairs : (c .third ≡ n → ⊥) → pairsOf n c ≡ c .first ∷ c .second ∷ c .third ∷ []
   unfolding pairsOf
-  three-pairs e = rw (ne-eqb (g .third) n e)
+  three-pairs e = rw (ne-eqb (c .third) n e)
 
   module _ (l l₁ l₂ : List ℕ) where
-    pub given-two : g .third ≡ n → l₁ ≡ set l (g .first) (g .second) → l₂ ≡ set l₁ (g .second) (g .first) → l₂ ≡ given (edges (pairsOf n (cycleIn g))) l
+    pub given-two : c .third ≡ n → l₁ ≡ set l (c .first) (c .second) → l₂ ≡ set l₁ (c .second) (c .first) → l₂ ≡ given (edges (pairsOf n c)) l
     unfolding given
     given-two e e₁ e₂ =
-        e₂ ∙ ap (λ (x : List ℕ). set x (g .second) (g .first)) e₁
-        ∙ ap (λ (es : List Edge). given es l) (sym (ap edges (two-pairs e) ∙ edges-two (g .first) (g .second)))
+        e₂ ∙ ap (λ (x : List ℕ). set x (c .second) (c .first)) e₁
+        ∙ ap (λ (es : List Edge). given es l) (sym (ap edges (two-pairs e) ∙ edges-two (c .first) (c .second)))
 
-    pub received-two : g .third ≡ n → l₁ ≡ set l (g .second) (g .first) → l₂ ≡ set l₁ (g .first) (g .second) → l₂ ≡ received (edges (pairsOf n (cycleIn g))) l
+    pub received-two : c .third ≡ n → l₁ ≡ set l (c .second) (c .first) → l₂ ≡ set l₁ (c .first) (c .second) → l₂ ≡ received (edges (pairsOf n c)) l
     unfolding received
     received-two e e₁ e₂ =
-        e₂ ∙ ap (λ (x : List ℕ). set x (g .first) (g .second)) e₁
-        ∙ ap (λ (es : List Edge). received es l) (sym (ap edges (two-pairs e) ∙ edges-two (g .first) (g .second)))
+        e₂ ∙ ap (λ (x : List ℕ). set x (c .first) (c .second)) e₁
+        ∙ ap (λ (es : List Edge). received es l) (sym (ap edges (two-pairs e) ∙ edges-two (c .first) (c .second)))
 
-    module _ (l₃ : List ℕ) (e : g .third ≡ n → ⊥) where
-      pub given-three : l₁ ≡ set l (g .first) (g .second) → l₂ ≡ set l₁ (g .second) (g .third) → l₃ ≡ set l₂ (g .third) (g .first)
-          → l₃ ≡ given (edges (pairsOf n (cycleIn g))) l
+    module _ (l₃ : List ℕ) (e : c .third ≡ n → ⊥) where
+      pub given-three : l₁ ≡ set l (c .first) (c .second) → l₂ ≡ set l₁ (c .second) (c .third) → l₃ ≡ set l₂ (c .third) (c .first)
+          → l₃ ≡ given (edges (pairsOf n c)) l
       unfolding given
       given-three e₁ e₂ e₃ =
-          e₃ ∙ ap (λ (x : List ℕ). set x (g .third) (g .first)) (e₂ ∙ ap (λ (x : List ℕ). set x (g .second) (g .third)) e₁)
-          ∙ ap (λ (es : List Edge). given es l) (sym (ap edges (three-pairs e) ∙ edges-three (g .first) (g .second) (g .third)))
+          e₃ ∙ ap (λ (x : List ℕ). set x (c .third) (c .first)) (e₂ ∙ ap (λ (x : List ℕ). set x (c .second) (c .third)) e₁)
+          ∙ ap (λ (es : List Edge). given es l) (sym (ap edges (three-pairs e) ∙ edges-three (c .first) (c .second) (c .third)))
 
-      pub received-three : l₁ ≡ set l (g .second) (g .first) → l₂ ≡ set l₁ (g .third) (g .second) → l₃ ≡ set l₂ (g .first) (g .third)
-          → l₃ ≡ received (edges (pairsOf n (cycleIn g))) l
+      pub received-three : l₁ ≡ set l (c .second) (c .first) → l₂ ≡ set l₁ (c .third) (c .second) → l₃ ≡ set l₂ (c .first) (c .third)
+          → l₃ ≡ received (edges (pairsOf n c)) l
       unfolding received
       received-three e₁ e₂ e₃ =
-          e₃ ∙ ap (λ (x : List ℕ). set x (g .first) (g .third)) (e₂ ∙ ap (λ (x : List ℕ). set x (g .third) (g .second)) e₁)
-          ∙ ap (λ (es : List Edge). received es l) (sym (ap edges (three-pairs e) ∙ edges-three (g .first) (g .second) (g .third)))
+          e₃ ∙ ap (λ (x : List ℕ). set x (c .first) (c .third)) (e₂ ∙ ap (λ (x : List ℕ). set x (c .third) (c .second)) e₁)
+          ∙ ap (λ (es : List Edge). received es l) (sym (ap edges (three-pairs e) ∙ edges-three (c .first) (c .second) (c .third)))

@@ -3,40 +3,38 @@ use Prim.Native.Nat.{ℕ, _+_, _*_, _^_, _≤_, _<_}
 use mathlib.Core.Path.{_≡_}
 use mathlib.Core.List.{List}
 use lib.ListN.{length}
+use Rattle.records.specs.declared.Cycle.{Cycle}
 use Rattle.evaluation.specs.Readable.{Readable, Shuffled}
 use Rattle.resolution.specs.declared.Giving.{Giving}
+use Rattle.resolution.specs.declared.Resolved.{Resolved}
 
 -- a cycle of n pairs, and a partner for each pair
-pub record Partners (n : ℕ) (g : Giving) (donors recipients : List ℕ) : Type 0 where
-  pub few : n ≤ 200
-  pub first : g .first < n
-  pub second : g .second < n
-  pub third : g .third ≤ n
+pub record Partners (n : ℕ) (c : Cycle) (donors recipients : List ℕ) : Type 0 where
+  pub first : c .first < n
+  pub second : c .second < n
+  pub third : c .third ≤ n
   pub allDonors : length donors ≡ n
   pub allRecipients : length recipients ≡ n
 
--- there is room for record k, and its numbers fit 16 bits
-pub record Free (records : List ℕ) (k : ℕ) (g : Giving) : Type 0 where
-  pub room : 3 * k + 3 ≤ length records
-  pub few : k ≤ 100
-  pub first : g .first < 2 ^ 16
-  pub second : g .second < 2 ^ 16
-  pub third : g .third < 2 ^ 16
+-- there is room for a cycle more
+pub record Room (r : Resolved) (g : Giving) : Type 0 where
+  pub few : r .cycles < 100
+  pub light : r .weight + g .weight < 2 ^ 64
 
--- room for a cycle after `cycles` others
-pub record One (n : ℕ) (M W s : List ℕ) (cycles : ℕ) (donors recipients records : List ℕ) : Type 0 where
+-- checked tables, and room for a cycle more: one weighs less than 3 * 2 ^ 16
+pub record One (n : ℕ) (M W s : List ℕ) (r : Resolved) (donors recipients : List ℕ) : Type 0 where
   pub readable : Readable n M W
   pub shuffled : Shuffled n s
-  pub room : 3 * cycles + 3 ≤ length records
-  pub few : cycles ≤ 100
+  pub few : r .cycles < 100
+  pub light : r .weight + 3 * 2 ^ 16 < 2 ^ 64
+  pub records : length (r .records) ≡ 100
   pub allDonors : length donors ≡ n
   pub allRecipients : length recipients ≡ n
 
--- at most 100 choices, a partner for each pair, a record for each choice
-pub record Resolving (n : ℕ) (M W s choices donors recipients records : List ℕ) : Type 0 where
+-- at most 100 choices, and a partner for each pair
+pub record Resolving (n : ℕ) (M W s choices donors recipients : List ℕ) : Type 0 where
   pub readable : Readable n M W
   pub shuffled : Shuffled n s
   pub few : length choices ≤ 100
   pub allDonors : length donors ≡ n
   pub allRecipients : length recipients ≡ n
-  pub room : 3 * length choices ≤ length records

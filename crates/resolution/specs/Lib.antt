@@ -1,3 +1,3 @@
--- `Records`: records in a flat table, and partners edge by edge. `Asked`: what resolution asks of its arguments.
+-- `Records`: cycles resolved, and partners edge by edge. `Asked`: what resolution asks of its arguments.
 pub mod Records
 pub mod Asked

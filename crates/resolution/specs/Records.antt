@@ -1,25 +1,14 @@
--- Records in a flat table, "three pair numbers" each, and partners edge by edge. Assumes nothing.
-use Prim.Native.Nat.{ℕ, _*_}
+-- Cycles resolved: their weight, number and records, and their partners edge by edge. Assumes nothing.
+use Prim.Native.Nat.{ℕ, _+_}
 use mathlib.Core.List.{List, [], _∷_, map, flatMap}
 use mathlib.Core.Path.{_≡_}
-use lib.ListN.{length, set}
-use Rattle.laws.specs.Lent.{stored}
+use lib.ListN.{length, set, replicate}
+use Rattle.laws.specs.Lent.{stored, filled}
+use Rattle.records.specs.declared.Cycle.{Cycle}
 use Rattle.exchange.specs.Subsets.{Edge, subsets, edges, entry}
-use Rattle.exchange.specs.Resolution.{Cycle, recordOf, resolved, total}
+use Rattle.exchange.specs.Resolution.{recordOf, resolved, total}
 use Rattle.resolution.specs.declared.Giving.{Giving}
 use Rattle.resolution.specs.declared.Resolved.{Resolved}
-
--- a record's three numbers
-abbrev pub numbers : Cycle → List ℕ
-numbers r = r .first ∷ r .second ∷ r .third ∷ []
-
--- the records of cycles of n pairs, one after another
-abbrev pub flat : ℕ → List (List ℕ) → List ℕ
-flat n cs = flatMap numbers (map (recordOf n) cs)
-
--- the record of a cycle
-abbrev pub cycleIn : Giving → Cycle
-cycleIn g = record { first = g .first; second = g .second; third = g .third }
 
 -- a recipient table after these edges: each donor's entry is the patient
 unfoldable pub given : List Edge → List ℕ → List ℕ
@@ -35,12 +24,25 @@ received (e ∷ es) l = received es (set l (e .patient) (e .donor))
 abbrev pub chosenBy : ℕ → List ℕ → List ℕ → List ℕ → List ℕ → List (List ℕ)
 chosenBy n M W s choices = resolved (entry M n) (entry W n) s (subsets 3 n) choices
 
--- the weight and the number of cycles
-abbrev pub resultOf : ℕ → List ℕ → List ℕ → List (List ℕ) → Resolved
-resultOf n M W cs = record { weight = total (entry M n) (entry W n) cs; cycles = length cs }
+-- records of no cycle: N three times
+abbrev pub noRecords : ℕ → List Cycle
+noRecords n = replicate 100 (recordOf n [])
 
--- what cycles leave in lent tables: their records after `cycles` others, and their edges
-pub record Added (n : ℕ) (cs : List (List ℕ)) (cycles : ℕ) (donors recipients records donors′ recipients′ records′ : List ℕ) : Type 0 where
-  pub inRecords : records′ ≡ stored (3 * cycles) (flat n cs) records
+abbrev pub noneYet : ℕ → Resolved
+noneYet n = record { weight = 0; cycles = 0; records = noRecords n }
+
+-- one cycle more
+abbrev pub withCycle : Resolved → Giving → Resolved
+withCycle r g = record { weight = r .weight + g .weight; cycles = r .cycles + 1; records = set (r .records) (r .cycles) (g .cycle) }
+
+-- the weight, the number and the records of cycles of n pairs
+abbrev pub resultOf : ℕ → List ℕ → List ℕ → List (List ℕ) → Resolved
+resultOf n M W cs = record { weight = total (entry M n) (entry W n) cs; cycles = length cs; records = filled (map (recordOf n) cs) (noRecords n) }
+
+-- what more cycles leave: their weight, number and records with those so far, and their edges
+pub record Added (n : ℕ) (M W : List ℕ) (cs : List (List ℕ)) (r : Resolved) (donors recipients : List ℕ) (r′ : Resolved) (donors′ recipients′ : List ℕ) : Type 0 where
+  pub weight : r′ .weight ≡ r .weight + total (entry M n) (entry W n) cs
+  pub cycles : r′ .cycles ≡ r .cycles + length cs
+  pub inRecords : r′ .records ≡ stored (r .cycles) (map (recordOf n) cs) (r .records)
   pub inRecipients : recipients′ ≡ given (flatMap edges cs) recipients
   pub inDonors : donors′ ≡ received (flatMap edges cs) donors

@@ -1,30 +1,29 @@
 // Resolution: the chosen cycles as records and as partners, with their weight. It is not tallied, and may look at a choice.
 use cursor::Places;
+use records::Cycle;
 ghost use mathlib.Core.Path.{_≡_};
 ghost use mathlib.Core.List.{[], _∷_};
-ghost use Prim.Native.Nat.{_*_, _≤_, _<_};
+ghost use Prim.Native.Nat.{_^_, _≤_, _<_};
 ghost use lib.ListN.{length, set};
 ghost use Rattle.laws.specs.Below.{table};
-ghost use Rattle.laws.specs.Lent.{stored, filled};
 ghost use Rattle.exchange.specs.Subsets.{entry, edges, pairsAt, bestCycle};
 ghost use Rattle.exchange.specs.Resolution.{pairsOf, recordOf, recipientTable, donorTable};
 ghost use Rattle.cursor.specs.Cursor.{InRange, subsetAt};
 ghost use Rattle.evaluation.specs.Readable.{weightOf, Readable, Shuffled, Pairs};
-ghost use Rattle.resolution.specs.Records.{numbers, flat, cycleIn, given, received, chosenBy, resultOf, Added};
-ghost use Rattle.resolution.specs.Asked.{Partners, Free, One, Resolving};
+ghost use Rattle.resolution.specs.Records.{given, received, chosenBy, noneYet, withCycle, resultOf, Added};
+ghost use Rattle.resolution.specs.Asked.{Partners, Room, One, Resolving};
 
-// A cycle: its pairs in giving order from the lowest place, the third n for a two, and its weight.
+// A cycle's record and its weight.
 pub struct Giving {
-    pub first: usize,
-    pub second: usize,
-    pub third: usize,
+    pub cycle: Cycle,
     pub weight: usize,
 }
 
-// The weight and the number of some cycles.
+// The weight and the number of some cycles, and their records from the first on.
 pub struct Resolved {
     pub weight: usize,
     pub cycles: usize,
+    pub records: [Cycle; 100],
 }
 
 // The weight of a two's cycle.
@@ -47,10 +46,22 @@ fn three(m: &[u8], w: &[u16], n: usize, a: usize, b: usize, c: usize) -> usize
     all * (sum + evaluation::points(w, n, c, a))
 }
 
+// The record of three numbers.
+fn record_of(first: usize, second: usize, third: usize) -> Cycle
+    requires { ⌜ (first < 2 ^ 16) × (second < 2 ^ 16) × (third < 2 ^ 16) ⌝ }
+    ensures { λ r. ⌜ (r .first ≡ first) × (r .second ≡ second) × (r .third ≡ third) ⌝ }
+{
+    Cycle {
+        first: first as u16,
+        second: second as u16,
+        third: third as u16,
+    }
+}
+
 // The cycle that the subset at the cursor is weighed by.
 fn cycle_at(n: usize, m: &[u8], w: &[u16], s: &[u16], p: Places) -> Giving
     requires { ⌜ Readable n (now m) (now w) × Shuffled n (now s) × InRange n p ⌝ }
-    ensures { λ r. ⌜ (cycleIn r ≡ recordOf n (pairsAt (now (s .entry)) (bestCycle (entry (now (m .entry)) n) (entry (now (w .entry)) n) (now (s .entry)) (subsetAt n p)))) × (r .weight ≡ weightOf n (now (m .entry)) (now (w .entry)) (pairsAt (now (s .entry)) (bestCycle (entry (now (m .entry)) n) (entry (now (w .entry)) n) (now (s .entry)) (subsetAt n p)))) ⌝ }
+    ensures { λ r. ⌜ (r .cycle ≡ recordOf n (pairsAt (now (s .entry)) (bestCycle (entry (now (m .entry)) n) (entry (now (w .entry)) n) (now (s .entry)) (subsetAt n p)))) × (r .weight ≡ weightOf n (now (m .entry)) (now (w .entry)) (pairsAt (now (s .entry)) (bestCycle (entry (now (m .entry)) n) (entry (now (w .entry)) n) (now (s .entry)) (subsetAt n p)))) ⌝ }
 {
     let u = p.u;
     let v = p.v;
@@ -59,9 +70,7 @@ fn cycle_at(n: usize, m: &[u8], w: &[u16], s: &[u16], p: Places) -> Giving
     let b = s[v] as usize;
     if x == n {
         return Giving {
-            first: a,
-            second: b,
-            third: n,
+            cycle: record_of(a, b, n),
             weight: two(m, w, n, a, b),
         };
     }
@@ -70,54 +79,40 @@ fn cycle_at(n: usize, m: &[u8], w: &[u16], s: &[u16], p: Places) -> Giving
     let second = three(m, w, n, a, c, b);
     if first < second {
         return Giving {
-            first: a,
-            second: c,
-            third: b,
+            cycle: record_of(a, c, b),
             weight: second,
         };
     }
     Giving {
-        first: a,
-        second: b,
-        third: c,
+        cycle: record_of(a, b, c),
         weight: first,
     }
 }
 
-// The record of number k.
-fn put(records: &mut [u16], k: usize, g: Giving)
-    requires { ⌜ Free (now records) k g ⌝ }
-    ensures { λ _. ⌜ now (records .exit) ≡ stored (3 * k) (numbers (cycleIn g)) (now (records .entry)) ⌝ }
-{
-    records[3 * k] = g.first as u16;
-    records[3 * k + 1] = g.second as u16;
-    records[3 * k + 2] = g.third as u16;
-}
-
 // Pair a's donor gives to patient b.
-fn give(a: usize, b: usize, donors: &mut [u16], recipients: &mut [u16])
-    requires { ⌜ (a < length (now recipients)) × (b < length (now donors)) × (length (now recipients) ≤ 200) × (length (now donors) ≤ 200) ⌝ }
+fn give(a: u16, b: u16, donors: &mut [u16], recipients: &mut [u16])
+    requires { ⌜ (a < length (now recipients)) × (b < length (now donors)) ⌝ }
     ensures { λ _. ⌜ (now (recipients .exit) ≡ set (now (recipients .entry)) a b) × (now (donors .exit) ≡ set (now (donors .entry)) b a) ⌝ }
 {
-    recipients[a] = b as u16;
-    donors[b] = a as u16;
+    recipients[a as usize] = b;
+    donors[b as usize] = a;
 }
 
 // The edges of a cycle.
-fn engage(n: usize, g: Giving, donors: &mut [u16], recipients: &mut [u16])
-    requires { ⌜ Partners n g (now donors) (now recipients) ⌝ }
-    ensures { λ _. ⌜ (now (recipients .exit) ≡ given (edges (pairsOf n (cycleIn g))) (now (recipients .entry))) × (now (donors .exit) ≡ received (edges (pairsOf n (cycleIn g))) (now (donors .entry))) ⌝ }
+fn engage(n: usize, c: Cycle, donors: &mut [u16], recipients: &mut [u16])
+    requires { ⌜ Partners n c (now donors) (now recipients) ⌝ }
+    ensures { λ _. ⌜ (now (recipients .exit) ≡ given (edges (pairsOf n c)) (now (recipients .entry))) × (now (donors .exit) ≡ received (edges (pairsOf n c)) (now (donors .entry))) ⌝ }
 {
-    let a = g.first;
-    let b = g.second;
-    let c = g.third;
-    give(a, b, donors, recipients);
-    if c == n {
-        give(b, a, donors, recipients);
+    let first = c.first;
+    let second = c.second;
+    let third = c.third;
+    give(first, second, donors, recipients);
+    if third as usize == n {
+        give(second, first, donors, recipients);
         return;
     }
-    give(b, c, donors, recipients);
-    give(c, a, donors, recipients);
+    give(second, third, donors, recipients);
+    give(third, first, donors, recipients);
 }
 
 // No partner yet.
@@ -133,34 +128,57 @@ fn alone(n: usize, partners: &mut [u16])
     }
 }
 
-// The cycle of one choice, where it chose one, after `cycles` others.
+// No cycle yet.
+fn none(n: usize) -> Resolved
+    requires { ⌜ n ≤ 200 ⌝ }
+    ensures { λ r. ⌜ r ≡ noneYet n ⌝ }
+{
+    let empty = record_of(n, n, n);
+    let records = [empty; 100];
+    Resolved {
+        weight: 0,
+        cycles: 0,
+        records: records,
+    }
+}
+
+// One cycle more.
+fn append(so_far: Resolved, g: Giving) -> Resolved
+    requires { ⌜ Room «so_far» g ⌝ }
+    ensures { λ r. ⌜ r ≡ withCycle «so_far» g ⌝ }
+{
+    let at = so_far.cycles;
+    let cycle = g.cycle;
+    let mut records = so_far.records;
+    records[at] = cycle;
+    Resolved {
+        weight: so_far.weight + g.weight,
+        cycles: at + 1,
+        records: records,
+    }
+}
+
+// The cycle of one choice, where it chose one, after those so far.
 fn resolve_one(
     n: usize,
     m: &[u8],
     w: &[u16],
     s: &[u16],
     choice: usize,
-    cycles: usize,
+    so_far: Resolved,
     donors: &mut [u16],
     recipients: &mut [u16],
-    records: &mut [u16],
 ) -> Resolved
-    requires { ⌜ One n (now m) (now w) (now s) cycles (now donors) (now recipients) (now records) ⌝ }
-    ensures { λ r. ⌜ (r ≡ resultOf n (now (m .entry)) (now (w .entry)) (chosenBy n (now (m .entry)) (now (w .entry)) (now (s .entry)) (choice ∷ []))) × Added n (chosenBy n (now (m .entry)) (now (w .entry)) (now (s .entry)) (choice ∷ [])) cycles (now (donors .entry)) (now (recipients .entry)) (now (records .entry)) (now (donors .exit)) (now (recipients .exit)) (now (records .exit)) ⌝ }
+    requires { ⌜ One n (now m) (now w) (now s) «so_far» (now donors) (now recipients) ⌝ }
+    ensures { λ r. ⌜ Added n (now (m .entry)) (now (w .entry)) (chosenBy n (now (m .entry)) (now (w .entry)) (now (s .entry)) (choice ∷ [])) «so_far» (now (donors .entry)) (now (recipients .entry)) r (now (donors .exit)) (now (recipients .exit)) ⌝ }
 {
     if cursor::count(n) <= choice {
-        return Resolved {
-            weight: 0,
-            cycles: 0,
-        };
+        return so_far;
     }
     let g = cycle_at(n, m, w, s, cursor::at(n, choice));
-    put(records, cycles, g);
-    engage(n, g, donors, recipients);
-    Resolved {
-        weight: g.weight,
-        cycles: 1,
-    }
+    let cycle = g.cycle;
+    engage(n, cycle, donors, recipients);
+    append(so_far, g)
 }
 
 // All choices, in order. `donors` and `recipients` have an entry for each pair.
@@ -172,34 +190,26 @@ pub fn resolve(
     choices: &[u32],
     donors: &mut [u16],
     recipients: &mut [u16],
-    records: &mut [u16],
 ) -> Resolved
-    requires { ⌜ Resolving n (now m) (now w) (now s) (now choices) (now donors) (now recipients) (now records) ⌝ }
-    ensures { λ r. ⌜ (r ≡ resultOf n (now (m .entry)) (now (w .entry)) (chosenBy n (now (m .entry)) (now (w .entry)) (now (s .entry)) (now (choices .entry)))) × (now (donors .exit) ≡ donorTable n (chosenBy n (now (m .entry)) (now (w .entry)) (now (s .entry)) (now (choices .entry)))) × (now (recipients .exit) ≡ recipientTable n (chosenBy n (now (m .entry)) (now (w .entry)) (now (s .entry)) (now (choices .entry)))) × (now (records .exit) ≡ filled (flat n (chosenBy n (now (m .entry)) (now (w .entry)) (now (s .entry)) (now (choices .entry)))) (now (records .entry))) ⌝ }
+    requires { ⌜ Resolving n (now m) (now w) (now s) (now choices) (now donors) (now recipients) ⌝ }
+    ensures { λ r. ⌜ (r ≡ resultOf n (now (m .entry)) (now (w .entry)) (chosenBy n (now (m .entry)) (now (w .entry)) (now (s .entry)) (now (choices .entry)))) × (now (donors .exit) ≡ donorTable n (chosenBy n (now (m .entry)) (now (w .entry)) (now (s .entry)) (now (choices .entry)))) × (now (recipients .exit) ≡ recipientTable n (chosenBy n (now (m .entry)) (now (w .entry)) (now (s .entry)) (now (choices .entry)))) ⌝ }
 {
     alone(n, donors);
     alone(n, recipients);
-    let mut weight: usize = 0;
-    let mut cycles: usize = 0;
+    let mut resolved = none(n);
     let mut k: usize = 0;
     while k < choices.len() {
-        let one = resolve_one(
+        resolved = resolve_one(
             n,
             m,
             w,
             s,
             choices[k] as usize,
-            cycles,
+            resolved,
             donors,
             recipients,
-            records,
         );
-        weight += one.weight;
-        cycles += one.cycles;
         k += 1;
     }
-    Resolved {
-        weight: weight,
-        cycles: cycles,
-    }
+    resolved
 }

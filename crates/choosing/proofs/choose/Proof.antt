@@ -1,8 +1,7 @@
 -- `choosing::choose` meets its contract: a walk of its MIR, written by walks/walk.py. Assumes nothing.
-use Rattle.lending.proofs.Walking.{_≡_, refl, ap, subst, [], _∷_, List, ℕ, _<_, _^_, length, URA, fullShare, named, w64, Val, vint, vptr, SProp, ent, id⊢, Lft, Share, GName, ftrue, fat, flft, Memory, Routine, Heap, Calls, Loops, WpFn, Tables, Atoms, Fun, fact, AllOutlive, givenOf, tables, tablesOf, Given, ‵, raw, some, later, _⊛_, ⋆, Item, _$_, _∵_, !, qed, by, move, keep, drop, use1, use2, use3, cut, split, join, pick, rewrite, fsplit, fsplit3, fjoin, fjoin3, feqI, feqL, suffices, frame, await, done, look, init, store, forget, stop, hop, fld, from, load, addr, of-opd, and-then, no-more, land, assigns, returns, enter, alloc1, alloc0, params1, pass1, pass0, free1, free0, agg, whole, sub, look-in, lft-new, lft-end, FmC, fmOf, WpFn-mono, RattleType, owns, Is, shows, cellAt, uint-vals, uint-tells, uint-makes, u32, usize, RefT, MutRef, ptr-vals, mut-tells, sliceVal, MutSlice, ShrSlice, Room, slice-vals, mut-slice-tells, shr-slice-tells, shr-slice-copy, plain, shrSliceOf, only, opens, closes, owned, facts, heard, nothing, spelt, onEntry, Meets, tripleOf, Contract, Triple, calls-at, ensured, lasts, entered, cited, says, needs, Stays, stay-dropped, stay-ref, stay-slice, walkOf, goes-dropped, goes-ref, goes-slice, Walks, ends-at, walked, walk-meets, yes, lent, LentAgain, again-out, again-back}
+use Rattle.lending.proofs.Walking.{_≡_, refl, ap, subst, [], _∷_, List, ℕ, _<_, _^_, length, set, URA, fullShare, named, w64, Val, vint, vptr, SProp, ent, id⊢, Lft, Share, GName, ftrue, fat, flft, Memory, Routine, Heap, Calls, Loops, WpFn, Tables, Atoms, Fun, fact, AllOutlive, givenOf, tables, tablesOf, Given, ‵, raw, some, later, _⊛_, ⋆, Item, _$_, _∵_, !, qed, by, move, keep, drop, use1, use2, use3, cut, split, join, pick, rewrite, fsplit, fsplit3, fjoin, fjoin3, feqI, feqL, suffices, frame, await, done, look, init, store, forget, stop, hop, fld, from, load, addr, of-opd, and-then, no-more, land, assigns, returns, enter, alloc1, alloc0, params1, pass1, pass0, free1, free0, agg, whole, sub, look-in, lft-new, lft-end, FmC, fmOf, WpFn-mono, RattleType, owns, Is, shows, cellAt, uint-vals, uint-tells, uint-makes, u32, usize, RefT, MutRef, ptr-vals, mut-tells, sliceVal, MutSlice, ShrSlice, Room, slice-vals, mut-slice-tells, shr-slice-tells, shr-slice-copy, plain, shrSliceOf, only, opens, closes, owned, facts, heard, nothing, spelt, onEntry, Meets, tripleOf, Contract, Triple, calls-at, ensured, lasts, entered, cited, says, needs, Stays, stay-dropped, stay-ref, stay-slice, walkOf, goes-dropped, goes-ref, goes-slice, Walks, ends-at, walked, walk-meets, yes, renamed, LentAgain, again-out, again-back}
 use denote.Struct.Laws as LL
 use Rattle.choosing.specs.Parts.{Turn, choiceOf}
-use lib.ListN.{set}
 use Rattle.gates.specs.Counts.{counted}
 use Rattle.cursor.specs.Cursor.{placesAt}
 use Rattle.gates.specs.declared.Tally.{Tally}
@@ -49,19 +48,19 @@ module _ {M : Type 1} (𝓤 : URA M) (H : Heap 𝓤) (A : Atoms 𝓤) (W : Given
   Post = walkOf 𝓤 H A me.ended stayed (me.clauses 𝓤 H A at-mem run) .post (((κ0, (κ1, (κ2, tt))), (q0, (q1, (q2, tt))), bounds, x, at), tt)
 
   exits : (r : Places) (r-fits : Is R-Places r ((Places-laws.lowered r) ∷ [])) (choices′ : List ℕ) (tally′ : Tally) → (choices′ ≡ set (choices .now) k (choiceOf n (weights .now) (tally .now) .number)) × (counted tally′ ≡ choiceOf n (weights .now) (tally .now) .tally) × (r ≡ placesAt n (choiceOf n (weights .now) (tally .now) .number)) → (length choices′) ≡ (length (choices .now))
-      → ent 𝓤 (⋆ 𝓤 H A (‵ (flft κ0 q0) ∷ ‵ (flft κ1 q1) ∷ ‵ (flft κ2 q2) ∷ ‵ (MutSlice (named 1) κ1 u32 .own (lent choices (choices .name) choices′) ((sliceVal (choices .ptr) (length (choices .now))) ∷ [])) ∷ ‵ (MutRef (named 2) κ2 R-Tally .own (lent tally (tally .name) tally′) ((vptr (tally .ptr .0) (tally .ptr .1)) ∷ [])) ∷ [])) (Post (Places-laws.lowered r))
+      → ent 𝓤 (⋆ 𝓤 H A (‵ (flft κ0 q0) ∷ ‵ (flft κ1 q1) ∷ ‵ (flft κ2 q2) ∷ ‵ (MutSlice (named 1) κ1 u32 .own (renamed choices (choices .name) choices′) ((sliceVal (choices .ptr) (length (choices .now))) ∷ [])) ∷ ‵ (MutRef (named 2) κ2 R-Tally .own (renamed tally (tally .name) tally′) ((vptr (tally .ptr .0) (tally .ptr .1)) ∷ [])) ∷ [])) (Post (Places-laws.lowered r))
   exits r r-fits choices′ tally′ e long-choices =
-      qed W (‵ (flft κ0 q0) ∷ ‵ (flft κ1 q1) ∷ ‵ (flft κ2 q2) ∷ ‵ (MutSlice (named 1) κ1 u32 .own (lent choices (choices .name) choices′) ((sliceVal (choices .ptr) (length (choices .now))) ∷ [])) ∷ ‵ (MutRef (named 2) κ2 R-Tally .own (lent tally (tally .name) tally′) ((vptr (tally .ptr .0) (tally .ptr .1)) ∷ [])) ∷ []) ∵
+      qed W (‵ (flft κ0 q0) ∷ ‵ (flft κ1 q1) ∷ ‵ (flft κ2 q2) ∷ ‵ (MutSlice (named 1) κ1 u32 .own (renamed choices (choices .name) choices′) ((sliceVal (choices .ptr) (length (choices .now))) ∷ [])) ∷ ‵ (MutRef (named 2) κ2 R-Tally .own (renamed tally (tally .name) tally′) ((vptr (tally .ptr .0) (tally .ptr .1)) ∷ [])) ∷ []) ∵
       suffices ! _ (ends-at 𝓤 H A me.ended stayed (me.clauses 𝓤 H A at-mem run) W (((κ0, (κ1, (κ2, tt))), (q0, (q1, (q2, tt))), bounds, x, at), tt) (Places-laws.lowered r) r (tt, (tt, (choices′, (tt, (tally′, tt))))) (tt, (tt, (long-choices, (tt, (tt, tt)))))) $ says ! e $
       nothing ! $ move ! (3 ∷ 0 ∷ []) $ join ! $ move ! (2 ∷ 0 ∷ []) $ join ! $ move ! (1 ∷ 0 ∷ []) $ join ! $ frame ! $ nothing ! $ move ! (2 ∷ 0 ∷ []) $ fjoin ! $ nothing ! $ fjoin ! $ move ! (1 ∷ 0 ∷ []) $ fjoin ! $ nothing ! $ fjoin ! $ nothing ! $ fjoin ! $ owned ! R-Places (Is R-Places) (LL.makes Places-row.the-type Places-laws.the-plain 𝓤 H A) r _ r-fits $ move ! (1 ∷ 0 ∷ []) $ done !
 
   -- `chosen_in_round`: what its contract binds, what it asks, and that this is had
   module _ (a0 : ℕ) (fits0 : a0 < 2 ^ 64) (ν2 : ℕ) (δ2 : GName) (a2 : List ℕ) (a3 : ℕ) (fits3 : a3 < 2 ^ 64) (a4 : Tally) (fits4 : Is R-Tally a4 ((Tally-laws.lowered a4) ∷ [])) where
     abbrev to-1 : F1 𝓤 H A at-mem run .Ghost
-    to-1 = (((κ0, ((ν2 ∷ []), tt)), (q0, (fullShare, tt)), tt, (a0, (weights, ((lent choices δ2 a2), (a3, (a4, tt))))), ((vint w64 a0) ∷ [], ((sliceVal (weights .ptr) (length (weights .now))) ∷ [], ((sliceVal (choices .ptr) (length (choices .now))) ∷ [], ((vint w64 a3) ∷ [], ((Tally-laws.lowered a4) ∷ [], tt)))))), tt)
+    to-1 = (((κ0, ((ν2 ∷ []), tt)), (q0, (fullShare, tt)), tt, (a0, (weights, ((renamed choices δ2 a2), (a3, (a4, tt))))), ((vint w64 a0) ∷ [], ((sliceVal (weights .ptr) (length (weights .now))) ∷ [], ((sliceVal (choices .ptr) (length (choices .now))) ∷ [], ((vint w64 a3) ∷ [], ((Tally-laws.lowered a4) ∷ [], tt)))))), tt)
 
     abbrev asked-1 : List (Item 𝓤)
-    asked-1 = ‵ (flft κ0 q0) ∷ ‵ (flft (ν2 ∷ []) fullShare) ∷ ‵ (ShrSlice (named 0) κ0 u32 .own weights ((sliceVal (weights .ptr) (length (weights .now))) ∷ [])) ∷ ‵ (MutSlice (named 1) (ν2 ∷ []) u32 .own (lent choices δ2 a2) ((sliceVal (choices .ptr) (length (choices .now))) ∷ [])) ∷ []
+    asked-1 = ‵ (flft κ0 q0) ∷ ‵ (flft (ν2 ∷ []) fullShare) ∷ ‵ (ShrSlice (named 0) κ0 u32 .own weights ((sliceVal (weights .ptr) (length (weights .now))) ∷ [])) ∷ ‵ (MutSlice (named 1) (ν2 ∷ []) u32 .own (renamed choices δ2 a2) ((sliceVal (choices .ptr) (length (choices .now))) ∷ [])) ∷ []
 
     goes-1 : Turn a0 (weights .now) a2 a3 a4 → ent 𝓤 (⋆ 𝓤 H A asked-1) (F1 𝓤 H A at-mem run .pre to-1)
     goes-1 needs-these = qed W asked-1 ∵ says ! needs-these $ nothing ! $ move ! (2 ∷ 0 ∷ []) $ join ! $ move ! (1 ∷ 0 ∷ []) $ join ! $ frame ! $ nothing ! $ owned ! R-Tally (Is R-Tally) (LL.makes Tally-row.the-type Tally-laws.the-plain 𝓤 H A) a4 _ fits4 $ fjoin ! $ owned ! usize (Is usize) (uint-makes 𝓤 H A W w64) a3 _ (refl, fits3) $ fjoin ! $ move ! (2 ∷ 0 ∷ []) $ fjoin ! $ move ! (1 ∷ 0 ∷ []) $ fjoin ! $ owned ! usize (Is usize) (uint-makes 𝓤 H A W w64) a0 _ (refl, fits0) $ fjoin ! $ done !
@@ -94,15 +93,15 @@ module _ {M : Type 1} (𝓤 : URA M) (H : Heap 𝓤) (A : Atoms 𝓤) (W : Given
         assigns ! (agg ! (and-then ! (load ! (from ! (stop !)) (look ! 8 refl)) (and-then ! (load ! (from ! (fld ! refl (stop !))) (look-in ! 18 (sub ! 1 refl (whole !)))) (no-more !)))) (from ! (stop !)) (init ! 6 refl (tt, (tt, (record { fits = choices-room .0 }, tt)))) $
         -- chosen_in_round
         move ! (5 ∷ []) $ use1 W (‵ (ShrSlice (named 0) κ0 u32 .own weights ((sliceVal (weights .ptr) (length (weights .now))) ∷ [])) ⊛ ‵ (ShrSlice (named 0) κ0 u32 .own weights ((sliceVal (weights .ptr) (length (weights .now))) ∷ []))) (shr-slice-copy 𝓤 H A W (named 0) κ0 u32 .twice weights ((sliceVal (weights .ptr) (length (weights .now))) ∷ [])) $ split ! $
-        lft-new ! tt (λ ν1-2. move ! (7 ∷ 5 ∷ []) $ use2 W (later (some (λ (δ : GName). ‵ (MutSlice (named 1) (ν1-2 ∷ []) u32 .own (lent choices δ (choices .now)) ((sliceVal (choices .ptr) (length (choices .now))) ∷ [])) ⊛ ‵ (LentAgain u32 κ1 (ν1-2 ∷ []) q1 (choices .name) (choices .ptr .0) (choices .ptr .1) δ (choices .now))))) (again-out u32 κ1 (ν1-2 ∷ []) q1 (choices .name) (choices .ptr .0) (choices .ptr .1) 𝓤 H A W (named 1) (named 1) ((sliceVal (choices .ptr) (length (choices .now))) ∷ []) (choices .now)) $ await ! tt $ pick ! (λ δ1-2. split ! $
+        lft-new ! tt (λ ν1-2. move ! (7 ∷ 5 ∷ []) $ use2 W (later (some (λ (δ : GName). ‵ (MutSlice (named 1) (ν1-2 ∷ []) u32 .own (renamed choices δ (choices .now)) ((sliceVal (choices .ptr) (length (choices .now))) ∷ [])) ⊛ ‵ (LentAgain u32 κ1 (ν1-2 ∷ []) q1 (choices .name) (choices .ptr .0) (choices .ptr .1) δ (choices .now))))) (again-out u32 κ1 (ν1-2 ∷ []) q1 (choices .name) (choices .ptr .0) (choices .ptr .1) 𝓤 H A W (named 1) (named 1) ((sliceVal (choices .ptr) (length (choices .now))) ∷ []) (choices .now)) $ await ! tt $ pick ! (λ δ1-2. split ! $
         move ! (7 ∷ 2 ∷ 3 ∷ 0 ∷ []) $ cut (asked-1 n n-fits ν1-2 δ1-2 (choices .now) k k-fits (tally .now) is1) (raw (F1 𝓤 H A at-mem run .pre (to-1 n n-fits ν1-2 δ1-2 (choices .now) k k-fits (tally .now) is1)) ∷ []) _ (goes-1 n n-fits ν1-2 δ1-2 (choices .now) k k-fits (tally .now) is1 (pre)) $
         calls-at ! fm (F1 𝓤 H A at-mem run) known-f1 (to-1 n n-fits ν1-2 δ1-2 (choices .now) k k-fits (tally .now) is1) (and-then ! (load ! (from ! (stop !)) (look ! 21 refl)) (and-then ! (load ! (from ! (stop !)) (look ! 19 refl)) (and-then ! (load ! (from ! (stop !)) (look ! 5 refl)) (and-then ! (load ! (from ! (stop !)) (look ! 15 refl)) (and-then ! (load ! (from ! (stop !)) (look ! 11 refl)) (no-more !)))))) (λ v1.
-        use1 W (later (some (λ (r : Placed). ((‵ (flft κ0 q0) ⊛ ‵ (flft (ν1-2 ∷ []) fullShare) ⊛ ‵ ftrue) ⊛ ‵ (R-Placed .own r (v1 ∷ []))) ⊛ raw (ensured 𝓤 H A f1.ended (f1.clauses 𝓤 H A at-mem run) (κ0, ((ν1-2 ∷ []), tt)) (n, (weights, ((lent choices δ1-2 (choices .now)), (k, ((tally .now), tt))))) tt r)))) (id⊢ 𝓤 _) $ await ! tt $ pick ! (λ r1.
-        split ! $ move ! (1 ∷ []) $ use1 W (some (λ (zs : (Unit {0} × (Unit {0} × (List ℕ × (Unit {0} × (Unit {0} × Unit {0})))))). ‵ (lasts f1.ended (κ0, ((ν1-2 ∷ []), tt)) (n, (weights, ((lent choices δ1-2 (choices .now)), (k, ((tally .now), tt))))) zs) ⊛ raw (fact 𝓤 (((zs .1 .1 .0) ≡ set (choices .now) k (choiceOf n (weights .now) (tally .now) .number)) × (counted (r1 .tally) ≡ choiceOf n (weights .now) (tally .now) .tally) × (r1 .at ≡ placesAt n (choiceOf n (weights .now) (tally .now) .number)))))) (id⊢ 𝓤 _) $ pick ! (λ zs1.
+        use1 W (later (some (λ (r : Placed). ((‵ (flft κ0 q0) ⊛ ‵ (flft (ν1-2 ∷ []) fullShare) ⊛ ‵ ftrue) ⊛ ‵ (R-Placed .own r (v1 ∷ []))) ⊛ raw (ensured 𝓤 H A f1.ended (f1.clauses 𝓤 H A at-mem run) (κ0, ((ν1-2 ∷ []), tt)) (n, (weights, ((renamed choices δ1-2 (choices .now)), (k, ((tally .now), tt))))) tt r)))) (id⊢ 𝓤 _) $ await ! tt $ pick ! (λ r1.
+        split ! $ move ! (1 ∷ []) $ use1 W (some (λ (zs : (Unit {0} × (Unit {0} × (List ℕ × (Unit {0} × (Unit {0} × Unit {0})))))). ‵ (lasts f1.ended (κ0, ((ν1-2 ∷ []), tt)) (n, (weights, ((renamed choices δ1-2 (choices .now)), (k, ((tally .now), tt))))) zs) ⊛ raw (fact 𝓤 (((zs .1 .1 .0) ≡ set (choices .now) k (choiceOf n (weights .now) (tally .now) .number)) × (counted (r1 .tally) ≡ choiceOf n (weights .now) (tally .now) .tally) × (r1 .at ≡ placesAt n (choiceOf n (weights .now) (tally .now) .number)))))) (id⊢ 𝓤 _) $ pick ! (λ zs1.
         split ! $ move ! (1 ∷ []) $ heard ! (((zs1 .1 .1 .0) ≡ set (choices .now) k (choiceOf n (weights .now) (tally .now) .number)) × (counted (r1 .tally) ≡ choiceOf n (weights .now) (tally .now) .tally) × (r1 .at ≡ placesAt n (choiceOf n (weights .now) (tally .now) .number))) (λ e1. fsplit ! $ drop ! $ fsplit ! $ drop ! $ fsplit ! $ fsplit ! $ move ! (1 ∷ []) $ feqL ! (λ long1-2. move ! (1 ∷ []) $ drop ! $
         move ! (1 ∷ []) $ split ! $ move ! (1 ∷ []) $ facts ! R-Placed (Is R-Placed) (shows 𝓤 H A R-Placed) r1 (v1 ∷ []) (λ got1. split ! $ move ! (1 ∷ []) $ split ! $ move ! (1 ∷ []) $ drop ! $
         land ! (from ! (stop !)) (init ! 11 refl (LL.lawful Placed-row.the-type Placed-laws.the-laws 𝓤 H A W .typed r1 _ got1 .0)) $ rewrite ! 11 (λ (u : Val). ‵ (fat fullShare Placed-laws.mir l7 0 u)) (ap only (LL.tells Placed-row.the-type Placed-laws.the-laws r1 _ got1)) refl $
-        lft-end ! tt $ move ! (0 ∷ 3 ∷ 2 ∷ []) $ use3 W (later (‵ (MutSlice (named 1) κ1 u32 .own (lent choices (choices .name) (zs1 .1 .1 .0)) ((sliceVal (choices .ptr) (length (choices .now))) ∷ [])) ⊛ ‵ (flft κ1 q1))) (again-back u32 κ1 (ν1-2 ∷ []) q1 (choices .name) (choices .ptr .0) (choices .ptr .1) 𝓤 H A W (named 1) (named 1) ((sliceVal (choices .ptr) (length (choices .now))) ∷ []) (choices .now) δ1-2 (zs1 .1 .1 .0) refl choices-room long1-2) $ await ! tt $ split ! $
+        lft-end ! tt $ move ! (0 ∷ 3 ∷ 2 ∷ []) $ use3 W (later (‵ (MutSlice (named 1) κ1 u32 .own (renamed choices (choices .name) (zs1 .1 .1 .0)) ((sliceVal (choices .ptr) (length (choices .now))) ∷ [])) ⊛ ‵ (flft κ1 q1))) (again-back u32 κ1 (ν1-2 ∷ []) q1 (choices .name) (choices .ptr .0) (choices .ptr .1) 𝓤 H A W (named 1) (named 1) ((sliceVal (choices .ptr) (length (choices .now))) ∷ []) (choices .now) δ1-2 (zs1 .1 .1 .0) refl choices-room long1-2) $ await ! tt $ split ! $
         -- *tally = _7.tally
         move ! (4 ∷ []) $ fsplit3 ! $ drop ! $ move ! (0 ∷ 1 ∷ 6 ∷ []) $ opens ! tt R-Tally {h = (tally .now)} (tally .ptr .0) (tally .ptr .1) (λ vs2. spelt ! R-Tally (Is R-Tally) (shows 𝓤 H A R-Tally) (LL.vals Tally-row.the-type Tally-laws.the-laws) (LL.tells Tally-row.the-type Tally-laws.the-laws) fullShare (tally .now) vs2 (tally .ptr .0) (tally .ptr .1) $ use1 W (‵ (fat fullShare Tally-laws.mir (tally .ptr .0) (tally .ptr .1) (Tally-laws.lowered (tally .now)))) (W .laws .raw-at fullShare Tally-laws.mir (tally .ptr .0) (tally .ptr .1) (Tally-laws.lowered (tally .now))) $
         move ! (1 ∷ []) $ facts ! R-Tally (Is R-Tally) (shows 𝓤 H A R-Tally) (tally .now) ((Tally-laws.lowered (tally .now)) ∷ []) (λ is2.

@@ -1,5 +1,5 @@
 -- `clearing::clear` meets its contract: a walk of its MIR, written by walks/walk.py. Assumes nothing.
-use Rattle.lending.proofs.Walking.{_≡_, refl, ap, subst, [], _∷_, List, ℕ, _<_, _^_, length, URA, fullShare, named, w64, Val, vunit, vint, vptr, SProp, ent, id⊢, Lft, Share, GName, ftrue, fat, flft, Memory, Routine, Heap, Calls, Loops, WpFn, Tables, Atoms, Fun, fact, AllOutlive, givenOf, tables, tablesOf, Given, ‵, raw, some, later, _⊛_, ⋆, Item, _$_, _∵_, !, qed, by, move, keep, drop, use1, use2, use3, cut, split, join, pick, rewrite, fsplit, fsplit3, fjoin, fjoin3, feqI, feqL, suffices, frame, await, done, look, init, store, forget, stop, hop, fld, from, load, addr, unit-lit, of-opd, and-then, no-more, land, assigns, returns, enter, alloc1, alloc0, params1, pass1, pass0, free1, free0, agg, whole, sub, look-in, lft-new, lft-end, FmC, fmOf, WpFn-mono, RattleType, owns, Is, shows, cellAt, uint-vals, uint-tells, uint-makes, u32, usize, RefT, MutRef, ptr-vals, mut-tells, sliceVal, MutSlice, Room, slice-vals, mut-slice-tells, plain, only, opens, closes, owned, facts, heard, nothing, spelt, onEntry, Meets, tripleOf, Contract, Triple, calls-at, ensured, lasts, entered, cited, says, needs, Stays, stay-dropped, stay-ref, stay-slice, walkOf, goes-dropped, goes-ref, goes-slice, Walks, ends-at, walked, walk-meets, yes, lent, LentAgain, again-out, again-back}
+use Rattle.lending.proofs.Walking.{_≡_, refl, ap, subst, [], _∷_, List, ℕ, _<_, _^_, length, URA, fullShare, named, w64, Val, vunit, vint, vptr, SProp, ent, id⊢, Lft, Share, GName, ftrue, fat, flft, Memory, Routine, Heap, Calls, Loops, WpFn, Tables, Atoms, Fun, fact, AllOutlive, givenOf, tables, tablesOf, Given, ‵, raw, some, later, _⊛_, ⋆, Item, _$_, _∵_, !, qed, by, move, keep, drop, use1, use2, use3, cut, split, join, pick, rewrite, fsplit, fsplit3, fjoin, fjoin3, feqI, feqL, suffices, frame, await, done, look, init, store, forget, stop, hop, fld, from, load, addr, unit-lit, of-opd, and-then, no-more, land, assigns, returns, enter, alloc1, alloc0, params1, pass1, pass0, free1, free0, agg, whole, sub, look-in, lft-new, lft-end, FmC, fmOf, WpFn-mono, RattleType, owns, Is, shows, cellAt, uint-vals, uint-tells, uint-makes, u32, usize, RefT, MutRef, ptr-vals, mut-tells, sliceVal, MutSlice, Room, slice-vals, mut-slice-tells, plain, only, opens, closes, owned, facts, heard, nothing, spelt, onEntry, Meets, tripleOf, Contract, Triple, calls-at, ensured, lasts, entered, cited, says, needs, Stays, stay-dropped, stay-ref, stay-slice, walkOf, goes-dropped, goes-ref, goes-slice, Walks, ends-at, walked, walk-meets, yes, renamed, LentAgain, again-out, again-back}
 use denote.Struct.Laws as LL
 use Rattle.clearing.specs.Clearing.{Clearing}
 use Rattle.greedy.specs.Rounds as Rounds
@@ -44,19 +44,19 @@ module _ {M : Type 1} (𝓤 : URA M) (H : Heap 𝓤) (A : Atoms 𝓤) (W : Given
   Post = walkOf 𝓤 H A me.ended stayed (me.clauses 𝓤 H A at-mem run) .post (((κ0, (κ1, tt)), (q0, (q1, tt)), bounds, x, at), tt)
 
   exits : (weights′ : List ℕ) (tally′ : Tally) → (weights′ ≡ Rounds.clearBefore left (subsetAt n choice) (subsets 3 n) (weights .now)) × (counted tally′ ≡ Rounds.clearingBefore left (subsets 3 n) (counted (tally .now))) → (length weights′) ≡ (length (weights .now))
-      → ent 𝓤 (⋆ 𝓤 H A (‵ (flft κ0 q0) ∷ ‵ (flft κ1 q1) ∷ ‵ (MutSlice (named 0) κ0 u32 .own (lent weights (weights .name) weights′) ((sliceVal (weights .ptr) (length (weights .now))) ∷ [])) ∷ ‵ (MutRef (named 1) κ1 R-Tally .own (lent tally (tally .name) tally′) ((vptr (tally .ptr .0) (tally .ptr .1)) ∷ [])) ∷ [])) (Post vunit)
+      → ent 𝓤 (⋆ 𝓤 H A (‵ (flft κ0 q0) ∷ ‵ (flft κ1 q1) ∷ ‵ (MutSlice (named 0) κ0 u32 .own (renamed weights (weights .name) weights′) ((sliceVal (weights .ptr) (length (weights .now))) ∷ [])) ∷ ‵ (MutRef (named 1) κ1 R-Tally .own (renamed tally (tally .name) tally′) ((vptr (tally .ptr .0) (tally .ptr .1)) ∷ [])) ∷ [])) (Post vunit)
   exits weights′ tally′ e long-weights =
-      qed W (‵ (flft κ0 q0) ∷ ‵ (flft κ1 q1) ∷ ‵ (MutSlice (named 0) κ0 u32 .own (lent weights (weights .name) weights′) ((sliceVal (weights .ptr) (length (weights .now))) ∷ [])) ∷ ‵ (MutRef (named 1) κ1 R-Tally .own (lent tally (tally .name) tally′) ((vptr (tally .ptr .0) (tally .ptr .1)) ∷ [])) ∷ []) ∵
+      qed W (‵ (flft κ0 q0) ∷ ‵ (flft κ1 q1) ∷ ‵ (MutSlice (named 0) κ0 u32 .own (renamed weights (weights .name) weights′) ((sliceVal (weights .ptr) (length (weights .now))) ∷ [])) ∷ ‵ (MutRef (named 1) κ1 R-Tally .own (renamed tally (tally .name) tally′) ((vptr (tally .ptr .0) (tally .ptr .1)) ∷ [])) ∷ []) ∵
       suffices ! _ (ends-at 𝓤 H A me.ended stayed (me.clauses 𝓤 H A at-mem run) W (((κ0, (κ1, tt)), (q0, (q1, tt)), bounds, x, at), tt) vunit tt (tt, (weights′, (tt, (tt, (tally′, tt))))) (tt, (long-weights, (tt, (tt, (tt, tt)))))) $ says ! e $
       nothing ! $ move ! (2 ∷ 0 ∷ []) $ join ! $ move ! (1 ∷ 0 ∷ []) $ join ! $ frame ! $ nothing ! $ move ! (2 ∷ 0 ∷ []) $ fjoin ! $ nothing ! $ fjoin ! $ nothing ! $ fjoin ! $ move ! (1 ∷ 0 ∷ []) $ fjoin ! $ nothing ! $ fjoin ! $ feqI ! (List Val) (vunit ∷ []) (vunit ∷ []) refl $ move ! (1 ∷ 0 ∷ []) $ done !
 
   -- `cleared`: what its contract binds, what it asks, and that this is had
   module _ (a0 : ℕ) (fits0 : a0 < 2 ^ 64) (ν1 : ℕ) (δ1 : GName) (a1 : List ℕ) (a2 : Places) (fits2 : Is R-Places a2 ((Places-laws.lowered a2) ∷ [])) (a3 : ℕ) (fits3 : a3 < 2 ^ 64) (a4 : Tally) (fits4 : Is R-Tally a4 ((Tally-laws.lowered a4) ∷ [])) where
     abbrev to-1 : F1 𝓤 H A at-mem run .Ghost
-    to-1 = ((((ν1 ∷ []), tt), (fullShare, tt), tt, (a0, ((lent weights δ1 a1), (a2, (a3, (a4, tt))))), ((vint w64 a0) ∷ [], ((sliceVal (weights .ptr) (length (weights .now))) ∷ [], ((Places-laws.lowered a2) ∷ [], ((vint w64 a3) ∷ [], ((Tally-laws.lowered a4) ∷ [], tt)))))), tt)
+    to-1 = ((((ν1 ∷ []), tt), (fullShare, tt), tt, (a0, ((renamed weights δ1 a1), (a2, (a3, (a4, tt))))), ((vint w64 a0) ∷ [], ((sliceVal (weights .ptr) (length (weights .now))) ∷ [], ((Places-laws.lowered a2) ∷ [], ((vint w64 a3) ∷ [], ((Tally-laws.lowered a4) ∷ [], tt)))))), tt)
 
     abbrev asked-1 : List (Item 𝓤)
-    asked-1 = ‵ (flft (ν1 ∷ []) fullShare) ∷ ‵ (MutSlice (named 0) (ν1 ∷ []) u32 .own (lent weights δ1 a1) ((sliceVal (weights .ptr) (length (weights .now))) ∷ [])) ∷ []
+    asked-1 = ‵ (flft (ν1 ∷ []) fullShare) ∷ ‵ (MutSlice (named 0) (ν1 ∷ []) u32 .own (renamed weights δ1 a1) ((sliceVal (weights .ptr) (length (weights .now))) ∷ [])) ∷ []
 
     goes-1 : Clearing a0 a1 a4 → ent 𝓤 (⋆ 𝓤 H A asked-1) (F1 𝓤 H A at-mem run .pre to-1)
     goes-1 needs-these = qed W asked-1 ∵ says ! needs-these $ nothing ! $ move ! (1 ∷ 0 ∷ []) $ join ! $ frame ! $ nothing ! $ owned ! R-Tally (Is R-Tally) (LL.makes Tally-row.the-type Tally-laws.the-plain 𝓤 H A) a4 _ fits4 $ fjoin ! $ owned ! usize (Is usize) (uint-makes 𝓤 H A W w64) a3 _ (refl, fits3) $ fjoin ! $ owned ! R-Places (Is R-Places) (LL.makes Places-row.the-type Places-laws.the-plain 𝓤 H A) a2 _ fits2 $ fjoin ! $ move ! (1 ∷ 0 ∷ []) $ fjoin ! $ owned ! usize (Is usize) (uint-makes 𝓤 H A W w64) a0 _ (refl, fits0) $ fjoin ! $ done !
@@ -88,15 +88,15 @@ module _ {M : Type 1} (𝓤 : URA M) (H : Heap 𝓤) (A : Atoms 𝓤) (W : Given
         assigns ! (addr ! (from ! (fld ! refl (hop ! (look-in ! 18 (sub ! 0 refl (whole !))) (stop !))))) (from ! (stop !)) (init ! 6 refl (tt, tt)) $
         assigns ! (agg ! (and-then ! (load ! (from ! (stop !)) (look ! 6 refl)) (and-then ! (load ! (from ! (fld ! refl (stop !))) (look-in ! 18 (sub ! 1 refl (whole !)))) (no-more !)))) (from ! (stop !)) (init ! 4 refl (tt, (tt, (record { fits = weights-room .0 }, tt)))) $
         -- cleared
-        lft-new ! tt (λ ν1-1. move ! (4 ∷ 3 ∷ []) $ use2 W (later (some (λ (δ : GName). ‵ (MutSlice (named 0) (ν1-1 ∷ []) u32 .own (lent weights δ (weights .now)) ((sliceVal (weights .ptr) (length (weights .now))) ∷ [])) ⊛ ‵ (LentAgain u32 κ0 (ν1-1 ∷ []) q0 (weights .name) (weights .ptr .0) (weights .ptr .1) δ (weights .now))))) (again-out u32 κ0 (ν1-1 ∷ []) q0 (weights .name) (weights .ptr .0) (weights .ptr .1) 𝓤 H A W (named 0) (named 0) ((sliceVal (weights .ptr) (length (weights .now))) ∷ []) (weights .now)) $ await ! tt $ pick ! (λ δ1-1. split ! $
+        lft-new ! tt (λ ν1-1. move ! (4 ∷ 3 ∷ []) $ use2 W (later (some (λ (δ : GName). ‵ (MutSlice (named 0) (ν1-1 ∷ []) u32 .own (renamed weights δ (weights .now)) ((sliceVal (weights .ptr) (length (weights .now))) ∷ [])) ⊛ ‵ (LentAgain u32 κ0 (ν1-1 ∷ []) q0 (weights .name) (weights .ptr .0) (weights .ptr .1) δ (weights .now))))) (again-out u32 κ0 (ν1-1 ∷ []) q0 (weights .name) (weights .ptr .0) (weights .ptr .1) 𝓤 H A W (named 0) (named 0) ((sliceVal (weights .ptr) (length (weights .now))) ∷ []) (weights .now)) $ await ! tt $ pick ! (λ δ1-1. split ! $
         move ! (2 ∷ 0 ∷ []) $ cut (asked-1 n n-fits ν1-1 δ1-1 (weights .now) choice choice-fits left left-fits (tally .now) is1) (raw (F1 𝓤 H A at-mem run .pre (to-1 n n-fits ν1-1 δ1-1 (weights .now) choice choice-fits left left-fits (tally .now) is1)) ∷ []) _ (goes-1 n n-fits ν1-1 δ1-1 (weights .now) choice choice-fits left left-fits (tally .now) is1 (pre)) $
         calls-at ! fm (F1 𝓤 H A at-mem run) known-f1 (to-1 n n-fits ν1-1 δ1-1 (weights .now) choice choice-fits left left-fits (tally .now) is1) (and-then ! (load ! (from ! (stop !)) (look ! 20 refl)) (and-then ! (load ! (from ! (stop !)) (look ! 4 refl)) (and-then ! (load ! (from ! (stop !)) (look ! 16 refl)) (and-then ! (load ! (from ! (stop !)) (look ! 14 refl)) (and-then ! (load ! (from ! (stop !)) (look ! 10 refl)) (no-more !)))))) (λ v1.
-        use1 W (later (some (λ (r : Tally). ((‵ (flft (ν1-1 ∷ []) fullShare) ⊛ ‵ ftrue) ⊛ ‵ (R-Tally .own r (v1 ∷ []))) ⊛ raw (ensured 𝓤 H A f1.ended (f1.clauses 𝓤 H A at-mem run) ((ν1-1 ∷ []), tt) (n, ((lent weights δ1-1 (weights .now)), (choice, (left, ((tally .now), tt))))) tt r)))) (id⊢ 𝓤 _) $ await ! tt $ pick ! (λ r1.
-        split ! $ move ! (1 ∷ []) $ use1 W (some (λ (zs : (Unit {0} × (List ℕ × (Unit {0} × (Unit {0} × (Unit {0} × Unit {0})))))). ‵ (lasts f1.ended ((ν1-1 ∷ []), tt) (n, ((lent weights δ1-1 (weights .now)), (choice, (left, ((tally .now), tt))))) zs) ⊛ raw (fact 𝓤 (((zs .1 .0) ≡ Rounds.clearBefore left (subsetAt n choice) (subsets 3 n) (weights .now)) × (counted r1 ≡ Rounds.clearingBefore left (subsets 3 n) (counted (tally .now))))))) (id⊢ 𝓤 _) $ pick ! (λ zs1.
+        use1 W (later (some (λ (r : Tally). ((‵ (flft (ν1-1 ∷ []) fullShare) ⊛ ‵ ftrue) ⊛ ‵ (R-Tally .own r (v1 ∷ []))) ⊛ raw (ensured 𝓤 H A f1.ended (f1.clauses 𝓤 H A at-mem run) ((ν1-1 ∷ []), tt) (n, ((renamed weights δ1-1 (weights .now)), (choice, (left, ((tally .now), tt))))) tt r)))) (id⊢ 𝓤 _) $ await ! tt $ pick ! (λ r1.
+        split ! $ move ! (1 ∷ []) $ use1 W (some (λ (zs : (Unit {0} × (List ℕ × (Unit {0} × (Unit {0} × (Unit {0} × Unit {0})))))). ‵ (lasts f1.ended ((ν1-1 ∷ []), tt) (n, ((renamed weights δ1-1 (weights .now)), (choice, (left, ((tally .now), tt))))) zs) ⊛ raw (fact 𝓤 (((zs .1 .0) ≡ Rounds.clearBefore left (subsetAt n choice) (subsets 3 n) (weights .now)) × (counted r1 ≡ Rounds.clearingBefore left (subsets 3 n) (counted (tally .now))))))) (id⊢ 𝓤 _) $ pick ! (λ zs1.
         split ! $ move ! (1 ∷ []) $ heard ! (((zs1 .1 .0) ≡ Rounds.clearBefore left (subsetAt n choice) (subsets 3 n) (weights .now)) × (counted r1 ≡ Rounds.clearingBefore left (subsets 3 n) (counted (tally .now)))) (λ e1. fsplit ! $ drop ! $ fsplit ! $ fsplit ! $ move ! (1 ∷ []) $ feqL ! (λ long1-1. move ! (1 ∷ []) $ drop ! $
         move ! (1 ∷ []) $ split ! $ move ! (1 ∷ []) $ facts ! R-Tally (Is R-Tally) (shows 𝓤 H A R-Tally) r1 (v1 ∷ []) (λ got1. split ! $ move ! (1 ∷ []) $ drop ! $
         land ! (from ! (stop !)) (init ! 9 refl (LL.lawful Tally-row.the-type Tally-laws.the-laws 𝓤 H A W .typed r1 _ got1 .0)) $ rewrite ! 9 (λ (u : Val). ‵ (fat fullShare Tally-laws.mir l7 0 u)) (ap only (LL.tells Tally-row.the-type Tally-laws.the-laws r1 _ got1)) refl $
-        lft-end ! tt $ move ! (0 ∷ 2 ∷ 1 ∷ []) $ use3 W (later (‵ (MutSlice (named 0) κ0 u32 .own (lent weights (weights .name) (zs1 .1 .0)) ((sliceVal (weights .ptr) (length (weights .now))) ∷ [])) ⊛ ‵ (flft κ0 q0))) (again-back u32 κ0 (ν1-1 ∷ []) q0 (weights .name) (weights .ptr .0) (weights .ptr .1) 𝓤 H A W (named 0) (named 0) ((sliceVal (weights .ptr) (length (weights .now))) ∷ []) (weights .now) δ1-1 (zs1 .1 .0) refl weights-room long1-1) $ await ! tt $ split ! $
+        lft-end ! tt $ move ! (0 ∷ 2 ∷ 1 ∷ []) $ use3 W (later (‵ (MutSlice (named 0) κ0 u32 .own (renamed weights (weights .name) (zs1 .1 .0)) ((sliceVal (weights .ptr) (length (weights .now))) ∷ [])) ⊛ ‵ (flft κ0 q0))) (again-back u32 κ0 (ν1-1 ∷ []) q0 (weights .name) (weights .ptr .0) (weights .ptr .1) 𝓤 H A W (named 0) (named 0) ((sliceVal (weights .ptr) (length (weights .now))) ∷ []) (weights .now) δ1-1 (zs1 .1 .0) refl weights-room long1-1) $ await ! tt $ split ! $
         -- *tally = _7
         move ! (2 ∷ []) $ fsplit3 ! $ drop ! $ move ! (0 ∷ 1 ∷ 4 ∷ []) $ opens ! tt R-Tally {h = (tally .now)} (tally .ptr .0) (tally .ptr .1) (λ vs2. spelt ! R-Tally (Is R-Tally) (shows 𝓤 H A R-Tally) (LL.vals Tally-row.the-type Tally-laws.the-laws) (LL.tells Tally-row.the-type Tally-laws.the-laws) fullShare (tally .now) vs2 (tally .ptr .0) (tally .ptr .1) $ use1 W (‵ (fat fullShare Tally-laws.mir (tally .ptr .0) (tally .ptr .1) (Tally-laws.lowered (tally .now)))) (W .laws .raw-at fullShare Tally-laws.mir (tally .ptr .0) (tally .ptr .1) (Tally-laws.lowered (tally .now))) $
         move ! (1 ∷ []) $ facts ! R-Tally (Is R-Tally) (shows 𝓤 H A R-Tally) (tally .now) ((Tally-laws.lowered (tally .now)) ∷ []) (λ is2.

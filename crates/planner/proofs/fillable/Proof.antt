@@ -26,9 +26,6 @@ returns-4 : tie.Need-returns-4
 unfolding faultAt shortToFill
 returns-4 c = second _ _ _ (long _ _ (omega (arith, c .before .before .before .before .count .ensures, c .before .before .before .if1 .left))) (second _ _ _ (long _ _ (c .before .before .if2 .left)) (second _ _ _ (long _ _ (c .before .if3 .left)) (first _ _ (short _ _ (c .if4 .taken)))))
 
-mul-if5 : tie.Need-mul-if5
-mul-if5 c = search needs
-
 returns-5 : tie.Need-returns-5
 unfolding faultAt shortToFill
 returns-5 c = second _ _ _ (long _ _ (omega (arith, c .before .before .before .before .before .count .ensures, c .before .before .before .before .if1 .left))) (second _ _ _ (long _ _ (c .before .before .before .if2 .left)) (second _ _ _ (long _ _ (c .before .before .if3 .left)) (second _ _ _ (long _ _ (c .before .if4 .left)) (short _ _ (c .if5 .taken)))))
@@ -40,4 +37,4 @@ returns-6 c = second _ _ _ (long _ _ (omega (arith, c .before .before .before .b
 pub fillable-spec : {M : Type 1} → statement M
 fillable-spec =
     tie.close
-    (tie.spec count-requires returns returns-2 returns-3 returns-4 mul-if5 returns-5 returns-6)
+    (tie.spec count-requires returns returns-2 returns-3 returns-4 returns-5 returns-6)

@@ -1,5 +1,5 @@
 -- `planner::make` meets its contract. Assumes nothing.
-use Rattle.planner.proofs.MadePlan.{front, weights-front, choices-front, asks-steps, choices-part, asks-resolve, plan-is, tables-are}
+use Rattle.planner.proofs.MadePlan.{front, weights-front, choices-front, asks-steps, choices-part, asks-resolve, plan-is, cycles-few, lent-is}
 use borrow.Author.Needs.{needs}
 use Rattle.planner.proofs.make.Statement.{statement}
 use Rattle.planner.proofs.make.Tie as tie
@@ -11,37 +11,37 @@ slice-relend-prefix-steps : tie.Need-slice-relend-prefix-steps
 slice-relend-prefix-steps c = search needs
 
 slice-aggregate-steps : tie.Need-slice-aggregate-steps
-slice-aggregate-steps c = weights-front _ _ _ _ _ (c .before .before .before .before .before .before .before .before .before .before .pre) _ (c .before .count .ensures)
+slice-aggregate-steps c = weights-front _ _ _ _ _ _ _ _ (c .before .before .before .before .before .before .before .before .before .pre) _ (c .before .count .ensures)
 
 slice-relend-prefix-steps-2 : tie.Need-slice-relend-prefix-steps-2
 slice-relend-prefix-steps-2 c = search needs
 
 slice-aggregate-steps-2 : tie.Need-slice-aggregate-steps-2
-slice-aggregate-steps-2 c = choices-front _ _ _ _ _ (c .before .before .before .before .before .before .before .before .before .before .before .pre) _ (c .before .before .count .ensures)
+slice-aggregate-steps-2 c = choices-front _ _ _ _ _ _ _ _ (c .before .before .before .before .before .before .before .before .before .before .pre) _ (c .before .before .count .ensures)
 
 steps-requires : tie.Need-steps-requires
-steps-requires c κs = asks-steps _ _ _ _ _ (c .before .before .before .before .before .before .before .before .before .before .before .pre) _ (c .before .before .count .ensures)
+steps-requires c κs = asks-steps _ _ _ _ _ _ _ _ (c .before .before .before .before .before .before .before .before .before .before .pre) _ (c .before .before .count .ensures)
 
 slice-reshare-prefix-resolve : tie.Need-slice-reshare-prefix-resolve
 slice-reshare-prefix-resolve c = search needs
 
 slice-aggregate-resolve : tie.Need-slice-aggregate-resolve
-slice-aggregate-resolve c = choices-part _ _ _ _ _ (c .before .before .before .before .before .before .before .before .before .before .before .before .before .before .before .before .before .pre) _ (c .before .before .before .before .before .before .before .before .count .ensures) _ _ _ (c .before .before .before .before .before .steps .ensures)
+slice-aggregate-resolve c = choices-part _ _ _ _ _ _ _ _ (c .before .before .before .before .before .before .before .before .before .before .before .before .before .before .before .before .pre) _ (c .before .before .before .before .before .before .before .before .count .ensures) _ _ _ (c .before .before .before .before .before .steps .ensures)
 
 slice-relend-prefix-resolve : tie.Need-slice-relend-prefix-resolve
 slice-relend-prefix-resolve c = search needs
 
 slice-aggregate-resolve-2 : tie.Need-slice-aggregate-resolve-2
-slice-aggregate-resolve-2 c = front _ _ (c .before .before .before .before .before .before .before .before .before .before .before .before .before .before .before .before .before .before .pre .donors)
+slice-aggregate-resolve-2 c = front _ _ (c .before .before .before .before .before .before .before .before .before .before .before .before .before .before .before .before .before .pre .inDonors)
 
 slice-relend-prefix-resolve-2 : tie.Need-slice-relend-prefix-resolve-2
 slice-relend-prefix-resolve-2 c = search needs
 
 slice-aggregate-resolve-3 : tie.Need-slice-aggregate-resolve-3
-slice-aggregate-resolve-3 c = front _ _ (c .before .before .before .before .before .before .before .before .before .before .before .before .before .before .before .before .before .before .before .pre .recipients)
+slice-aggregate-resolve-3 c = front _ _ (c .before .before .before .before .before .before .before .before .before .before .before .before .before .before .before .before .before .before .pre .inRecipients)
 
 resolve-requires : tie.Need-resolve-requires
-resolve-requires c κs = asks-resolve _ _ _ _ _ (c .before .before .before .before .before .before .before .before .before .before .before .before .before .before .before .before .before .before .before .before .pre) _ (c .before .before .before .before .before .before .before .before .before .before .before .count .ensures) _ _ _ (c .before .before .before .before .before .before .before .before .steps .ensures)
+resolve-requires c κs = asks-resolve _ _ _ _ _ _ _ _ (c .before .before .before .before .before .before .before .before .before .before .before .before .before .before .before .before .before .before .pre) _ (c .before .before .before .before .before .before .before .before .before .before .count .ensures) _ _ _ (c .before .before .before .before .before .before .before .steps .ensures)
 
 same-length : tie.Need-same-length
 same-length c = search needs
@@ -55,11 +55,8 @@ same-length-3 c = search needs
 same-length-4 : tie.Need-same-length-4
 same-length-4 c = search needs
 
-same-length-5 : tie.Need-same-length-5
-same-length-5 c = search needs
-
 returns : tie.Need-returns
-returns c = (plan-is _ _ _ _ _ (c .before .before .before .before .before .before .before .before .before .before .before .before .before .before .before .before .before .before .before .before .before .before .before .before .before .before .before .pre) _ (c .before .before .before .before .before .before .before .before .before .before .before .before .before .before .before .before .before .before .count .ensures) _ _ _ (c .before .before .before .before .before .before .before .before .before .before .before .before .before .before .before .steps .ensures) _ _ _ _ (c .before .before .before .before .before .before .resolve .ensures), tables-are _ _ _ _ _ (c .before .before .before .before .before .before .before .before .before .before .before .before .before .before .before .before .before .before .before .before .before .before .before .before .before .before .before .pre) _ (c .before .before .before .before .before .before .before .before .before .before .before .before .before .before .before .before .before .before .count .ensures) _ _ _ (c .before .before .before .before .before .before .before .before .before .before .before .before .before .before .before .steps .ensures) _ _ _ _ (c .before .before .before .before .before .before .resolve .ensures))
+returns c = (plan-is _ _ _ _ _ _ _ _ (c .before .before .before .before .before .before .before .before .before .before .before .before .before .before .before .before .before .before .before .before .before .before .before .before .pre) _ (c .before .before .before .before .before .before .before .before .before .before .before .before .before .before .before .before .count .ensures) _ _ _ (c .before .before .before .before .before .before .before .before .before .before .before .before .before .steps .ensures) (c .before .before .before .before .before .resolve .result) _ _ (c .before .before .before .before .before .resolve .ensures), cycles-few _ _ _ _ _ _ _ _ (c .before .before .before .before .before .before .before .before .before .before .before .before .before .before .before .before .before .before .before .before .before .before .before .before .pre) _ (c .before .before .before .before .before .before .before .before .before .before .before .before .before .before .before .before .count .ensures) _ _ _ (c .before .before .before .before .before .before .before .before .before .before .before .before .before .steps .ensures) (c .before .before .before .before .before .resolve .result) _ _ (c .before .before .before .before .before .resolve .ensures), lent-is _ _ _ _ _ _ _ _ (c .before .before .before .before .before .before .before .before .before .before .before .before .before .before .before .before .before .before .before .before .before .before .before .before .pre) _ (c .before .before .before .before .before .before .before .before .before .before .before .before .before .before .before .before .count .ensures) _ _ _ (c .before .before .before .before .before .before .before .before .before .before .before .before .before .steps .ensures) (c .before .before .before .before .before .resolve .result) _ _ (c .before .before .before .before .before .resolve .ensures))
 
 pub make-spec : {M : Type 1} → statement M
 make-spec =
@@ -82,5 +79,4 @@ make-spec =
     same-length-2
     same-length-3
     same-length-4
-    same-length-5
     returns)

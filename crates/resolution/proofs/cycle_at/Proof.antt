@@ -25,11 +25,14 @@ shared-slice-read-b c = search needs
 cast-b : tie.Need-cast-b
 cast-b c = record { fits = omega (arith, c .shared-slice-known5 .given (c .before .before .before .before .before .args .p .v)) }
 
+record-of-requires : tie.Need-record-of-requires
+record-of-requires c κs = omega (arith, c .before .before .shared-slice-known4 .given (c .before .before .before .before .before .before .args .p .u), c .before .shared-slice-known5 .given (c .before .before .before .before .before .before .args .p .v), c .before .before .before .before .before .before .pre .0 .few, c .before .before .before .before .before .before .pre .2)
+
 two-requires : tie.Need-two-requires
-two-requires c κs = asks-two _ _ _ _ _ (c .before .before .before .before .before .before .pre .0) (c .before .before .before .before .before .before .pre .1) (c .before .before .before .before .before .before .pre .2)
+two-requires c κs = asks-two _ _ _ _ _ (c .before .before .before .before .before .before .before .pre .0) (c .before .before .before .before .before .before .before .pre .1) (c .before .before .before .before .before .before .before .pre .2)
 
 returns : tie.Need-returns
-returns c = giving-two _ (weightOf _ _ _) _ _ _ _ (is-two _ _ _ _ _ (c .before .before .before .before .before .before .before .pre .2) (c .before .if1 .taken)) (c .two .ensures)
+returns c = giving-two _ (weightOf _ _ _) _ _ _ _ _ (c .before .record-of .ensures) (is-two _ _ _ _ _ (c .before .before .before .before .before .before .before .before .pre .2) (c .before .before .if1 .taken)) (c .two .ensures)
 
 mul-c : tie.Need-mul-c
 mul-c c = search needs
@@ -46,11 +49,17 @@ three-requires c κs = asks-triple _ _ _ _ _ (c .before .before .before .before 
 three-requires-2 : tie.Need-three-requires-2
 three-requires-2 c κs = let asked = asks-triple _ _ _ _ _ (c .before .before .before .before .before .before .before .before .pre .0) (c .before .before .before .before .before .before .before .before .pre .1) (c .before .before .before .before .before .before .before .before .pre .2) (c .before .before .if1 .left) in record { readable = asked .readable; first = asked .first; second = asked .third; third = asked .second }
 
+record-of-requires-2 : tie.Need-record-of-requires-2
+record-of-requires-2 c κs = omega (arith, c .before .before .before .before .before .before .shared-slice-known4 .given (c .before .before .before .before .before .before .before .before .before .before .args .p .u), c .before .before .before .before .before .shared-slice-known5 .given (c .before .before .before .before .before .before .before .before .before .before .args .p .v), c .before .before .before .shared-slice-known6 .given (c .before .before .before .before .before .before .before .before .before .before .args .p .w), c .before .before .before .before .before .before .before .before .before .before .pre .0 .few, c .before .before .before .before .before .before .before .before .before .before .pre .2)
+
 returns-2 : tie.Need-returns-2
-returns-2 c = giving-three _ (weightOf _ _ _) _ _ _ _ _ (is-second _ _ _ _ _ (c .before .before .before .before .before .before .before .before .before .before .pre .2) (c .before .before .before .before .if1 .left) _ _ (c .before .before .three .ensures) (c .before .three2 .ensures) (c .if2 .taken)) (c .before .three2 .ensures)
+returns-2 c = giving-three _ (weightOf _ _ _) _ _ _ _ _ _ (c .record-of2 .ensures) (is-second _ _ _ _ _ (c .before .before .before .before .before .before .before .before .before .before .before .pre .2) (c .before .before .before .before .before .if1 .left) _ _ (c .before .before .before .three .ensures) (c .before .before .three2 .ensures) (c .before .if2 .taken)) (c .before .before .three2 .ensures)
+
+record-of-requires-3 : tie.Need-record-of-requires-3
+record-of-requires-3 c κs = omega (arith, c .before .before .before .before .before .before .shared-slice-known4 .given (c .before .before .before .before .before .before .before .before .before .before .args .p .u), c .before .before .before .before .before .shared-slice-known5 .given (c .before .before .before .before .before .before .before .before .before .before .args .p .v), c .before .before .before .shared-slice-known6 .given (c .before .before .before .before .before .before .before .before .before .before .args .p .w), c .before .before .before .before .before .before .before .before .before .before .pre .0 .few, c .before .before .before .before .before .before .before .before .before .before .pre .2)
 
 returns-3 : tie.Need-returns-3
-returns-3 c = giving-three _ (weightOf _ _ _) _ _ _ _ _ (is-first _ _ _ _ _ (c .before .before .before .before .before .before .before .before .before .before .pre .2) (c .before .before .before .before .if1 .left) _ _ (c .before .before .three .ensures) (c .before .three2 .ensures) (c .if2 .left)) (c .before .before .three .ensures)
+returns-3 c = giving-three _ (weightOf _ _ _) _ _ _ _ _ _ (c .record-of3 .ensures) (is-first _ _ _ _ _ (c .before .before .before .before .before .before .before .before .before .before .before .pre .2) (c .before .before .before .before .before .if1 .left) _ _ (c .before .before .before .three .ensures) (c .before .before .three2 .ensures) (c .before .if2 .left)) (c .before .before .before .three .ensures)
 
 pub cycle-at-spec : {M : Type 1} → statement M
 cycle-at-spec =
@@ -62,6 +71,7 @@ cycle-at-spec =
     mul-b
     shared-slice-read-b
     cast-b
+    record-of-requires
     two-requires
     returns
     mul-c
@@ -69,5 +79,7 @@ cycle-at-spec =
     cast-c
     three-requires
     three-requires-2
+    record-of-requires-2
     returns-2
+    record-of-requires-3
     returns-3)

@@ -1,12 +1,11 @@
 -- `rounds::all_rounds` meets its contract: a walk of its MIR, written by walks/walk.py. Assumes nothing.
-use Rattle.lending.proofs.Walking.{_≡_, refl, sym, ap, subst, Bool, ⊎-elim, WellFounded, InvImage·wf, [], _∷_, List, ℕ, _+_, _-_, _<_, _^_, eq-or-lt-of-le, le-of-eq, lt-of-le-of-lt, add-one-le, arith, length, Nat·lt-wfRel, Holds, lit<, lt-ltb, le-ltb, URA, fullShare, named, tyUnit, tyBool, w64, Val, vunit, vbool, vint, vptr, hasTy, WT, SProp, ent, id⊢, Lft, Share, GName, ftrue, fat, froom, fdies, flft, Memory, Routine, Heap, Out, Env, afterSeq, afterBlock, Calls, Loops, Wp, atReturn, WpFn, Tables, afterTurn, Atoms, Fun, fact, AllOutlive, givenOf, tables, tablesOf, Given, ‵, raw, some, later, _⊛_, ⋆, Item, Sq, runs, anyQ, atRet, _$_, _∵_, !, qed, by, move, keep, drop, use1, use2, use3, cut, split, join, pick, rewrite, fsplit, fjoin, feqI, feqL, suffices, frame, await, done, look, init, store, forget, stop, hop, fld, from, load, lit, addr, unit-lit, of-opd, bin, and-then, no-more, land, assigns, assigns-last, first, stays, leaves-loop, blocks, exec, Below, again, loops, returns, enter, alloc1, alloc0, params1, pass1, pass0, free1, free0, agg, whole, sub, look-in, lft-new, lft-end, FmC, fmOf, WpFn-mono, RattleType, owns, Is, shows, Nothing, uint-vals, uint-tells, uint-makes, u32, usize, RefT, MutRef, ptr-vals, mut-tells, sliceVal, MutSlice, ShrSlice, Room, slice-vals, mut-slice-tells, plain, LentRef, lends-again, comes-back, only, owned, facts, heard, nothing, onEntry, Meets, tripleOf, Contract, Triple, calls-at, ensured, lasts, entered, cited, says, needs, Stays, stay-dropped, stay-ref, stay-slice, walkOf, goes-dropped, goes-ref, goes-slice, Walks, ends-at, walked, walk-meets, yes, lent, tyOf, less-fits, LentAgain, again-out, again-back, LentShared, shared-out, shared-back}
+use Rattle.lending.proofs.Walking.{_≡_, refl, sym, ap, subst, Bool, ⊎-elim, WellFounded, InvImage·wf, [], _∷_, List, ℕ, _+_, _-_, _<_, _^_, eq-or-lt-of-le, le-of-eq, lt-of-le-of-lt, add-one-le, arith, length, set, Nat·lt-wfRel, Holds, lit<, lt-ltb, le-ltb, URA, fullShare, named, tyUnit, tyBool, w64, Val, vunit, vbool, vint, vptr, hasTy, WT, SProp, ent, id⊢, Lft, Share, GName, ftrue, fat, froom, fdies, flft, Memory, Routine, Heap, Out, Env, afterSeq, afterBlock, Calls, Loops, Wp, atReturn, WpFn, Tables, afterTurn, Atoms, Fun, fact, AllOutlive, givenOf, tables, tablesOf, Given, ‵, raw, some, later, _⊛_, ⋆, Item, Sq, runs, anyQ, atRet, _$_, _∵_, !, qed, by, move, keep, drop, use1, use2, use3, cut, split, join, pick, rewrite, fsplit, fjoin, feqI, feqL, suffices, frame, await, done, look, init, store, forget, stop, hop, fld, from, load, lit, addr, unit-lit, of-opd, bin, and-then, no-more, land, assigns, assigns-last, first, stays, leaves-loop, blocks, exec, Below, again, loops, returns, enter, alloc1, alloc0, params1, pass1, pass0, free1, free0, agg, whole, sub, look-in, lft-new, lft-end, FmC, fmOf, WpFn-mono, RattleType, owns, Is, shows, Nothing, uint-vals, uint-tells, uint-makes, u32, usize, RefT, MutRef, ptr-vals, mut-tells, sliceVal, MutSlice, ShrSlice, Room, slice-vals, mut-slice-tells, plain, LentRef, lends-again, comes-back, only, owned, facts, heard, nothing, onEntry, Meets, tripleOf, Contract, Triple, calls-at, ensured, lasts, entered, cited, says, needs, Stays, stay-dropped, stay-ref, stay-slice, walkOf, goes-dropped, goes-ref, goes-slice, Walks, ends-at, walked, walk-meets, yes, renamed, tyOf, less-fits, LentAgain, again-out, again-back, LentShared, shared-out, shared-back}
 use denote.Struct.Laws as LL
 use Rattle.rounds.specs.Rounding.{Rounding}
 use Rattle.greedy.specs.Rounds as Rounds
 use Rattle.gates.specs.Counts.{counted}
 use Rattle.exchange.specs.Subsets.{subsets}
 use Rattle.choosing.specs.Parts.{Turn, choiceOf}
-use lib.ListN.{set}
 use Rattle.cursor.specs.Cursor.{placesAt, subsetAt}
 use Rattle.clearing.specs.Clearing.{Clearing}
 use Rattle.rounds.proofs.Turns.{Turned, begins, ends, asks-choose, asks-clear, next}
@@ -56,19 +55,19 @@ module _ {M : Type 1} (𝓤 : URA M) (H : Heap 𝓤) (A : Atoms 𝓤) (W : Given
   Post = walkOf 𝓤 H A me.ended stayed (me.clauses 𝓤 H A at-mem run) .post (((κ0, (κ1, (κ2, tt))), (q0, (q1, (q2, tt))), bounds, x, at), tt)
 
   exits : (weights′ : List ℕ) (choices′ : List ℕ) (tally′ : Tally) → Rounds.left weights′ choices′ (counted tally′) ≡ Rounds.rounds 0 (length (choices .now)) (subsets 3 n) (weights .now) (counted (tally .now)) → (length weights′) ≡ (length (weights .now)) → (length choices′) ≡ (length (choices .now))
-      → ent 𝓤 (⋆ 𝓤 H A (‵ (flft κ0 q0) ∷ ‵ (flft κ1 q1) ∷ ‵ (flft κ2 q2) ∷ ‵ (MutSlice (named 0) κ0 u32 .own (lent weights (weights .name) weights′) ((sliceVal (weights .ptr) (length (weights .now))) ∷ [])) ∷ ‵ (MutSlice (named 1) κ1 u32 .own (lent choices (choices .name) choices′) ((sliceVal (choices .ptr) (length (choices .now))) ∷ [])) ∷ ‵ (MutRef (named 2) κ2 R-Tally .own (lent tally (tally .name) tally′) ((vptr (tally .ptr .0) (tally .ptr .1)) ∷ [])) ∷ [])) (Post vunit)
+      → ent 𝓤 (⋆ 𝓤 H A (‵ (flft κ0 q0) ∷ ‵ (flft κ1 q1) ∷ ‵ (flft κ2 q2) ∷ ‵ (MutSlice (named 0) κ0 u32 .own (renamed weights (weights .name) weights′) ((sliceVal (weights .ptr) (length (weights .now))) ∷ [])) ∷ ‵ (MutSlice (named 1) κ1 u32 .own (renamed choices (choices .name) choices′) ((sliceVal (choices .ptr) (length (choices .now))) ∷ [])) ∷ ‵ (MutRef (named 2) κ2 R-Tally .own (renamed tally (tally .name) tally′) ((vptr (tally .ptr .0) (tally .ptr .1)) ∷ [])) ∷ [])) (Post vunit)
   exits weights′ choices′ tally′ e long-weights long-choices =
-      qed W (‵ (flft κ0 q0) ∷ ‵ (flft κ1 q1) ∷ ‵ (flft κ2 q2) ∷ ‵ (MutSlice (named 0) κ0 u32 .own (lent weights (weights .name) weights′) ((sliceVal (weights .ptr) (length (weights .now))) ∷ [])) ∷ ‵ (MutSlice (named 1) κ1 u32 .own (lent choices (choices .name) choices′) ((sliceVal (choices .ptr) (length (choices .now))) ∷ [])) ∷ ‵ (MutRef (named 2) κ2 R-Tally .own (lent tally (tally .name) tally′) ((vptr (tally .ptr .0) (tally .ptr .1)) ∷ [])) ∷ []) ∵
+      qed W (‵ (flft κ0 q0) ∷ ‵ (flft κ1 q1) ∷ ‵ (flft κ2 q2) ∷ ‵ (MutSlice (named 0) κ0 u32 .own (renamed weights (weights .name) weights′) ((sliceVal (weights .ptr) (length (weights .now))) ∷ [])) ∷ ‵ (MutSlice (named 1) κ1 u32 .own (renamed choices (choices .name) choices′) ((sliceVal (choices .ptr) (length (choices .now))) ∷ [])) ∷ ‵ (MutRef (named 2) κ2 R-Tally .own (renamed tally (tally .name) tally′) ((vptr (tally .ptr .0) (tally .ptr .1)) ∷ [])) ∷ []) ∵
       suffices ! _ (ends-at 𝓤 H A me.ended stayed (me.clauses 𝓤 H A at-mem run) W (((κ0, (κ1, (κ2, tt))), (q0, (q1, (q2, tt))), bounds, x, at), tt) vunit tt (tt, (weights′, (choices′, (tally′, tt)))) (tt, (long-weights, (long-choices, (tt, tt))))) $ says ! e $
       nothing ! $ move ! (3 ∷ 0 ∷ []) $ join ! $ move ! (2 ∷ 0 ∷ []) $ join ! $ move ! (1 ∷ 0 ∷ []) $ join ! $ frame ! $ nothing ! $ move ! (3 ∷ 0 ∷ []) $ fjoin ! $ move ! (2 ∷ 0 ∷ []) $ fjoin ! $ move ! (1 ∷ 0 ∷ []) $ fjoin ! $ nothing ! $ fjoin ! $ feqI ! (List Val) (vunit ∷ []) (vunit ∷ []) refl $ move ! (1 ∷ 0 ∷ []) $ done !
 
   -- `choose`: what its contract binds, what it asks, and that this is had
   module _ (a0 : ℕ) (fits0 : a0 < 2 ^ 64) (ν1 : ℕ) (δ1 : GName) (a1 : List ℕ) (ν2 : ℕ) (δ2 : GName) (a2 : List ℕ) (a3 : ℕ) (fits3 : a3 < 2 ^ 64) (ν4 : ℕ) (δ4 : GName) (a4 : Tally) where
     abbrev to-1 : F1 𝓤 H A at-mem run .Ghost
-    to-1 = ((((ν1 ∷ []), ((ν2 ∷ []), ((ν4 ∷ []), tt))), (fullShare, (fullShare, (fullShare, tt))), tt, (a0, ((lent weights δ1 a1), ((lent choices δ2 a2), (a3, ((lent tally δ4 a4), tt))))), ((vint w64 a0) ∷ [], ((sliceVal (weights .ptr) (length (weights .now))) ∷ [], ((sliceVal (choices .ptr) (length (choices .now))) ∷ [], ((vint w64 a3) ∷ [], ((vptr (tally .ptr .0) (tally .ptr .1)) ∷ [], tt)))))), tt)
+    to-1 = ((((ν1 ∷ []), ((ν2 ∷ []), ((ν4 ∷ []), tt))), (fullShare, (fullShare, (fullShare, tt))), tt, (a0, ((renamed weights δ1 a1), ((renamed choices δ2 a2), (a3, ((renamed tally δ4 a4), tt))))), ((vint w64 a0) ∷ [], ((sliceVal (weights .ptr) (length (weights .now))) ∷ [], ((sliceVal (choices .ptr) (length (choices .now))) ∷ [], ((vint w64 a3) ∷ [], ((vptr (tally .ptr .0) (tally .ptr .1)) ∷ [], tt)))))), tt)
 
     abbrev asked-1 : List (Item 𝓤)
-    asked-1 = ‵ (flft (ν1 ∷ []) fullShare) ∷ ‵ (flft (ν2 ∷ []) fullShare) ∷ ‵ (flft (ν4 ∷ []) fullShare) ∷ ‵ (ShrSlice (named 0) (ν1 ∷ []) u32 .own (lent weights δ1 a1) ((sliceVal (weights .ptr) (length (weights .now))) ∷ [])) ∷ ‵ (MutSlice (named 1) (ν2 ∷ []) u32 .own (lent choices δ2 a2) ((sliceVal (choices .ptr) (length (choices .now))) ∷ [])) ∷ ‵ (MutRef (named 2) (ν4 ∷ []) R-Tally .own (lent tally δ4 a4) ((vptr (tally .ptr .0) (tally .ptr .1)) ∷ [])) ∷ []
+    asked-1 = ‵ (flft (ν1 ∷ []) fullShare) ∷ ‵ (flft (ν2 ∷ []) fullShare) ∷ ‵ (flft (ν4 ∷ []) fullShare) ∷ ‵ (ShrSlice (named 0) (ν1 ∷ []) u32 .own (renamed weights δ1 a1) ((sliceVal (weights .ptr) (length (weights .now))) ∷ [])) ∷ ‵ (MutSlice (named 1) (ν2 ∷ []) u32 .own (renamed choices δ2 a2) ((sliceVal (choices .ptr) (length (choices .now))) ∷ [])) ∷ ‵ (MutRef (named 2) (ν4 ∷ []) R-Tally .own (renamed tally δ4 a4) ((vptr (tally .ptr .0) (tally .ptr .1)) ∷ [])) ∷ []
 
     goes-1 : Turn a0 a1 a2 a3 a4 → ent 𝓤 (⋆ 𝓤 H A asked-1) (F1 𝓤 H A at-mem run .pre to-1)
     goes-1 needs-these = qed W asked-1 ∵ says ! needs-these $ nothing ! $ move ! (3 ∷ 0 ∷ []) $ join ! $ move ! (2 ∷ 0 ∷ []) $ join ! $ move ! (1 ∷ 0 ∷ []) $ join ! $ frame ! $ nothing ! $ move ! (3 ∷ 0 ∷ []) $ fjoin ! $ owned ! usize (Is usize) (uint-makes 𝓤 H A W w64) a3 _ (refl, fits3) $ fjoin ! $ move ! (2 ∷ 0 ∷ []) $ fjoin ! $ move ! (1 ∷ 0 ∷ []) $ fjoin ! $ owned ! usize (Is usize) (uint-makes 𝓤 H A W w64) a0 _ (refl, fits0) $ fjoin ! $ done !
@@ -76,10 +75,10 @@ module _ {M : Type 1} (𝓤 : URA M) (H : Heap 𝓤) (A : Atoms 𝓤) (W : Given
   -- `clear`: what its contract binds, what it asks, and that this is had
   module _ (a0 : ℕ) (fits0 : a0 < 2 ^ 64) (ν1 : ℕ) (δ1 : GName) (a1 : List ℕ) (a2 : Places) (fits2 : Is R-Places a2 ((Places-laws.lowered a2) ∷ [])) (a3 : ℕ) (fits3 : a3 < 2 ^ 64) (ν4 : ℕ) (δ4 : GName) (a4 : Tally) where
     abbrev to-2 : F2 𝓤 H A at-mem run .Ghost
-    to-2 = ((((ν1 ∷ []), ((ν4 ∷ []), tt)), (fullShare, (fullShare, tt)), tt, (a0, ((lent weights δ1 a1), (a2, (a3, ((lent tally δ4 a4), tt))))), ((vint w64 a0) ∷ [], ((sliceVal (weights .ptr) (length (weights .now))) ∷ [], ((Places-laws.lowered a2) ∷ [], ((vint w64 a3) ∷ [], ((vptr (tally .ptr .0) (tally .ptr .1)) ∷ [], tt)))))), tt)
+    to-2 = ((((ν1 ∷ []), ((ν4 ∷ []), tt)), (fullShare, (fullShare, tt)), tt, (a0, ((renamed weights δ1 a1), (a2, (a3, ((renamed tally δ4 a4), tt))))), ((vint w64 a0) ∷ [], ((sliceVal (weights .ptr) (length (weights .now))) ∷ [], ((Places-laws.lowered a2) ∷ [], ((vint w64 a3) ∷ [], ((vptr (tally .ptr .0) (tally .ptr .1)) ∷ [], tt)))))), tt)
 
     abbrev asked-2 : List (Item 𝓤)
-    asked-2 = ‵ (flft (ν1 ∷ []) fullShare) ∷ ‵ (flft (ν4 ∷ []) fullShare) ∷ ‵ (MutSlice (named 0) (ν1 ∷ []) u32 .own (lent weights δ1 a1) ((sliceVal (weights .ptr) (length (weights .now))) ∷ [])) ∷ ‵ (MutRef (named 1) (ν4 ∷ []) R-Tally .own (lent tally δ4 a4) ((vptr (tally .ptr .0) (tally .ptr .1)) ∷ [])) ∷ []
+    asked-2 = ‵ (flft (ν1 ∷ []) fullShare) ∷ ‵ (flft (ν4 ∷ []) fullShare) ∷ ‵ (MutSlice (named 0) (ν1 ∷ []) u32 .own (renamed weights δ1 a1) ((sliceVal (weights .ptr) (length (weights .now))) ∷ [])) ∷ ‵ (MutRef (named 1) (ν4 ∷ []) R-Tally .own (renamed tally δ4 a4) ((vptr (tally .ptr .0) (tally .ptr .1)) ∷ [])) ∷ []
 
     goes-2 : Clearing a0 a1 a4 → ent 𝓤 (⋆ 𝓤 H A asked-2) (F2 𝓤 H A at-mem run .pre to-2)
     goes-2 needs-these = qed W asked-2 ∵ says ! needs-these $ nothing ! $ move ! (2 ∷ 0 ∷ []) $ join ! $ move ! (1 ∷ 0 ∷ []) $ join ! $ frame ! $ nothing ! $ move ! (2 ∷ 0 ∷ []) $ fjoin ! $ owned ! usize (Is usize) (uint-makes 𝓤 H A W w64) a3 _ (refl, fits3) $ fjoin ! $ owned ! R-Places (Is R-Places) (LL.makes Places-row.the-type Places-laws.the-plain 𝓤 H A) a2 _ fits2 $ fjoin ! $ move ! (1 ∷ 0 ∷ []) $ fjoin ! $ owned ! usize (Is usize) (uint-makes 𝓤 H A W w64) a0 _ (refl, fits0) $ fjoin ! $ done !
@@ -116,7 +115,7 @@ module _ {M : Type 1} (𝓤 : URA M) (H : Heap 𝓤) (A : Atoms 𝓤) (W : Given
 
       -- what is had at the loop's head
       abbrev At : Upto → List (Item 𝓤)
-      At j = ‵ (froom (tyOf (code.function .locals) 19) l19 0) ∷ ‵ (fdies (tyOf (code.function .locals) 19) l19) ∷ ‵ (froom (tyOf (code.function .locals) 18) l18 0) ∷ ‵ (fdies (tyOf (code.function .locals) 18) l18) ∷ ‵ (froom (tyOf (code.function .locals) 17) l17 0) ∷ ‵ (fdies (tyOf (code.function .locals) 17) l17) ∷ ‵ (froom (tyOf (code.function .locals) 16) l16 0) ∷ ‵ (fdies (tyOf (code.function .locals) 16) l16) ∷ ‵ (froom (tyOf (code.function .locals) 15) l15 0) ∷ ‵ (fdies (tyOf (code.function .locals) 15) l15) ∷ ‵ (froom (tyOf (code.function .locals) 14) l14 0) ∷ ‵ (fdies (tyOf (code.function .locals) 14) l14) ∷ ‵ (froom (tyOf (code.function .locals) 13) l13 0) ∷ ‵ (fdies (tyOf (code.function .locals) 13) l13) ∷ ‵ (froom (tyOf (code.function .locals) 12) l12 0) ∷ ‵ (fdies (tyOf (code.function .locals) 12) l12) ∷ ‵ (froom (tyOf (code.function .locals) 11) l11 0) ∷ ‵ (fdies (tyOf (code.function .locals) 11) l11) ∷ ‵ (froom (tyOf (code.function .locals) 10) l10 0) ∷ ‵ (fdies (tyOf (code.function .locals) 10) l10) ∷ ‵ (froom (tyOf (code.function .locals) 9) l9 0) ∷ ‵ (fdies (tyOf (code.function .locals) 9) l9) ∷ ‵ (froom (tyOf (code.function .locals) 8) l8 0) ∷ ‵ (fdies (tyOf (code.function .locals) 8) l8) ∷ ‵ (froom (tyOf (code.function .locals) 7) l7 0) ∷ ‵ (fdies (tyOf (code.function .locals) 7) l7) ∷ ‵ (froom (tyOf (code.function .locals) 6) l6 0) ∷ ‵ (fdies (tyOf (code.function .locals) 6) l6) ∷ ‵ (fat fullShare (tyOf (code.function .locals) 5) l5 0 (vint w64 (j .0))) ∷ ‵ (fdies (tyOf (code.function .locals) 5) l5) ∷ ‵ (fat fullShare (tyOf (code.function .locals) 4) l4 0 (vptr (tally .ptr .0) (tally .ptr .1))) ∷ ‵ (fdies (tyOf (code.function .locals) 4) l4) ∷ ‵ (fat fullShare (tyOf (code.function .locals) 3) l3 0 (sliceVal (choices .ptr) (length (choices .now)))) ∷ ‵ (fdies (tyOf (code.function .locals) 3) l3) ∷ ‵ (fat fullShare (tyOf (code.function .locals) 2) l2 0 (sliceVal (weights .ptr) (length (weights .now)))) ∷ ‵ (fdies (tyOf (code.function .locals) 2) l2) ∷ ‵ (fat fullShare (tyOf (code.function .locals) 1) l1 0 (vint w64 n)) ∷ ‵ (fdies (tyOf (code.function .locals) 1) l1) ∷ ‵ (froom (tyOf (code.function .locals) 0) l0 0) ∷ ‵ (fdies (tyOf (code.function .locals) 0) l0) ∷ ‵ (MutSlice (named 0) κ0 u32 .own (lent weights (weights .name) (j .1 .0)) ((sliceVal (weights .ptr) (length (weights .now))) ∷ [])) ∷ ‵ (MutSlice (named 1) κ1 u32 .own (lent choices (choices .name) (j .1 .1 .0)) ((sliceVal (choices .ptr) (length (choices .now))) ∷ [])) ∷ ‵ (MutRef (named 2) κ2 R-Tally .own (lent tally (tally .name) (j .1 .1 .1 .0)) ((vptr (tally .ptr .0) (tally .ptr .1)) ∷ [])) ∷ ‵ (flft κ0 q0) ∷ ‵ (flft κ1 q1) ∷ ‵ (flft κ2 q2) ∷ []
+      At j = ‵ (froom (tyOf (code.function .locals) 19) l19 0) ∷ ‵ (fdies (tyOf (code.function .locals) 19) l19) ∷ ‵ (froom (tyOf (code.function .locals) 18) l18 0) ∷ ‵ (fdies (tyOf (code.function .locals) 18) l18) ∷ ‵ (froom (tyOf (code.function .locals) 17) l17 0) ∷ ‵ (fdies (tyOf (code.function .locals) 17) l17) ∷ ‵ (froom (tyOf (code.function .locals) 16) l16 0) ∷ ‵ (fdies (tyOf (code.function .locals) 16) l16) ∷ ‵ (froom (tyOf (code.function .locals) 15) l15 0) ∷ ‵ (fdies (tyOf (code.function .locals) 15) l15) ∷ ‵ (froom (tyOf (code.function .locals) 14) l14 0) ∷ ‵ (fdies (tyOf (code.function .locals) 14) l14) ∷ ‵ (froom (tyOf (code.function .locals) 13) l13 0) ∷ ‵ (fdies (tyOf (code.function .locals) 13) l13) ∷ ‵ (froom (tyOf (code.function .locals) 12) l12 0) ∷ ‵ (fdies (tyOf (code.function .locals) 12) l12) ∷ ‵ (froom (tyOf (code.function .locals) 11) l11 0) ∷ ‵ (fdies (tyOf (code.function .locals) 11) l11) ∷ ‵ (froom (tyOf (code.function .locals) 10) l10 0) ∷ ‵ (fdies (tyOf (code.function .locals) 10) l10) ∷ ‵ (froom (tyOf (code.function .locals) 9) l9 0) ∷ ‵ (fdies (tyOf (code.function .locals) 9) l9) ∷ ‵ (froom (tyOf (code.function .locals) 8) l8 0) ∷ ‵ (fdies (tyOf (code.function .locals) 8) l8) ∷ ‵ (froom (tyOf (code.function .locals) 7) l7 0) ∷ ‵ (fdies (tyOf (code.function .locals) 7) l7) ∷ ‵ (froom (tyOf (code.function .locals) 6) l6 0) ∷ ‵ (fdies (tyOf (code.function .locals) 6) l6) ∷ ‵ (fat fullShare (tyOf (code.function .locals) 5) l5 0 (vint w64 (j .0))) ∷ ‵ (fdies (tyOf (code.function .locals) 5) l5) ∷ ‵ (fat fullShare (tyOf (code.function .locals) 4) l4 0 (vptr (tally .ptr .0) (tally .ptr .1))) ∷ ‵ (fdies (tyOf (code.function .locals) 4) l4) ∷ ‵ (fat fullShare (tyOf (code.function .locals) 3) l3 0 (sliceVal (choices .ptr) (length (choices .now)))) ∷ ‵ (fdies (tyOf (code.function .locals) 3) l3) ∷ ‵ (fat fullShare (tyOf (code.function .locals) 2) l2 0 (sliceVal (weights .ptr) (length (weights .now)))) ∷ ‵ (fdies (tyOf (code.function .locals) 2) l2) ∷ ‵ (fat fullShare (tyOf (code.function .locals) 1) l1 0 (vint w64 n)) ∷ ‵ (fdies (tyOf (code.function .locals) 1) l1) ∷ ‵ (froom (tyOf (code.function .locals) 0) l0 0) ∷ ‵ (fdies (tyOf (code.function .locals) 0) l0) ∷ ‵ (MutSlice (named 0) κ0 u32 .own (renamed weights (weights .name) (j .1 .0)) ((sliceVal (weights .ptr) (length (weights .now))) ∷ [])) ∷ ‵ (MutSlice (named 1) κ1 u32 .own (renamed choices (choices .name) (j .1 .1 .0)) ((sliceVal (choices .ptr) (length (choices .now))) ∷ [])) ∷ ‵ (MutRef (named 2) κ2 R-Tally .own (renamed tally (tally .name) (j .1 .1 .1 .0)) ((vptr (tally .ptr .0) (tally .ptr .1)) ∷ [])) ∷ ‵ (flft κ0 q0) ∷ ‵ (flft κ1 q1) ∷ ‵ (flft κ2 q2) ∷ []
 
       -- a turn ends nearer to the bound, or the loop is left and the rest runs
       abbrev EndOf : Upto → Out → SProp 𝓤
@@ -137,19 +136,19 @@ module _ {M : Type 1} (𝓤 : URA M) (H : Heap 𝓤) (A : Atoms 𝓤) (W : Given
           -- _13 = tally, lent again
           assigns ! (addr ! (from ! (hop ! (look ! 30 refl) (stop !)))) (from ! (stop !)) (init ! 12 refl (tt, tt)) $
           -- choose
-          lft-new ! tt (λ ν1-1. move ! (41 ∷ 44 ∷ []) $ use2 W (later (some (λ (δ : GName). ‵ (ShrSlice (named 0) (ν1-1 ∷ []) u32 .own (lent weights δ (j .1 .0)) ((sliceVal (weights .ptr) (length (weights .now))) ∷ [])) ⊛ ‵ (LentShared u32 κ0 (ν1-1 ∷ []) q0 (weights .name) (weights .ptr .0) (weights .ptr .1) (j .1 .0))))) (shared-out u32 κ0 (ν1-1 ∷ []) q0 (weights .name) (weights .ptr .0) (weights .ptr .1) 𝓤 H A W (named 0) (named 0) ((sliceVal (weights .ptr) (length (weights .now))) ∷ []) (j .1 .0)) $ await ! tt $ pick ! (λ δ1-1. split ! $
-          lft-new ! tt (λ ν1-2. move ! (44 ∷ 46 ∷ []) $ use2 W (later (some (λ (δ : GName). ‵ (MutSlice (named 1) (ν1-2 ∷ []) u32 .own (lent choices δ (j .1 .1 .0)) ((sliceVal (choices .ptr) (length (choices .now))) ∷ [])) ⊛ ‵ (LentAgain u32 κ1 (ν1-2 ∷ []) q1 (choices .name) (choices .ptr .0) (choices .ptr .1) δ (j .1 .1 .0))))) (again-out u32 κ1 (ν1-2 ∷ []) q1 (choices .name) (choices .ptr .0) (choices .ptr .1) 𝓤 H A W (named 1) (named 1) ((sliceVal (choices .ptr) (length (choices .now))) ∷ []) (j .1 .1 .0)) $ await ! tt $ pick ! (λ δ1-2. split ! $
-          lft-new ! tt (λ ν1-4. move ! (47 ∷ 48 ∷ []) $ use2 W (later (some (λ (δ : GName). ‵ (MutRef (named 2) (ν1-4 ∷ []) R-Tally .own (lent tally δ (j .1 .1 .1 .0)) ((vptr (tally .ptr .0) (tally .ptr .1)) ∷ [])) ⊛ ‵ (LentRef R-Tally κ2 (ν1-4 ∷ []) q2 (tally .name) (tally .ptr .0) (tally .ptr .1) δ (j .1 .1 .1 .0))))) (lends-again 𝓤 H A W R-Tally (named 2) κ2 (ν1-4 ∷ []) q2 (tally .name) (tally .ptr .0) (tally .ptr .1) (named 2) (j .1 .1 .1 .0)) $ await ! tt $ pick ! (λ δ1-4. split ! $
+          lft-new ! tt (λ ν1-1. move ! (41 ∷ 44 ∷ []) $ use2 W (later (some (λ (δ : GName). ‵ (ShrSlice (named 0) (ν1-1 ∷ []) u32 .own (renamed weights δ (j .1 .0)) ((sliceVal (weights .ptr) (length (weights .now))) ∷ [])) ⊛ ‵ (LentShared u32 κ0 (ν1-1 ∷ []) q0 (weights .name) (weights .ptr .0) (weights .ptr .1) (j .1 .0))))) (shared-out u32 κ0 (ν1-1 ∷ []) q0 (weights .name) (weights .ptr .0) (weights .ptr .1) 𝓤 H A W (named 0) (named 0) ((sliceVal (weights .ptr) (length (weights .now))) ∷ []) (j .1 .0)) $ await ! tt $ pick ! (λ δ1-1. split ! $
+          lft-new ! tt (λ ν1-2. move ! (44 ∷ 46 ∷ []) $ use2 W (later (some (λ (δ : GName). ‵ (MutSlice (named 1) (ν1-2 ∷ []) u32 .own (renamed choices δ (j .1 .1 .0)) ((sliceVal (choices .ptr) (length (choices .now))) ∷ [])) ⊛ ‵ (LentAgain u32 κ1 (ν1-2 ∷ []) q1 (choices .name) (choices .ptr .0) (choices .ptr .1) δ (j .1 .1 .0))))) (again-out u32 κ1 (ν1-2 ∷ []) q1 (choices .name) (choices .ptr .0) (choices .ptr .1) 𝓤 H A W (named 1) (named 1) ((sliceVal (choices .ptr) (length (choices .now))) ∷ []) (j .1 .1 .0)) $ await ! tt $ pick ! (λ δ1-2. split ! $
+          lft-new ! tt (λ ν1-4. move ! (47 ∷ 48 ∷ []) $ use2 W (later (some (λ (δ : GName). ‵ (MutRef (named 2) (ν1-4 ∷ []) R-Tally .own (renamed tally δ (j .1 .1 .1 .0)) ((vptr (tally .ptr .0) (tally .ptr .1)) ∷ [])) ⊛ ‵ (LentRef R-Tally κ2 (ν1-4 ∷ []) q2 (tally .name) (tally .ptr .0) (tally .ptr .1) δ (j .1 .1 .1 .0))))) (lends-again 𝓤 H A W R-Tally (named 2) κ2 (ν1-4 ∷ []) q2 (tally .name) (tally .ptr .0) (tally .ptr .1) (named 2) (j .1 .1 .1 .0)) $ await ! tt $ pick ! (λ δ1-4. split ! $
           move ! (8 ∷ 5 ∷ 2 ∷ 6 ∷ 3 ∷ 0 ∷ []) $ cut (asked-1 n n-fits ν1-1 δ1-1 (j .1 .0) ν1-2 δ1-2 (j .1 .1 .0) (j .0) (lt-of-le-of-lt ((j .1 .1 .1 .1) .upto) (choices-room .0)) ν1-4 δ1-4 (j .1 .1 .1 .0)) (raw (F1 𝓤 H A at-mem run .pre (to-1 n n-fits ν1-1 δ1-1 (j .1 .0) ν1-2 δ1-2 (j .1 .1 .0) (j .0) (lt-of-le-of-lt ((j .1 .1 .1 .1) .upto) (choices-room .0)) ν1-4 δ1-4 (j .1 .1 .1 .0))) ∷ []) _ (goes-1 n n-fits ν1-1 δ1-1 (j .1 .0) ν1-2 δ1-2 (j .1 .1 .0) (j .0) (lt-of-le-of-lt ((j .1 .1 .1 .1) .upto) (choices-room .0)) ν1-4 δ1-4 (j .1 .1 .1 .0) (asks-choose _ _ _ _ pre _ _ _ _ (j .1 .1 .1 .1) more)) $
           calls-at ! fm (F1 𝓤 H A at-mem run) known-f1 (to-1 n n-fits ν1-1 δ1-1 (j .1 .0) ν1-2 δ1-2 (j .1 .1 .0) (j .0) (lt-of-le-of-lt ((j .1 .1 .1 .1) .upto) (choices-room .0)) ν1-4 δ1-4 (j .1 .1 .1 .0)) (and-then ! (load ! (from ! (stop !)) (look ! 40 refl)) (and-then ! (load ! (from ! (stop !)) (look ! 22 refl)) (and-then ! (load ! (from ! (stop !)) (look ! 18 refl)) (and-then ! (load ! (from ! (stop !)) (look ! 32 refl)) (and-then ! (load ! (from ! (stop !)) (look ! 16 refl)) (no-more !)))))) (λ v1.
-          use1 W (later (some (λ (r : Places). ((‵ (flft (ν1-1 ∷ []) fullShare) ⊛ ‵ (flft (ν1-2 ∷ []) fullShare) ⊛ ‵ (flft (ν1-4 ∷ []) fullShare) ⊛ ‵ ftrue) ⊛ ‵ (R-Places .own r (v1 ∷ []))) ⊛ raw (ensured 𝓤 H A f1.ended (f1.clauses 𝓤 H A at-mem run) ((ν1-1 ∷ []), ((ν1-2 ∷ []), ((ν1-4 ∷ []), tt))) (n, ((lent weights δ1-1 (j .1 .0)), ((lent choices δ1-2 (j .1 .1 .0)), ((j .0), ((lent tally δ1-4 (j .1 .1 .1 .0)), tt))))) tt r)))) (id⊢ 𝓤 _) $ await ! tt $ pick ! (λ r1.
-          split ! $ move ! (1 ∷ []) $ use1 W (some (λ (zs : (Unit {0} × (Unit {0} × (List ℕ × (Unit {0} × (Tally × Unit {0})))))). ‵ (lasts f1.ended ((ν1-1 ∷ []), ((ν1-2 ∷ []), ((ν1-4 ∷ []), tt))) (n, ((lent weights δ1-1 (j .1 .0)), ((lent choices δ1-2 (j .1 .1 .0)), ((j .0), ((lent tally δ1-4 (j .1 .1 .1 .0)), tt))))) zs) ⊛ raw (fact 𝓤 (((zs .1 .1 .0) ≡ set (j .1 .1 .0) (j .0) (choiceOf n (j .1 .0) (j .1 .1 .1 .0) .number)) × (counted (zs .1 .1 .1 .1 .0) ≡ choiceOf n (j .1 .0) (j .1 .1 .1 .0) .tally) × (r1 ≡ placesAt n (choiceOf n (j .1 .0) (j .1 .1 .1 .0) .number)))))) (id⊢ 𝓤 _) $ pick ! (λ zs1.
+          use1 W (later (some (λ (r : Places). ((‵ (flft (ν1-1 ∷ []) fullShare) ⊛ ‵ (flft (ν1-2 ∷ []) fullShare) ⊛ ‵ (flft (ν1-4 ∷ []) fullShare) ⊛ ‵ ftrue) ⊛ ‵ (R-Places .own r (v1 ∷ []))) ⊛ raw (ensured 𝓤 H A f1.ended (f1.clauses 𝓤 H A at-mem run) ((ν1-1 ∷ []), ((ν1-2 ∷ []), ((ν1-4 ∷ []), tt))) (n, ((renamed weights δ1-1 (j .1 .0)), ((renamed choices δ1-2 (j .1 .1 .0)), ((j .0), ((renamed tally δ1-4 (j .1 .1 .1 .0)), tt))))) tt r)))) (id⊢ 𝓤 _) $ await ! tt $ pick ! (λ r1.
+          split ! $ move ! (1 ∷ []) $ use1 W (some (λ (zs : (Unit {0} × (Unit {0} × (List ℕ × (Unit {0} × (Tally × Unit {0})))))). ‵ (lasts f1.ended ((ν1-1 ∷ []), ((ν1-2 ∷ []), ((ν1-4 ∷ []), tt))) (n, ((renamed weights δ1-1 (j .1 .0)), ((renamed choices δ1-2 (j .1 .1 .0)), ((j .0), ((renamed tally δ1-4 (j .1 .1 .1 .0)), tt))))) zs) ⊛ raw (fact 𝓤 (((zs .1 .1 .0) ≡ set (j .1 .1 .0) (j .0) (choiceOf n (j .1 .0) (j .1 .1 .1 .0) .number)) × (counted (zs .1 .1 .1 .1 .0) ≡ choiceOf n (j .1 .0) (j .1 .1 .1 .0) .tally) × (r1 ≡ placesAt n (choiceOf n (j .1 .0) (j .1 .1 .1 .0) .number)))))) (id⊢ 𝓤 _) $ pick ! (λ zs1.
           split ! $ move ! (1 ∷ []) $ heard ! (((zs1 .1 .1 .0) ≡ set (j .1 .1 .0) (j .0) (choiceOf n (j .1 .0) (j .1 .1 .1 .0) .number)) × (counted (zs1 .1 .1 .1 .1 .0) ≡ choiceOf n (j .1 .0) (j .1 .1 .1 .0) .tally) × (r1 ≡ placesAt n (choiceOf n (j .1 .0) (j .1 .1 .1 .0) .number))) (λ e1. fsplit ! $ drop ! $ fsplit ! $ drop ! $ fsplit ! $ fsplit ! $ move ! (1 ∷ []) $ feqL ! (λ long1-2. move ! (1 ∷ []) $ fsplit ! $ drop ! $ fsplit ! $ move ! (1 ∷ []) $ drop ! $
           move ! (2 ∷ []) $ split ! $ move ! (1 ∷ []) $ facts ! R-Places (Is R-Places) (shows 𝓤 H A R-Places) r1 (v1 ∷ []) (λ got1. split ! $ move ! (1 ∷ []) $ split ! $ move ! (1 ∷ []) $ split ! $ move ! (1 ∷ []) $ drop ! $
           land ! (from ! (stop !)) (init ! 34 refl (LL.lawful Places-row.the-type Places-laws.the-laws 𝓤 H A W .typed r1 _ got1 .0)) $ rewrite ! 34 (λ (u : Val). ‵ (fat fullShare Places-laws.mir l6 0 u)) (ap only (LL.tells Places-row.the-type Places-laws.the-laws r1 _ got1)) refl $
-          move ! (2 ∷ []) $ lft-end ! tt $ move ! (0 ∷ 7 ∷ []) $ use2 W (later (‵ (MutSlice (named 0) κ0 u32 .own (lent weights (weights .name) (j .1 .0)) ((sliceVal (weights .ptr) (length (weights .now))) ∷ [])) ⊛ ‵ (flft κ0 q0))) (shared-back u32 κ0 (ν1-1 ∷ []) q0 (weights .name) (weights .ptr .0) (weights .ptr .1) 𝓤 H A W (named 0) (named 0) ((sliceVal (weights .ptr) (length (weights .now))) ∷ []) (j .1 .0) (ap (λ (c : ℕ). sliceVal (weights .ptr) c ∷ []) (sym ((j .1 .1 .1 .1) .long))) (subst (Room u32) (sym ((j .1 .1 .1 .1) .long)) weights-room)) $ await ! tt $ split ! $
-          move ! (3 ∷ []) $ lft-end ! tt $ move ! (0 ∷ 7 ∷ 5 ∷ []) $ use3 W (later (‵ (MutSlice (named 1) κ1 u32 .own (lent choices (choices .name) (zs1 .1 .1 .0)) ((sliceVal (choices .ptr) (length (choices .now))) ∷ [])) ⊛ ‵ (flft κ1 q1))) (again-back u32 κ1 (ν1-2 ∷ []) q1 (choices .name) (choices .ptr .0) (choices .ptr .1) 𝓤 H A W (named 1) (named 1) ((sliceVal (choices .ptr) (length (choices .now))) ∷ []) (j .1 .1 .0) δ1-2 (zs1 .1 .1 .0) (ap (λ (c : ℕ). sliceVal (choices .ptr) c ∷ []) (sym ((j .1 .1 .1 .1) .wide))) (subst (Room u32) (sym ((j .1 .1 .1 .1) .wide)) choices-room) long1-2) $ await ! tt $ split ! $
-          move ! (4 ∷ []) $ lft-end ! tt $ move ! (0 ∷ 6 ∷ 5 ∷ []) $ use3 W (later (‵ (MutRef (named 2) κ2 R-Tally .own (lent tally (tally .name) (zs1 .1 .1 .1 .1 .0)) ((vptr (tally .ptr .0) (tally .ptr .1)) ∷ [])) ⊛ ‵ (flft κ2 q2))) (comes-back 𝓤 H A W R-Tally (named 2) κ2 (ν1-4 ∷ []) q2 (tally .name) (tally .ptr .0) (tally .ptr .1) δ1-4 (j .1 .1 .1 .0) (zs1 .1 .1 .1 .1 .0)) $ await ! tt $ split ! $
+          move ! (2 ∷ []) $ lft-end ! tt $ move ! (0 ∷ 7 ∷ []) $ use2 W (later (‵ (MutSlice (named 0) κ0 u32 .own (renamed weights (weights .name) (j .1 .0)) ((sliceVal (weights .ptr) (length (weights .now))) ∷ [])) ⊛ ‵ (flft κ0 q0))) (shared-back u32 κ0 (ν1-1 ∷ []) q0 (weights .name) (weights .ptr .0) (weights .ptr .1) 𝓤 H A W (named 0) (named 0) ((sliceVal (weights .ptr) (length (weights .now))) ∷ []) (j .1 .0) (ap (λ (c : ℕ). sliceVal (weights .ptr) c ∷ []) (sym ((j .1 .1 .1 .1) .long))) (subst (Room u32) (sym ((j .1 .1 .1 .1) .long)) weights-room)) $ await ! tt $ split ! $
+          move ! (3 ∷ []) $ lft-end ! tt $ move ! (0 ∷ 7 ∷ 5 ∷ []) $ use3 W (later (‵ (MutSlice (named 1) κ1 u32 .own (renamed choices (choices .name) (zs1 .1 .1 .0)) ((sliceVal (choices .ptr) (length (choices .now))) ∷ [])) ⊛ ‵ (flft κ1 q1))) (again-back u32 κ1 (ν1-2 ∷ []) q1 (choices .name) (choices .ptr .0) (choices .ptr .1) 𝓤 H A W (named 1) (named 1) ((sliceVal (choices .ptr) (length (choices .now))) ∷ []) (j .1 .1 .0) δ1-2 (zs1 .1 .1 .0) (ap (λ (c : ℕ). sliceVal (choices .ptr) c ∷ []) (sym ((j .1 .1 .1 .1) .wide))) (subst (Room u32) (sym ((j .1 .1 .1 .1) .wide)) choices-room) long1-2) $ await ! tt $ split ! $
+          move ! (4 ∷ []) $ lft-end ! tt $ move ! (0 ∷ 6 ∷ 5 ∷ []) $ use3 W (later (‵ (MutRef (named 2) κ2 R-Tally .own (renamed tally (tally .name) (zs1 .1 .1 .1 .1 .0)) ((vptr (tally .ptr .0) (tally .ptr .1)) ∷ [])) ⊛ ‵ (flft κ2 q2))) (comes-back 𝓤 H A W R-Tally (named 2) κ2 (ν1-4 ∷ []) q2 (tally .name) (tally .ptr .0) (tally .ptr .1) δ1-4 (j .1 .1 .1 .0) (zs1 .1 .1 .1 .1 .0)) $ await ! tt $ split ! $
           -- _16 = weights, lent again
           assigns ! (addr ! (from ! (fld ! refl (hop ! (look-in ! 40 (sub ! 0 refl (whole !))) (stop !))))) (from ! (stop !)) (init ! 14 refl (tt, tt)) $
           assigns ! (agg ! (and-then ! (load ! (from ! (stop !)) (look ! 14 refl)) (and-then ! (load ! (from ! (fld ! refl (stop !))) (look-in ! 40 (sub ! 1 refl (whole !)))) (no-more !)))) (from ! (stop !)) (init ! 12 refl (tt, (tt, (record { fits = weights-room .0 }, tt)))) $
@@ -159,17 +158,17 @@ module _ {M : Type 1} (𝓤 : URA M) (H : Heap 𝓤) (A : Atoms 𝓤) (W : Given
           -- _19 = tally, lent again
           assigns ! (addr ! (from ! (hop ! (look ! 36 refl) (stop !)))) (from ! (stop !)) (init ! 6 refl (tt, tt)) $
           -- clear
-          lft-new ! tt (λ ν2-1. move ! (5 ∷ 6 ∷ []) $ use2 W (later (some (λ (δ : GName). ‵ (MutSlice (named 0) (ν2-1 ∷ []) u32 .own (lent weights δ (j .1 .0)) ((sliceVal (weights .ptr) (length (weights .now))) ∷ [])) ⊛ ‵ (LentAgain u32 κ0 (ν2-1 ∷ []) q0 (weights .name) (weights .ptr .0) (weights .ptr .1) δ (j .1 .0))))) (again-out u32 κ0 (ν2-1 ∷ []) q0 (weights .name) (weights .ptr .0) (weights .ptr .1) 𝓤 H A W (named 0) (named 0) ((sliceVal (weights .ptr) (length (weights .now))) ∷ []) (j .1 .0)) $ await ! tt $ pick ! (λ δ2-1. split ! $
-          lft-new ! tt (λ ν2-4. move ! (4 ∷ 5 ∷ []) $ use2 W (later (some (λ (δ : GName). ‵ (MutRef (named 2) (ν2-4 ∷ []) R-Tally .own (lent tally δ (zs1 .1 .1 .1 .1 .0)) ((vptr (tally .ptr .0) (tally .ptr .1)) ∷ [])) ⊛ ‵ (LentRef R-Tally κ2 (ν2-4 ∷ []) q2 (tally .name) (tally .ptr .0) (tally .ptr .1) δ (zs1 .1 .1 .1 .1 .0))))) (lends-again 𝓤 H A W R-Tally (named 2) κ2 (ν2-4 ∷ []) q2 (tally .name) (tally .ptr .0) (tally .ptr .1) (named 2) (zs1 .1 .1 .1 .1 .0)) $ await ! tt $ pick ! (λ δ2-4. split ! $
+          lft-new ! tt (λ ν2-1. move ! (5 ∷ 6 ∷ []) $ use2 W (later (some (λ (δ : GName). ‵ (MutSlice (named 0) (ν2-1 ∷ []) u32 .own (renamed weights δ (j .1 .0)) ((sliceVal (weights .ptr) (length (weights .now))) ∷ [])) ⊛ ‵ (LentAgain u32 κ0 (ν2-1 ∷ []) q0 (weights .name) (weights .ptr .0) (weights .ptr .1) δ (j .1 .0))))) (again-out u32 κ0 (ν2-1 ∷ []) q0 (weights .name) (weights .ptr .0) (weights .ptr .1) 𝓤 H A W (named 0) (named 0) ((sliceVal (weights .ptr) (length (weights .now))) ∷ []) (j .1 .0)) $ await ! tt $ pick ! (λ δ2-1. split ! $
+          lft-new ! tt (λ ν2-4. move ! (4 ∷ 5 ∷ []) $ use2 W (later (some (λ (δ : GName). ‵ (MutRef (named 2) (ν2-4 ∷ []) R-Tally .own (renamed tally δ (zs1 .1 .1 .1 .1 .0)) ((vptr (tally .ptr .0) (tally .ptr .1)) ∷ [])) ⊛ ‵ (LentRef R-Tally κ2 (ν2-4 ∷ []) q2 (tally .name) (tally .ptr .0) (tally .ptr .1) δ (zs1 .1 .1 .1 .1 .0))))) (lends-again 𝓤 H A W R-Tally (named 2) κ2 (ν2-4 ∷ []) q2 (tally .name) (tally .ptr .0) (tally .ptr .1) (named 2) (zs1 .1 .1 .1 .1 .0)) $ await ! tt $ pick ! (λ δ2-4. split ! $
           move ! (5 ∷ 2 ∷ 3 ∷ 0 ∷ []) $ cut (asked-2 n n-fits ν2-1 δ2-1 (j .1 .0) r1 (subst (Is R-Places r1) (LL.tells Places-row.the-type Places-laws.the-laws r1 _ got1) got1) (((length (choices .now)) - (j .0)) - 1) (less-fits ((length (choices .now)) - (j .0)) 1 (less-fits (length (choices .now)) (j .0) (choices-room .0))) ν2-4 δ2-4 (zs1 .1 .1 .1 .1 .0)) (raw (F2 𝓤 H A at-mem run .pre (to-2 n n-fits ν2-1 δ2-1 (j .1 .0) r1 (subst (Is R-Places r1) (LL.tells Places-row.the-type Places-laws.the-laws r1 _ got1) got1) (((length (choices .now)) - (j .0)) - 1) (less-fits ((length (choices .now)) - (j .0)) 1 (less-fits (length (choices .now)) (j .0) (choices-room .0))) ν2-4 δ2-4 (zs1 .1 .1 .1 .1 .0))) ∷ []) _ (goes-2 n n-fits ν2-1 δ2-1 (j .1 .0) r1 (subst (Is R-Places r1) (LL.tells Places-row.the-type Places-laws.the-laws r1 _ got1) got1) (((length (choices .now)) - (j .0)) - 1) (less-fits ((length (choices .now)) - (j .0)) 1 (less-fits (length (choices .now)) (j .0) (choices-room .0))) ν2-4 δ2-4 (zs1 .1 .1 .1 .1 .0) (asks-clear _ _ _ _ pre _ _ _ _ (j .1 .1 .1 .1) more _ _ _ e1)) $
           calls-at ! fm (F2 𝓤 H A at-mem run) known-f2 (to-2 n n-fits ν2-1 δ2-1 (j .1 .0) r1 (subst (Is R-Places r1) (LL.tells Places-row.the-type Places-laws.the-laws r1 _ got1) got1) (((length (choices .now)) - (j .0)) - 1) (less-fits ((length (choices .now)) - (j .0)) 1 (less-fits (length (choices .now)) (j .0) (choices-room .0))) ν2-4 δ2-4 (zs1 .1 .1 .1 .1 .0)) (and-then ! (load ! (from ! (stop !)) (look ! 41 refl)) (and-then ! (load ! (from ! (stop !)) (look ! 11 refl)) (and-then ! (load ! (from ! (stop !)) (look ! 31 refl)) (and-then ! (load ! (from ! (stop !)) (look ! 7 refl)) (and-then ! (load ! (from ! (stop !)) (look ! 5 refl)) (no-more !)))))) (λ v2.
-          use1 W (later (some (λ (r : Unit {0}). ((‵ (flft (ν2-1 ∷ []) fullShare) ⊛ ‵ (flft (ν2-4 ∷ []) fullShare) ⊛ ‵ ftrue) ⊛ ‵ (Nothing .own r (v2 ∷ []))) ⊛ raw (ensured 𝓤 H A f2.ended (f2.clauses 𝓤 H A at-mem run) ((ν2-1 ∷ []), ((ν2-4 ∷ []), tt)) (n, ((lent weights δ2-1 (j .1 .0)), (r1, ((((length (choices .now)) - (j .0)) - 1), ((lent tally δ2-4 (zs1 .1 .1 .1 .1 .0)), tt))))) tt r)))) (id⊢ 𝓤 _) $ await ! tt $ pick ! (λ r2.
-          split ! $ move ! (1 ∷ []) $ use1 W (some (λ (zs : (Unit {0} × (List ℕ × (Unit {0} × (Unit {0} × (Tally × Unit {0})))))). ‵ (lasts f2.ended ((ν2-1 ∷ []), ((ν2-4 ∷ []), tt)) (n, ((lent weights δ2-1 (j .1 .0)), (r1, ((((length (choices .now)) - (j .0)) - 1), ((lent tally δ2-4 (zs1 .1 .1 .1 .1 .0)), tt))))) zs) ⊛ raw (fact 𝓤 (((zs .1 .0) ≡ Rounds.clearBefore (((length (choices .now)) - (j .0)) - 1) (subsetAt n r1) (subsets 3 n) (j .1 .0)) × (counted (zs .1 .1 .1 .1 .0) ≡ Rounds.clearingBefore (((length (choices .now)) - (j .0)) - 1) (subsets 3 n) (counted (zs1 .1 .1 .1 .1 .0))))))) (id⊢ 𝓤 _) $ pick ! (λ zs2.
+          use1 W (later (some (λ (r : Unit {0}). ((‵ (flft (ν2-1 ∷ []) fullShare) ⊛ ‵ (flft (ν2-4 ∷ []) fullShare) ⊛ ‵ ftrue) ⊛ ‵ (Nothing .own r (v2 ∷ []))) ⊛ raw (ensured 𝓤 H A f2.ended (f2.clauses 𝓤 H A at-mem run) ((ν2-1 ∷ []), ((ν2-4 ∷ []), tt)) (n, ((renamed weights δ2-1 (j .1 .0)), (r1, ((((length (choices .now)) - (j .0)) - 1), ((renamed tally δ2-4 (zs1 .1 .1 .1 .1 .0)), tt))))) tt r)))) (id⊢ 𝓤 _) $ await ! tt $ pick ! (λ r2.
+          split ! $ move ! (1 ∷ []) $ use1 W (some (λ (zs : (Unit {0} × (List ℕ × (Unit {0} × (Unit {0} × (Tally × Unit {0})))))). ‵ (lasts f2.ended ((ν2-1 ∷ []), ((ν2-4 ∷ []), tt)) (n, ((renamed weights δ2-1 (j .1 .0)), (r1, ((((length (choices .now)) - (j .0)) - 1), ((renamed tally δ2-4 (zs1 .1 .1 .1 .1 .0)), tt))))) zs) ⊛ raw (fact 𝓤 (((zs .1 .0) ≡ Rounds.clearBefore (((length (choices .now)) - (j .0)) - 1) (subsetAt n r1) (subsets 3 n) (j .1 .0)) × (counted (zs .1 .1 .1 .1 .0) ≡ Rounds.clearingBefore (((length (choices .now)) - (j .0)) - 1) (subsets 3 n) (counted (zs1 .1 .1 .1 .1 .0))))))) (id⊢ 𝓤 _) $ pick ! (λ zs2.
           split ! $ move ! (1 ∷ []) $ heard ! (((zs2 .1 .0) ≡ Rounds.clearBefore (((length (choices .now)) - (j .0)) - 1) (subsetAt n r1) (subsets 3 n) (j .1 .0)) × (counted (zs2 .1 .1 .1 .1 .0) ≡ Rounds.clearingBefore (((length (choices .now)) - (j .0)) - 1) (subsets 3 n) (counted (zs1 .1 .1 .1 .1 .0)))) (λ e2. fsplit ! $ drop ! $ fsplit ! $ fsplit ! $ move ! (1 ∷ []) $ feqL ! (λ long2-1. move ! (1 ∷ []) $ fsplit ! $ drop ! $ fsplit ! $ drop ! $ fsplit ! $ move ! (1 ∷ []) $ drop ! $
           move ! (2 ∷ []) $ split ! $ move ! (1 ∷ []) $ feqL ! (λ got2. split ! $ move ! (1 ∷ []) $ split ! $ move ! (1 ∷ []) $ drop ! $
           land ! (from ! (stop !)) (init ! 18 refl (subst (λ (y : Val). Holds (hasTy tyUnit y) × WT y) (sym (ap only got2)) (tt, tt))) $
-          move ! (1 ∷ []) $ lft-end ! tt $ move ! (0 ∷ 5 ∷ 3 ∷ []) $ use3 W (later (‵ (MutSlice (named 0) κ0 u32 .own (lent weights (weights .name) (zs2 .1 .0)) ((sliceVal (weights .ptr) (length (weights .now))) ∷ [])) ⊛ ‵ (flft κ0 q0))) (again-back u32 κ0 (ν2-1 ∷ []) q0 (weights .name) (weights .ptr .0) (weights .ptr .1) 𝓤 H A W (named 0) (named 0) ((sliceVal (weights .ptr) (length (weights .now))) ∷ []) (j .1 .0) δ2-1 (zs2 .1 .0) (ap (λ (c : ℕ). sliceVal (weights .ptr) c ∷ []) (sym ((j .1 .1 .1 .1) .long))) (subst (Room u32) (sym ((j .1 .1 .1 .1) .long)) weights-room) long2-1) $ await ! tt $ split ! $
-          move ! (2 ∷ []) $ lft-end ! tt $ move ! (0 ∷ 4 ∷ 3 ∷ []) $ use3 W (later (‵ (MutRef (named 2) κ2 R-Tally .own (lent tally (tally .name) (zs2 .1 .1 .1 .1 .0)) ((vptr (tally .ptr .0) (tally .ptr .1)) ∷ [])) ⊛ ‵ (flft κ2 q2))) (comes-back 𝓤 H A W R-Tally (named 2) κ2 (ν2-4 ∷ []) q2 (tally .name) (tally .ptr .0) (tally .ptr .1) δ2-4 (zs1 .1 .1 .1 .1 .0) (zs2 .1 .1 .1 .1 .0)) $ await ! tt $ split ! $
+          move ! (1 ∷ []) $ lft-end ! tt $ move ! (0 ∷ 5 ∷ 3 ∷ []) $ use3 W (later (‵ (MutSlice (named 0) κ0 u32 .own (renamed weights (weights .name) (zs2 .1 .0)) ((sliceVal (weights .ptr) (length (weights .now))) ∷ [])) ⊛ ‵ (flft κ0 q0))) (again-back u32 κ0 (ν2-1 ∷ []) q0 (weights .name) (weights .ptr .0) (weights .ptr .1) 𝓤 H A W (named 0) (named 0) ((sliceVal (weights .ptr) (length (weights .now))) ∷ []) (j .1 .0) δ2-1 (zs2 .1 .0) (ap (λ (c : ℕ). sliceVal (weights .ptr) c ∷ []) (sym ((j .1 .1 .1 .1) .long))) (subst (Room u32) (sym ((j .1 .1 .1 .1) .long)) weights-room) long2-1) $ await ! tt $ split ! $
+          move ! (2 ∷ []) $ lft-end ! tt $ move ! (0 ∷ 4 ∷ 3 ∷ []) $ use3 W (later (‵ (MutRef (named 2) κ2 R-Tally .own (renamed tally (tally .name) (zs2 .1 .1 .1 .1 .0)) ((vptr (tally .ptr .0) (tally .ptr .1)) ∷ [])) ⊛ ‵ (flft κ2 q2))) (comes-back 𝓤 H A W R-Tally (named 2) κ2 (ν2-4 ∷ []) q2 (tally .name) (tally .ptr .0) (tally .ptr .1) δ2-4 (zs1 .1 .1 .1 .1 .0) (zs2 .1 .1 .1 .1 .0)) $ await ! tt $ split ! $
           assigns-last ! (bin ! (load ! (from ! (stop !)) (look ! 34 refl)) (lit ! tt) (record { fits = next-fits more })) (from ! (stop !)) (store ! 34 refl (tt, record { fits = next-fits more })) $
           forget ! 32 refl $ forget ! 30 refl $ forget ! 28 refl $ forget ! 26 refl $ forget ! 24 refl $ forget ! 22 refl $ forget ! 20 refl $ forget ! 18 refl $ forget ! 16 refl $ forget ! 14 refl $ forget ! 12 refl $ forget ! 10 refl $ forget ! 8 refl $ forget ! 6 refl $
           keep ! (6 ∷ 7 ∷ 8 ∷ 9 ∷ 10 ∷ 11 ∷ 12 ∷ 13 ∷ 14 ∷ 15 ∷ 16 ∷ 17 ∷ 18 ∷ 19 ∷ 20 ∷ 21 ∷ 22 ∷ 23 ∷ 24 ∷ 25 ∷ 26 ∷ 27 ∷ 28 ∷ 29 ∷ 30 ∷ 31 ∷ 32 ∷ 33 ∷ 34 ∷ 35 ∷ 36 ∷ 37 ∷ 38 ∷ 39 ∷ 40 ∷ 41 ∷ 42 ∷ 43 ∷ 44 ∷ 45 ∷ 2 ∷ 4 ∷ 0 ∷ 3 ∷ 5 ∷ 1 ∷ []) $ again ! Nearer At j (j .0 + 1, ((zs2 .1 .0), ((zs1 .1 .1 .0), ((zs2 .1 .1 .1 .1 .0), next _ _ _ _ pre _ _ _ _ (j .1 .1 .1 .1) more _ _ _ e1 _ _ e2)))) (nearer more)))))))))))))))))))))))

@@ -1,0 +1,2 @@
+-- `Written`: a loop that writes records into a lent table.
+pub mod Written
