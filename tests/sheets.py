@@ -150,4 +150,5 @@ def main():
     close()
 
 
-main()
+if __name__ == '__main__':
+    main()

@@ -1,4 +1,4 @@
--- The weight of a pair's donor for its own patient is not read. Assumes nothing.
+-- Planning reads the entries of two different pairs of the pool, and no others: not the weight of a pair's donor for its own patient. Assumes nothing.
 use Prim.Native.Nat.{ℕ, _+_, _*_, _≤_, _<_}
 use mathlib.Core.Bool.{Bool, true, false, cond}
 use mathlib.Core.List.{List, [], _∷_, _++_, map}
@@ -64,20 +64,28 @@ module _ (g h : List ℕ → ℕ) where
   heaviest-agree [] k = refl
   heaviest-agree (c ∷ cs) k = firstOf-agree c cs (k .0) (k .1)
 
--- ---- weights w and v that are equal for different pairs
+-- ---- compatibilities m and k, and weights w and v, that are equal for different pairs
 
-module _ (n : ℕ) (m w v : ℕ → ℕ → ℕ) (agree : (i j : ℕ) → i < n → j < n → (i ≡ j → ⊥) → w i j ≡ v i j) where
+module _ (n : ℕ) (m k w v : ℕ → ℕ → ℕ) (alike : (i j : ℕ) → i < n → j < n → (i ≡ j → ⊥) → m i j ≡ k i j)
+    (agree : (i j : ℕ) → i < n → j < n → (i ≡ j → ⊥) → w i j ≡ v i j) where
+  product-agree : (es : List Edge) → Each (Inside n) es → Each BetweenTwo es → productOf m es ≡ productOf k es
+  unfolding productOf
+  product-agree [] h b = refl
+  product-agree (e ∷ es) h b = ap₂ _*_ (alike (e .donor) (e .patient) (h .0 .0) (h .0 .1) (b .0)) (product-agree es (h .1) (b .1))
+
   sum-agree : (es : List Edge) → Each (Inside n) es → Each BetweenTwo es → sumOf w es ≡ sumOf v es
   unfolding sumOf
-  sum-agree [] h k = refl
-  sum-agree (e ∷ es) h k = ap₂ _+_ (agree (e .donor) (e .patient) (h .0 .0) (h .0 .1) (k .0)) (sum-agree es (h .1) (k .1))
+  sum-agree [] h b = refl
+  sum-agree (e ∷ es) h b = ap₂ _+_ (agree (e .donor) (e .patient) (h .0 .0) (h .0 .1) (b .0)) (sum-agree es (h .1) (b .1))
 
-  weigh-agree : (c : List ℕ) → 2 ≤ length c → NoneTwice c → AllBelow n c → weigh m w c ≡ weigh m v c
+  weigh-agree : (c : List ℕ) → 2 ≤ length c → NoneTwice c → AllBelow n c → weigh m w c ≡ weigh k v c
   unfolding weigh
-  weigh-agree c k o b =
-      ap (λ (z : ℕ). productOf m (edges c) * z) (sum-agree (edges c) (edges-inside n c (below-pool n c b)) (edges-between c k o))
+  weigh-agree c l o b =
+      let inside : Each (Inside n) (edges c) = edges-inside n c (below-pool n c b) in
+      let between : Each BetweenTwo (edges c) = edges-between c l o in
+      ap₂ _*_ (product-agree (edges c) inside between) (sum-agree (edges c) inside between)
 
-  total-agree : (l : ℕ) (cs : List (List ℕ)) → Each (Exchange l n m) cs → total m w cs ≡ total m v cs
+  pub total-agree : (l : ℕ) (cs : List (List ℕ)) → Each (Exchange l n m) cs → total m w cs ≡ total k v cs
   unfolding total
   total-agree l [] h = refl
   total-agree l (c ∷ cs) h =
@@ -85,49 +93,49 @@ module _ (n : ℕ) (m w v : ℕ → ℕ → ℕ) (agree : (i j : ℕ) → i < n 
 
   module _ (f l : ℕ) (s : List ℕ) (sh : Seated n s) where
     -- a cycle of a subset's places
-    score-agree : (c t : List ℕ) → Subset l n t → Alike c t → weigh m w (pairsAt s c) ≡ weigh m v (pairsAt s c)
+    score-agree : (c t : List ℕ) → Subset l n t → Alike c t → weigh m w (pairsAt s c) ≡ weigh k v (pairsAt s c)
     unfolding pairsAt
     score-agree c t h a =
-        let b : AllBelow n c = λ p k. omega (arith, a p, h .below p k) in
+        let b : AllBelow n c = λ p l. omega (arith, a p, h .below p l) in
         weigh-agree (pairsAt s c) (omega (arith, length-map c (λ (p : ℕ). getD s p 0), alike-length n c t (h .below) a, h .least))
         (λ p. omega (arith, pairs-times n s sh c b p, a (firstAt p s), h .once (firstAt p s))) (pairs-below n s sh c b)
 
-    best-agree : (t : List ℕ) → Subset l n t → bestCycle m w s t ≡ bestCycle m v s t
+    best-agree : (t : List ℕ) → Subset l n t → bestCycle m w s t ≡ bestCycle k v s t
     unfolding bestCycle
-    best-agree t h = heaviest-agree (λ c. weigh m w (pairsAt s c)) (λ c. weigh m v (pairsAt s c)) (cycles t)
-        (each-mono (λ (c : List ℕ). Alike c t) (λ (c : List ℕ). weigh m w (pairsAt s c) ≡ weigh m v (pairsAt s c))
+    best-agree t h = heaviest-agree (λ c. weigh m w (pairsAt s c)) (λ c. weigh k v (pairsAt s c)) (cycles t)
+        (each-mono (λ (c : List ℕ). Alike c t) (λ (c : List ℕ). weigh m w (pairsAt s c) ≡ weigh k v (pairsAt s c))
         (λ c a. score-agree c t h a) (cycles t) (each-cycle t))
 
-    weight-agree : (t : List ℕ) → Subset l n t → subsetWeight m w s t ≡ subsetWeight m v s t
+    weight-agree : (t : List ℕ) → Subset l n t → subsetWeight m w s t ≡ subsetWeight k v s t
     unfolding subsetWeight
     weight-agree t h =
-        ap (λ (c : List ℕ). weigh m w (pairsAt s c)) (best-agree t h) ∙ score-agree (bestCycle m v s t) t h (bestCycle-alike m v s t)
+        ap (λ (c : List ℕ). weigh m w (pairsAt s c)) (best-agree t h) ∙ score-agree (bestCycle k v s t) t h (bestCycle-alike k v s t)
 
-    weights-agree : (ss : List (List ℕ)) → Each (Subset l n) ss → map (subsetWeight m w s) ss ≡ map (subsetWeight m v s) ss
+    weights-agree : (ss : List (List ℕ)) → Each (Subset l n) ss → map (subsetWeight m w s) ss ≡ map (subsetWeight k v s) ss
     weights-agree [] h = refl
     weights-agree (t ∷ ss) h = ap₂ _∷_ (weight-agree t (h .0)) (weights-agree ss (h .1))
 
-    best-at : (c : ℕ) → bestCycle m w s (getD (subsets l n) c []) ≡ bestCycle m v s (getD (subsets l n) c [])
+    best-at : (c : ℕ) → bestCycle m w s (getD (subsets l n) c []) ≡ bestCycle k v s (getD (subsets l n) c [])
     unfolding bestCycle cycles heaviest
-    best-at = each-at (λ (t : List ℕ). bestCycle m w s t ≡ bestCycle m v s t) (subsets l n) refl
-        (each-mono (Subset l n) (λ (t : List ℕ). bestCycle m w s t ≡ bestCycle m v s t) best-agree (subsets l n) (subsets-all l n))
+    best-at = each-at (λ (t : List ℕ). bestCycle m w s t ≡ bestCycle k v s t) (subsets l n) refl
+        (each-mono (Subset l n) (λ (t : List ℕ). bestCycle m w s t ≡ bestCycle k v s t) best-agree (subsets l n) (subsets-all l n))
 
-    resolved-agree : (cs : List ℕ) → resolved m w s (subsets l n) cs ≡ resolved m v s (subsets l n) cs
+    resolved-agree : (cs : List ℕ) → resolved m w s (subsets l n) cs ≡ resolved k v s (subsets l n) cs
     unfolding resolved
     resolved-agree [] = refl
     resolved-agree (c ∷ cs) =
         ap₂ (λ (b : List ℕ) (r : List (List ℕ)). cond (ltb c (length (subsets l n))) (pairsAt s b ∷ r) r) (best-at c) (resolved-agree cs)
 
-    left-agree : leftBy f l n m w s ≡ leftBy f l n m v s
+    pub left-agree : leftBy f l n m w s ≡ leftBy f l n k v s
     unfolding leftBy
     left-agree =
         ap (λ (ws : List ℕ). rounds f (roundCount n) (subsets l n) ws (evaluating (subsets l n) (tally 0 0 0)))
         (weights-agree (subsets l n) (subsets-all l n))
 
-    planned-agree : plannedBy f l n m w s ≡ plannedBy f l n m v s
+    pub planned-agree : plannedBy f l n m w s ≡ plannedBy f l n k v s
     unfolding plannedBy
     planned-agree =
-        resolved-agree (leftBy f l n m w s .choices) ∙ ap (λ (r : Left). resolved m v s (subsets l n) (r .choices)) left-agree
+        resolved-agree (leftBy f l n m w s .choices) ∙ ap (λ (r : Left). resolved k v s (subsets l n) (r .choices)) left-agree
 
 -- ---- the same answer
 
@@ -163,6 +171,6 @@ diagonal-unread n M W W′ s t e agree =
         let sh : Seated n s = seated n s (k .long .shuffle) (k .eachOnce) in
         let set = planned-set 0 3 n m v s sh (k .compatible .zeroOrOne) in
         ap₂ (λ (cs : List (List ℕ)) (r : Left). ends n t none (total m w cs) cs r)
-        (planned-agree n m w v agree 0 3 s sh) (left-agree n m w v agree 0 3 s sh)
+        (planned-agree n m m w v (λ i j a b d. refl) agree 0 3 s sh) (left-agree n m m w v (λ i j a b d. refl) agree 0 3 s sh)
         ∙ ap (λ (x : ℕ). ends n t none x (plannedBy 0 3 n m v s) (leftBy 0 3 n m v s))
-        (total-agree n m w v agree 3 (plannedBy 0 3 n m v s) (set .exchanges))
+        (total-agree n m m w v (λ i j a b d. refl) agree 3 (plannedBy 0 3 n m v s) (set .exchanges))

@@ -111,7 +111,7 @@ module _ (f l n : ℕ) (m w : ℕ → ℕ → ℕ) (s : List ℕ) where
   chosen-below = each-loop (AllBelow n) (λ p h. refl) (length (subsets l n)) f (Algorithm1.subsetWeight s m w) (subsets l n)
       (each-mono (Subset l n) (AllBelow n) (λ t h. h .below) (subsets l n) (subsets-all l n))
 
-  cycles-below : Each (AllBelow n) (Algorithm1.chosenCycles f l n m w s)
+  pub cycles-below : Each (AllBelow n) (Algorithm1.chosenCycles f l n m w s)
   unfolding Algorithm1.chosenCycles
   cycles-below = go (Algorithm1.looped f l n m w s .chosen) chosen-below
     where

@@ -34,7 +34,7 @@ one-most true = omega arith
 one-most false = omega arith
 
 module _ (pair : ℕ → Pair) (i j : ℕ) where
-  compatibility-most : compatibility pair i j ≤ 1
+  pub compatibility-most : compatibility pair i j ≤ 1
   unfolding compatibility
   compatibility-most = one-most _
 

@@ -1,0 +1,177 @@
+-- Tables that planning does not refuse, and what it makes of them. Assumes nothing.
+use mathlib.Core.Path.{_≡_, sym, ap, _∙_}
+use mathlib.Core.List.{List}
+use Prim.Native.Nat.{ℕ, _*_, _≤_, _<_}
+use native.Mathlib.Omega.{arith}
+use native.Mathlib.Nat.{mul-le-mul}
+use native.Mathlib.Decide.{decLe}
+use lib.ListN.{length, take}
+use Rattle.laws.specs.Lent.{filled}
+use Rattle.laws.proofs.Below.{length-table}
+use Rattle.laws.proofs.Lent.{take-filled}
+use Rattle.refusal.specs.Answer.{Outcome, outcome, finished}
+use Rattle.refusal.specs.declared.Refusal.{Refusal}
+use Rattle.refusal.proofs.Faults.{unless-none, finished-none}
+use Rattle.exchange.specs.Subsets.{subsets, subsetCount, entry}
+use Rattle.exchange.specs.Resolution.{total, donorTable, recipientTable}
+use Rattle.exchange.specs.Planning.{Lent, Plan, plan, leftBy, plannedBy, filledLent, planning}
+use Rattle.exchange.specs.Faultless.{FaultlessInput}
+use Rattle.exchange.proofs.Checked.{answers-rightly}
+use Rattle.exchange.proofs.Seated.{Seated}
+use Rattle.exchange.proofs.Planned.{planned-set}
+use Rattle.exchange.proofs.Diagonal.{left-agree, planned-agree, total-agree}
+use Rattle.cursor.proofs.Number.{six-times}
+use Rattle.printout.specs.Printed as Printed
+use Rattle.printout.specs.Printed.{planText}
+use Rattle.printout.specs.Calls.{printingPlan}
+use Rattle.printout.specs.Said.{said}
+use Rattle.printout.specs.Steps.{Hold}
+use Rattle.printout.specs.Promises.{planRoom, PrintsPlan}
+use Rattle.printout.specs.declared.Printing.{Printing}
+use Rattle.printout.specs.declared.Printing.the-variants as Printing
+use Rattle.printout.specs.declared.Printing.the-variants.{Length}
+use Rattle.planner.specs.Said.{planIn, answerOf}
+use Rattle.planner.specs.declared.Planned.{Planned}
+use Rattle.planner.specs.declared.Planning.{Planning}
+use Rattle.planner.specs.declared.Planning.the-variants.{Made, Refused}
+use Rattle.answering.specs.Answering.{most, planBy, putting}
+use Rattle.answering.specs.Steps.{FaultlessTables, cyclesOf, resultOf, Partnered}
+use Rattle.answering.proofs.Texts.{plan-printed, plan-surely}
+
+-- ## Tables for 40 pairs
+
+pub square-most : (n : ℕ) → n ≤ most → n * n ≤ 1600
+square-most n l = mul-le-mul l l
+
+-- the subsets of at most 40 places
+pub subsets-most : (n : ℕ) → n ≤ most → subsetCount n ≤ 10660
+subsets-most n l = elim (decLe n 39) [
+  | yes k ↦ let cube : n * n * n ≤ 59319 = mul-le-mul (mul-le-mul k k) k in omega (arith, six-times n)
+  | no k ↦ let cube : n * n * n ≤ 64000 = mul-le-mul (mul-le-mul l l) l in omega (arith, six-times n)
+]
+
+module _ (n : ℕ) (M W s : List ℕ) (p : FaultlessTables n M W s) (t : Lent) where
+  -- lent tables for 40 pairs
+  pub record Roomy : Type 0 where
+    pub weights : 10660 ≤ length (t .weights)
+    pub choices : 20 ≤ length (t .choices)
+    pub donors : n ≤ length (t .donors)
+    pub recipients : n ≤ length (t .recipients)
+    pub records : 20 ≤ length (t .records)
+
+  module _ (r : Roomy) where
+    accepted : FaultlessInput n M W s t
+    accepted =
+        record {
+          few = omega (arith, p .few);
+          long =
+              record {
+                compatibility = p .compatibilities;
+                points = p .weights;
+                shuffle = p .shuffle;
+                weights = omega (arith, subsets-most n (p .few), r .weights);
+                choices = omega (arith, p .few, r .choices);
+                donors = r .donors;
+                recipients = r .recipients;
+                records = omega (arith, p .few, r .records);
+              };
+          eachOnce = p .eachOnce;
+          compatible = p .compatible;
+        }
+
+    -- a plan is made
+    pub planned-is : planning n M W s t
+        ≡ outcome (finished (resultOf n M W s))
+        (filledLent n (leftBy 0 3 n (entry M n) (entry W n) s) (cyclesOf n M W s) t)
+    unfolding planning
+    planned-is = unless-none _ _ _ _ (finished-none _ _ _ _ (answers-rightly n M W s t .accepts accepted .1) .0)
+
+    -- ## The call, by its answer
+
+    module _ (a : Planning) (u : Lent) (e : outcome (answerOf a) u ≡ planning n M W s t) where
+      outcome-is : outcome (answerOf a) u
+          ≡ outcome (finished (resultOf n M W s)) (filledLent n (leftBy 0 3 n (entry M n) (entry W n) s) (cyclesOf n M W s) t)
+      outcome-is = e ∙ planned-is
+
+      answer-is : answerOf a ≡ finished (resultOf n M W s)
+      answer-is = ap (λ (o : Outcome Plan Lent). o .answer) outcome-is
+
+      pub never-refused : {A : Type 0} (why : Refusal) → a ≡ Refused why → A
+      unfolding answerOf
+      never-refused why g =
+          let h = rw g at answer-is in
+          let z : _≡_ {A = ℕ} 0 1 = cc in
+          absurd (omega arith)
+
+      pub partnered : (q : Planned) → a ≡ Made q → Partnered n M W s (t .donors) (t .recipients) (planIn q) (u .donors) (u .recipients)
+      unfolding answerOf filledLent
+      partnered q h =
+          let i = rw h at answer-is in
+          record {
+            result = cc;
+            donors = ap (λ (o : Outcome Plan Lent). o .lent .donors) outcome-is;
+            recipients = ap (λ (o : Outcome Plan Lent). o .lent .recipients) outcome-is;
+          }
+
+-- ## The entries of two different pairs are read, and no others
+
+module _ (n : ℕ) (m k w v : ℕ → ℕ → ℕ) (s : List ℕ) (sh : Seated n s) (bits : (i j : ℕ) → i < n → j < n → m i j ≤ 1)
+    (alike : (i j : ℕ) → i < n → j < n → m i j ≡ k i j) (agree : (i j : ℕ) → i < n → j < n → w i j ≡ v i j) where
+  pub plan-agree : (ids : List ℕ) → planBy n ids m w s ≡ planBy n ids k v s
+  unfolding planBy
+  plan-agree ids =
+      let a : (i j : ℕ) → i < n → j < n → (i ≡ j → ⊥) → m i j ≡ k i j = λ i j h l _. alike i j h l in
+      let b : (i j : ℕ) → i < n → j < n → (i ≡ j → ⊥) → w i j ≡ v i j = λ i j h l _. agree i j h l in
+      let left : leftBy 0 3 n m w s ≡ leftBy 0 3 n k v s = left-agree n m k w v a b 0 3 s sh in
+      let cs : plannedBy 0 3 n m w s ≡ plannedBy 0 3 n k v s = planned-agree n m k w v a b 0 3 s sh in
+      let sum : total m w (plannedBy 0 3 n m w s) ≡ total k v (plannedBy 0 3 n k v s) =
+      total-agree n m k w v a b 3 _ (planned-set 0 3 n m w s sh bits .exchanges) ∙ ap (total k v) cs in
+      λ i. Printed.plan n (length (cs i)) (sum i) ids (donorTable n (cs i)) (recipientTable n (cs i)) (left i .tally .comparisons)
+      (left i .tally .products) (left i .tally .rounds)
+
+-- ## The printed plan
+
+-- what is filled into a table's start stands there
+filled-start : (n : ℕ) (new old : List ℕ) → length new ≡ n → take n (filled new old) ≡ new
+filled-start n new old e = ap (λ (k : ℕ). take k (filled new old)) (sym e) ∙ take-filled new old
+
+module _ (n : ℕ) (M W s a b : List ℕ) (q : Planned) (d r : List ℕ) (w : Partnered n M W s a b (planIn q) d r) where
+  first-donors : take n d ≡ donorTable n (cyclesOf n M W s)
+  unfolding donorTable
+  first-donors = ap (take n) (w .donors) ∙ filled-start n (donorTable n (cyclesOf n M W s)) a (length-table n _)
+
+  first-recipients : take n r ≡ recipientTable n (cyclesOf n M W s)
+  unfolding recipientTable
+  first-recipients = ap (take n) (w .recipients) ∙ filled-start n (recipientTable n (cyclesOf n M W s)) b (length-table n _)
+
+  length-donors : n ≡ length (take n d)
+  unfolding donorTable
+  length-donors = sym (ap length first-donors ∙ length-table n _)
+
+  length-recipients : n ≡ length (take n r)
+  unfolding recipientTable
+  length-recipients = sym (ap length first-recipients ∙ length-table n _)
+
+  module _ (few : n ≤ most) (ids : List ℕ) (held : n ≤ length ids) where
+    abbrev madePlan : Printed.Plan
+    madePlan =
+        Printed.plan n (q .cycles) (q .weight) ids (take n d) (take n r) (q .tally .comparisons) (q .tally .products) (q .tally .rounds)
+
+    made-is : madePlan ≡ planBy n ids (entry M n) (entry W n) s
+    unfolding planBy
+    made-is i =
+        let p : Plan = w .result i in
+        Printed.plan n (p .cycles) (p .weight) ids (first-donors i) (first-recipients i) (p .tally .comparisons) (p .tally .products) (p .tally .rounds)
+
+    module _ (out new : List ℕ) (l : length out ≡ planRoom most) (x : Printing) (e : outcome (said x) new ≡ printingPlan madePlan out)
+        (u : PrintsPlan madePlan (length out) (said x)) where
+      hold : Hold n ids (take n d) (take n r)
+      hold = record { ids = held; donors = omega (arith, length-donors); recipients = omega (arith, length-recipients) }
+
+      pub made-printed : (k : ℕ) → x ≡ Length k
+          → outcome (finished k) new ≡ putting (planText (planBy n ids (entry M n) (entry W n) s)) out
+      made-printed k g =
+          plan-printed out new l x madePlan e u hold few k g ∙ ap (λ (p : Printed.Plan). putting (planText p) out) made-is
+
+      pub made-surely : {A : Type 0} (why : Refusal) → x ≡ Printing.Refused why → A
+      made-surely = plan-surely out new l x madePlan e u hold few

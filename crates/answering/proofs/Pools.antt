@@ -1,0 +1,103 @@
+-- What was read is built, and what is built is planned. Assumes nothing.
+use mathlib.Core.Path.{_≡_, refl, sym, ap, ap₂, _∙_}
+use mathlib.Core.List.{List}
+use Prim.Native.Nat.{ℕ, _≤_, _<_}
+use native.Mathlib.Omega.{arith}
+use lib.ListN.{length, getD, take}
+use lib.Seq.{length-take-le, getD-take}
+use Rattle.laws.specs.Below.{table}
+use Rattle.laws.proofs.Below.{length-table, getD-table, table-cong, table-getD}
+use Rattle.refusal.specs.Answer.{finished}
+use Rattle.refusal.specs.declared.Refusal.{Refusal}
+use Rattle.pool.specs.Pool.{Pair}
+use Rattle.pool.specs.Tables.{Tables, pairIn}
+use Rattle.pool.specs.Faultless.{EachOnce, Faultless}
+use Rattle.pool.proofs.Pairs.{faultless-cong}
+use Rattle.weighing.specs.Compatibility.{compatibility}
+use Rattle.weighing.specs.Weight.{documentPoints, weight}
+use Rattle.weighing.specs.Building.{Graph}
+use Rattle.weighing.specs.Promises as Weighing
+use Rattle.weighing.specs.Said as Weighing·Said
+use Rattle.weighing.proofs.Promised.{compatibility-most}
+use Rattle.weighing.specs.declared.Building.{Building}
+use Rattle.weighing.specs.declared.Building.the-variants.{Refused}
+use Rattle.exchange.specs.Subsets.{entry}
+use Rattle.exchange.specs.Faultless.{Compatibility}
+use Rattle.exchange.proofs.Seated.{Seated, seated}
+use Rattle.answering.specs.Answering.{planBy, planOf}
+use Rattle.answering.specs.Steps.{Read, FaultlessTables}
+use Rattle.answering.proofs.Plans.{square-most, plan-agree}
+
+-- ## The first n entries of a table
+
+pub taken : (n : ℕ) (l : List ℕ) → n ≤ length l → take n l ≡ table n (λ i. getD l i 0)
+taken n l h = sym (table-getD 0 (take n l) n (λ i. getD l i 0) (length-take-le n l h) (λ i k. sym (getD-take n l i 0 k)))
+
+-- ## A faultless pool
+
+module _ (n : ℕ) (pair : ℕ → Pair) (s : ℕ → ℕ) (w : Faultless n pair s) where
+  pub each-once : EachOnce n (λ j. getD (table n s) j 0)
+  each-once = faultless-cong n pair pair s _ (λ i l. refl) (λ j l. sym (getD-table n s 0 j l)) w .eachOnce
+
+  pub shuffle-seated : Seated n (table n s)
+  shuffle-seated = seated n (table n s) (omega (arith, length-table n s)) each-once
+
+  -- its plan depends on its n pairs alone
+  pub same-plan : (other : ℕ → Pair) (t : ℕ → ℕ) → ((i : ℕ) → i < n → pair i ≡ other i) → table n s ≡ table n t → planOf n pair s ≡ planOf n other t
+  unfolding planOf compatibility weight
+  same-plan other t h g =
+      plan-agree n (compatibility pair) (compatibility other) (weight documentPoints pair) (weight documentPoints other) (table n s) shuffle-seated
+      (λ i j _ _. compatibility-most pair i j) (λ i j a b. rw (h i a, h j b)) (λ i j a b. rw (h i a, h j b)) (table n (λ i. pair i .id))
+      ∙ ap₂ (λ (ids shuffle : List ℕ). planBy n ids (compatibility other) (weight documentPoints other) shuffle)
+      (table-cong n _ _ (λ i l. ap (λ (q : Pair). q .id) (h i l))) g
+
+-- ## What was read is built
+
+module _ (n : ℕ) (t : Tables) (p : Read n t) (old : Graph) (room : (1600 ≤ length (old .compatibilities)) × (1600 ≤ length (old .weights))) (a : Building) (new : Graph)
+    (w : Weighing.BuildsRightly n (t .fields) old (Weighing·Said.said a) new) where
+  surely : Weighing·Said.said a ≡ finished tt
+  surely =
+      w .accepts
+      (record {
+        few = omega (arith, p .few);
+        hold = p .faultless .hold .fields;
+        inRange = p .faultless .pool .inRange;
+        unlike = p .faultless .pool .unlike;
+      })
+      (record { compatibilities = omega (arith, square-most n (p .few), room .0); weights = omega (arith, square-most n (p .few), room .1) })
+
+  pub never-unbuilt : {A : Type 0} (why : Refusal) → a ≡ Refused why → A
+  unfolding Weighing·Said.said
+  never-unbuilt why g =
+      let h = rw g at surely in
+      let z : _≡_ {A = ℕ} 0 1 = cc in
+      absurd (omega arith)
+
+  -- ## What is built is planned
+
+  compatible : Compatibility n (new .compatibilities)
+  unfolding entry
+  compatible = let q = w .plannable surely in record { zeroOrOne = q .zeroOrOne; own = q .ownCompatibility }
+
+  pub plannable : (1600 ≤ length (new .compatibilities)) × (1600 ≤ length (new .weights)) → FaultlessTables n (new .compatibilities) (new .weights) (take n (t .shuffle))
+  plannable h =
+      let held : n ≤ length (t .shuffle) = p .faultless .hold .shuffle in
+      record {
+        few = p .few;
+        compatibilities = omega (arith, square-most n (p .few), h .0);
+        weights = omega (arith, square-most n (p .few), h .1);
+        shuffle = omega (arith, length-take-le n (t .shuffle) held);
+        eachOnce = rw (taken n (t .shuffle) held) (each-once n _ _ (p .faultless .pool));
+        compatible = compatible;
+      }
+
+  -- its plan is the pool's
+  pub plan-is : planBy n (take n (t .fields .ids)) (entry (new .compatibilities) n) (entry (new .weights) n) (take n (t .shuffle))
+      ≡ planOf n (pairIn (t .fields)) (λ j. getD (t .shuffle) j 0)
+  unfolding planOf pairIn entry
+  plan-is =
+      let e = w .built surely in
+      ap₂ (λ (ids shuffle : List ℕ). planBy n ids (entry (new .compatibilities) n) (entry (new .weights) n) shuffle)
+      (taken n (t .fields .ids) (p .faultless .hold .fields .ids)) (taken n (t .shuffle) (p .faultless .hold .shuffle))
+      ∙ plan-agree n (entry (new .compatibilities) n) (compatibility (pairIn (t .fields))) (entry (new .weights) n)
+      (weight documentPoints (pairIn (t .fields))) _ (shuffle-seated n _ _ (p .faultless .pool)) (compatible .zeroOrOne) (e .compatibilities) (e .weights) _

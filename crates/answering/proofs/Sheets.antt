@@ -1,0 +1,93 @@
+-- The answer to a sheet, by what reading found. Assumes nothing.
+use mathlib.Core.Path.{_≡_, sym, ap, ap₂, _∙_}
+use mathlib.Core.List.{List}
+use Prim.Native.Nat.{ℕ, _≤_}
+use native.Mathlib.Omega.{arith}
+use lib.ListN.{length, getD}
+use Rattle.refusal.specs.Fault.{Fault, _then_}
+use Rattle.refusal.specs.Answer.{Outcome, outcome, finished, refused}
+use Rattle.refusal.specs.Number.{numberOf}
+use Rattle.refusal.specs.declared.Refusal.{Refusal}
+use Rattle.refusal.proofs.Faults.{finished-none, refused-fault}
+use Rattle.pool.specs.Pool.{Pool}
+use Rattle.pool.specs.Sheet.{pairsIn, pairAt, shuffleAt, poolOf}
+use Rattle.pool.specs.Tables.{Tables, room, pairIn, poolIn, filledTables}
+use Rattle.pool.specs.Turned.{sheetFault, roomFault}
+use Rattle.pool.specs.Calls.{reading}
+use Rattle.pool.specs.Faultless.{Hold, FaultlessSheet, FaultlessPool}
+use Rattle.pool.proofs.Rooms.{hold-room}
+use Rattle.pool.proofs.Reading.{reading-none, reading-passed}
+use Rattle.pool.proofs.RoundTrip.{pair-in-filled, faultless-filled, pool-in-filled}
+use Rattle.reader.specs.Said.{said}
+use Rattle.reader.specs.declared.Reading.{Reading}
+use Rattle.reader.specs.declared.Reading.the-variants.{Pairs, Refused}
+use Rattle.printout.specs.Printed.{planText, refusalText}
+use Rattle.answering.specs.Answering.{most, planOf, orRefusal, answerText, putting, answering}
+use Rattle.answering.specs.Steps.{Read}
+use Rattle.answering.proofs.Texts.{put-fits}
+use Rattle.answering.proofs.Pools.{same-plan}
+
+module _ (b : List ℕ) (t left : Tables) (r : Reading) (e : outcome (said r) left ≡ reading b t) (room-is : room t ≡ most) where
+  answer-read : said r ≡ reading b t .answer
+  answer-read = ap (λ (o : Outcome ℕ Tables). o .answer) e
+
+  -- ## Refused
+
+  refused-text : (k o : ℕ) → reading b t .answer ≡ refused k o → answerText b ≡ refusalText k o
+  unfolding answerText orRefusal reading
+  refused-text k o g =
+      ap (λ (f : Fault). orRefusal f (planText (planOf (pairsIn b) (pairAt b) (shuffleAt b (pairsIn b)))))
+      (ap (λ (x : ℕ). sheetFault b then roomFault x (pairsIn b)) (sym room-is) ∙ refused-fault _ _ _ _ g)
+
+  pub refused-answer : (out new : List ℕ) (why : Refusal) (o k : ℕ) → r ≡ Refused why o → outcome (finished k) new ≡ putting (refusalText (numberOf why) o) out
+      → outcome (finished k) new ≡ answering b out
+  unfolding said answering
+  refused-answer out new why o k g h = h ∙ ap (λ (x : List ℕ). putting x out) (sym (refused-text (numberOf why) o (sym answer-read ∙ rw g)))
+
+  -- ## Accepted
+
+  module _ (n : ℕ) (g : r ≡ Pairs n) where
+    finished-is : reading b t .answer ≡ finished n
+    unfolding said
+    finished-is = sym answer-read ∙ rw g
+
+    passed : (n ≡ pairsIn b) × FaultlessSheet b × Hold n t
+    passed = reading-passed b t n finished-is
+
+    holds : Hold (pairsIn b) t
+    holds = rw (← passed .0) (passed .2)
+
+    left-is : left ≡ filledTables (poolOf b) t
+    left-is = ap (λ (o : Outcome ℕ Tables). o .lent) (e ∙ reading-none b t (passed .1) holds)
+
+    filled-faultless : FaultlessPool (pairsIn b) (filledTables (poolOf b) t)
+    unfolding poolOf
+    filled-faultless = faultless-filled (pairsIn b) (pairAt b) (shuffleAt b (pairsIn b)) t holds (passed .1 .pool)
+
+    pub read-accepted : Read n left
+    read-accepted =
+        record { few = omega (arith, hold-room n t (passed .2), room-is); faultless = rw (left-is, passed .0) filled-faultless }
+
+    accepted-text : answerText b ≡ planText (planOf (pairsIn b) (pairAt b) (shuffleAt b (pairsIn b)))
+    unfolding answerText orRefusal reading
+    accepted-text =
+        ap (λ (f : Fault). orRefusal f (planText (planOf (pairsIn b) (pairAt b) (shuffleAt b (pairsIn b)))))
+        (ap (λ (x : ℕ). sheetFault b then roomFault x (pairsIn b)) (sym room-is) ∙ finished-none _ _ _ _ finished-is .0)
+
+    -- the plan of the tables that were filled is the plan of the sheet
+    plan-read : planOf n (pairIn (left .fields)) (λ j. getD (left .shuffle) j 0) ≡ planOf (pairsIn b) (pairAt b) (shuffleAt b (pairsIn b))
+    unfolding poolOf poolIn filledTables
+    plan-read =
+        ap₂ (λ (k : ℕ) (x : Tables). planOf k (pairIn (x .fields)) (λ j. getD (x .shuffle) j 0)) (passed .0) left-is
+        ∙ same-plan (pairsIn b) _ _ (filled-faultless .pool) (pairAt b) (shuffleAt b (pairsIn b)) (pair-in-filled (pairsIn b) (pairAt b) (t .fields))
+        (ap (λ (p : Pool). p .shuffle) (pool-in-filled (pairsIn b) (pairAt b) (shuffleAt b (pairsIn b)) t))
+
+    pub accepted-answer : (out new : List ℕ) (k : ℕ) → outcome (finished k) new ≡ putting (planText (planOf n (pairIn (left .fields)) (λ j. getD (left .shuffle) j 0))) out
+        → outcome (finished k) new ≡ answering b out
+    unfolding answering
+    accepted-answer out new k h = h ∙ ap (λ (x : List ℕ). putting x out) (ap planText plan-read ∙ sym accepted-text)
+
+-- the answer's length is within the buffer
+pub answer-fits : (b out new : List ℕ) (k : ℕ) → outcome (finished k) new ≡ answering b out → k ≤ length new
+unfolding answering
+answer-fits b out new = put-fits (answerText b) out new

@@ -1,0 +1,66 @@
+-- A text that is surely printed fills the buffer's start. Assumes nothing.
+use mathlib.Core.Path.{_≡_, sym, ap, _∙_}
+use mathlib.Core.List.{List, _++_}
+use Prim.Native.Nat.{ℕ, _≤_}
+use native.Mathlib.Omega.{arith}
+use lib.ListN.{length, drop, length-append}
+use Rattle.laws.specs.Lent.{filled}
+use Rattle.refusal.specs.Fault.{Fault}
+use Rattle.refusal.specs.Answer.{Answer, Outcome, outcome, finished, unless}
+use Rattle.refusal.proofs.Faults.{unless-none, finished-none}
+use Rattle.refusal.specs.declared.Refusal.{Refusal}
+use Rattle.printout.specs.Printed.{Plan, planText, refusalText}
+use Rattle.printout.specs.Calls.{printingPlan, printingRefusal}
+use Rattle.printout.specs.Said.{said}
+use Rattle.printout.specs.Steps.{Hold}
+use Rattle.printout.specs.Promises.{planRoom, PrintsPlan, PrintsRefusal}
+use Rattle.printout.proofs.Answered.{never-refused}
+use Rattle.printout.specs.declared.Printing.{Printing}
+use Rattle.printout.specs.declared.Printing.the-variants.{Length, Refused}
+use Rattle.answering.specs.Answering.{most, putting}
+
+-- an answer of printing that is surely the text's length
+module _ (f : Fault) (text out new : List ℕ) (r : Printing) (e : outcome (said r) new ≡ unless f (length text) (filled text out) out)
+    (sure : said r ≡ finished (length text)) where
+  faultless : unless f (length text) (filled text out) out ≡ putting text out
+  faultless =
+      unless-none f _ _ out
+      (finished-none f _ _ out (sym (ap (λ (o : Outcome ℕ (List ℕ)). o .answer) e) ∙ sure) .0)
+
+  pub printed : (k : ℕ) → r ≡ Length k → outcome (finished k) new ≡ putting text out
+  unfolding said
+  printed k g = ap (λ (p : Printing). outcome (said p) new) (sym g) ∙ e ∙ faultless
+
+-- a buffer of 1,458 bytes has room for a refusal, and for a plan of at most 40 pairs
+module _ (out new : List ℕ) (l : length out ≡ planRoom most) (r : Printing) where
+  module _ (number place : ℕ) (e : outcome (said r) new ≡ printingRefusal number place out) (w : PrintsRefusal number place (length out) (said r)) where
+    refusal-sure : said r ≡ finished (length (refusalText number place))
+    refusal-sure = w .prints (omega arith)
+
+    pub refusal-printed : (k : ℕ) → r ≡ Length k → outcome (finished k) new ≡ putting (refusalText number place) out
+    unfolding printingRefusal
+    refusal-printed = printed _ (refusalText number place) out new r e refusal-sure
+
+    pub refusal-surely : {A : Type 0} (why : Refusal) → r ≡ Refused why → A
+    refusal-surely = never-refused r refusal-sure
+
+  module _ (p : Plan) (e : outcome (said r) new ≡ printingPlan p out) (w : PrintsPlan p (length out) (said r))
+      (h : Hold (p .pairs) (p .ids) (p .donors) (p .recipients)) (few : p .pairs ≤ most) where
+    plan-sure : said r ≡ finished (length (planText p))
+    plan-sure = w .prints (h, omega arith)
+
+    pub plan-printed : (k : ℕ) → r ≡ Length k → outcome (finished k) new ≡ putting (planText p) out
+    unfolding printingPlan
+    plan-printed = printed _ (planText p) out new r e plan-sure
+
+    pub plan-surely : {A : Type 0} (why : Refusal) → r ≡ Refused why → A
+    plan-surely = never-refused r plan-sure
+
+-- what was put into a buffer is no longer than it
+pub put-fits : (text out new : List ℕ) (k : ℕ) → outcome (finished k) new ≡ putting text out → k ≤ length new
+unfolding filled
+put-fits text out new k e =
+    let answers : _≡_ {A = Answer ℕ} (finished k) (finished (length text)) = ap (λ (o : Outcome ℕ (List ℕ)). o .answer) e in
+    let size : k ≡ length text = cc in
+    let whole : length new ≡ length (text ++ drop (length text) out) = ap (λ (o : Outcome ℕ (List ℕ)). length (o .lent)) e in
+    omega (arith, size, whole, length-append text (drop (length text) out))

@@ -1,0 +1,96 @@
+use borrow.Author.Needs.{needs}
+use Prim.Native.Nat.{_≤_}
+use mathlib.Core.Path.{sym, ap, _∙_}
+use native.Mathlib.Omega.{arith}
+use lib.Dec.{lit≤}
+use lib.ListN.{length, replicate}
+use lib.Seq.{length-take-le}
+use Rattle.pool.specs.Tables.{Tables, fields, tables}
+use Rattle.weighing.specs.Building.{Graph, graph}
+use Rattle.printout.specs.Printed.{Plan, planText}
+use Rattle.answering.specs.Answering.{putting}
+use Rattle.answering.proofs.Pools.{never-unbuilt, plannable, plan-is}
+use Rattle.answering.proofs.print_pool.Statement.{statement}
+use Rattle.answering.proofs.print_pool.Tie as tie
+
+abbrev pool : tie.Start → Tables
+pool s =
+    tables
+    (fields (s .args .ids .now) (s .args .donor-blood .now) (s .args .patient-blood .now) (s .args .donor-age .now) (s .args .patient-age .now)
+    (s .args .donor-antigens .now) (s .args .patient-antigens .now) (s .args .patient-antibodies .now)) (s .args .shuffle .now)
+
+-- the tables to be built
+abbrev empty : Graph
+empty = graph (replicate 1600 0) (replicate 1600 0)
+
+roomy : (1600 ≤ length (empty .compatibilities)) × (1600 ≤ length (empty .weights))
+roomy = (lit≤ tt, lit≤ tt)
+
+slice-aggregate-build : tie.Need-slice-aggregate-build
+slice-aggregate-build c = search needs
+
+slice-aggregate-build-2 : tie.Need-slice-aggregate-build-2
+slice-aggregate-build-2 c = search needs
+
+build-requires : tie.Need-build-requires
+build-requires c κs = search needs
+
+enum-told : tie.Need-enum-told
+enum-told c = search needs
+
+slice-aggregate-print-planned : tie.Need-slice-aggregate-print-planned
+slice-aggregate-print-planned c =
+    let s = c .before .before .before .before .before .before .before .before .before .before .before .before .before .before .before .before .before in
+    sym (length-take-le (s .args .n) (s .args .ids .now) (s .pre .faultless .hold .fields .ids))
+
+slice-aggregate-print-planned-2 : tie.Need-slice-aggregate-print-planned-2
+slice-aggregate-print-planned-2 c = search needs
+
+slice-aggregate-print-planned-3 : tie.Need-slice-aggregate-print-planned-3
+slice-aggregate-print-planned-3 c = search needs
+
+slice-aggregate-print-planned-4 : tie.Need-slice-aggregate-print-planned-4
+slice-aggregate-print-planned-4 c =
+    let s = c .before .before .before .before .before .before .before .before .before .before .before .before .before .before .before .before .before .before .before .before in
+    sym (length-take-le (s .args .n) (s .args .shuffle .now) (s .pre .faultless .hold .shuffle))
+
+print-planned-requires : tie.Need-print-planned-requires
+print-planned-requires c κs =
+    let s = c .before .before .before .before .before .before .before .before .before .before .before .before .before .before .before .before .before .before .before .before .before in
+    let b = c .before .before .before .before .before .before .before .before .before .build in (
+      plannable (s .args .n) (pool s) (s .pre) empty roomy (b .result) _ (b .ensures .1)
+          (omega (arith, b .kept .1 .1 .1 .1 .1 .1 .1 .1 .1 .0), omega (arith, b .kept .1 .1 .1 .1 .1 .1 .1 .1 .1 .1 .0)),
+      omega (arith, length-take-le (s .args .n) (s .args .ids .now) (s .pre .faultless .hold .fields .ids)),
+    )
+
+enum-told-2 : tie.Need-enum-told-2
+enum-told-2 c = search needs
+
+returns : tie.Need-returns
+returns c =
+    let s = c .before .before .before .before .before .before .before .before .before .before .before .before .before .before .before .before .before .before .before .before .before .before in
+    let b = c .before .before .before .before .before .before .before .before .before .before .build in
+    c .print-planned .ensures ∙ ap (λ (x : Plan). putting (planText x) (s .args .out .now)) (plan-is (s .args .n) (pool s) (s .pre) empty roomy (b .result) _ (b .ensures .1))
+
+returns-2 : tie.Need-returns-2
+returns-2 c =
+    let s = c .before .before .before .before .before .before .before .before .before .before .before .before .before .before .before .before in
+    let b = c .before .before .before .before .build in
+    never-unbuilt (s .args .n) (pool s) (s .pre) empty roomy (b .result) _ (b .ensures .1) _ (c .enum-told2 .given .1)
+
+pub print-pool-spec : {M : Type 1} → statement M
+print-pool-spec =
+    tie.close
+    (tie.spec
+    slice-aggregate-build
+    slice-aggregate-build-2
+    build-requires
+    enum-told
+    slice-aggregate-print-planned
+    slice-aggregate-print-planned-2
+    slice-aggregate-print-planned-3
+    slice-aggregate-print-planned-4
+    print-planned-requires
+    enum-told-2
+    returns
+    returns-2)

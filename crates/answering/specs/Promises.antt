@@ -1,0 +1,79 @@
+-- What is promised of answering, as statements: the proofs are in `proofs/`. Assumes nothing.
+use Prim.Native.Nat.{ℕ, _*_, _≤_}
+use mathlib.Core.Path.{_≡_}
+use mathlib.Core.List.{List, [], _∷_, _++_, map}
+use lib.ListN.{length, getD, replicate}
+use Rattle.laws.specs.Below.{table}
+use Rattle.refusal.specs.Answer.{finished}
+use Rattle.pool.specs.Pool.{Pair}
+use Rattle.pool.specs.Sheet.{pairsIn, pairAt, shuffleAt}
+use Rattle.pool.specs.Tables.{Fields}
+use Rattle.pool.specs.Faultless.{EachOnce, Faultless, FaultlessSheet}
+use Rattle.weighing.specs.Compatibility.{compatibility}
+use Rattle.weighing.specs.Weight.{documentPoints, weight}
+use Rattle.weighing.specs.Building.{Graph, building}
+use Rattle.greedy.specs.Tally.{tally}
+use Rattle.exchange.specs.Subsets.{pairsAt}
+use Rattle.exchange.specs.Resolution.{total}
+use Rattle.exchange.specs.Planning.{Lent, Plan, planning}
+use Rattle.exchange.specs.Algorithm1 as Algorithm1
+use Rattle.exchange.specs.Faultless.{LongEnough}
+use Rattle.exchange.specs.Rivals.{ExchangeSet}
+use Rattle.exchange.specs.Promises.{TallyOf}
+use Rattle.printout.specs.Printed as Printed
+use Rattle.printout.specs.Printed.{bytesOf, planText}
+use Rattle.answering.specs.Answering.{most, planOf, answerText}
+
+-- tables that were built are planned, with any shuffle and any tables that are long enough: they have no fault 10
+abbrev pub BuiltIsPlanned : Type 0
+BuiltIsPlanned =
+    (n : ℕ) (f : Fields) (old g : Graph) (s : List ℕ) (t : Lent)
+    → building documentPoints n f old .answer ≡ finished tt
+    → g ≡ building documentPoints n f old .lent
+    → EachOnce n (λ j. getD s j 0)
+    → LongEnough n (g .compatibilities) (g .weights) s t
+    → (p : Plan) × (planning n (g .compatibilities) (g .weights) s t .answer ≡ finished p)
+
+-- every sheet of at most 40 pairs with none of the listed faults is answered by the plan of its pool
+abbrev pub PlanAnswered : Type 0
+PlanAnswered =
+    (b : List ℕ)
+    → FaultlessSheet b
+    → pairsIn b ≤ most
+    → answerText b ≡ planText (planOf (pairsIn b) (pairAt b) (shuffleAt b (pairsIn b)))
+
+-- ## Demands 2 and 3, for the plan p that is printed of n pairs and their shuffle s, with M(i, j) and W(i, j) of those pairs
+
+pub record PlanGuarantee (n : ℕ) (pair : ℕ → Pair) (s : List ℕ) (p : Printed.Plan) : Type 0 where
+  -- the planned cycles: "executable, no pair is in two of them"
+  pub planned : List (List ℕ)
+  pub exchanges : ExchangeSet 3 n (compatibility pair) planned
+  pub number : p .cycles ≡ length planned
+  pub weighs : p .weight ≡ total (compatibility pair) (weight documentPoints pair) planned
+  -- "three times the plan's weight is at least the weight of every other set of executable 2- and 3-cycles sharing no pair"
+  pub factor :
+      (cs : List (List ℕ))
+      → ExchangeSet 3 n (compatibility pair) cs
+      → total (compatibility pair) (weight documentPoints pair) cs ≤ 3 * p .weight
+  -- "every such tally is"
+  pub counts : TallyOf n (tally (p .comparisons) (p .products) (p .rounds))
+  -- "The plan equals that of Algorithm 1, in each pair's donor and recipient", and in its cycles
+  pub cycles : planned ≡ map (pairsAt s) (Algorithm1.chosenCycles 0 3 n (compatibility pair) (weight documentPoints pair) s)
+  pub donors : p .donors ≡ Algorithm1.donors n s (Algorithm1.chosenCycles 0 3 n (compatibility pair) (weight documentPoints pair) s)
+  pub recipients : p .recipients ≡ Algorithm1.recipients n s (Algorithm1.chosenCycles 0 3 n (compatibility pair) (weight documentPoints pair) s)
+
+abbrev pub PlansGuaranteed : Type 0
+PlansGuaranteed = (n : ℕ) (pair : ℕ → Pair) (s : ℕ → ℕ) → Faultless n pair s → PlanGuarantee n pair (table n s) (planOf n pair s)
+
+-- ## Document 01's example
+
+-- a pair's field: the id's last byte, blood of donor and patient, and zeros
+abbrev pub examplePair : ℕ → ℕ → ℕ → List ℕ
+examplePair id donor patient = (2 ∷ 0 ∷ 32 ∷ 0 ∷ 0 ∷ 0 ∷ id ∷ donor ∷ patient ∷ 0 ∷ 0 ∷ []) ++ replicate 24 0
+
+-- "01 0004 0001 0002; 02 0020 0000000B 01 02 00 00 and 24 zero bytes; 02 0020 0000000C 02 01 00 00 and 24 zero bytes; 03 0004 0000 0001"
+abbrev pub exampleSheet : List ℕ
+exampleSheet = (1 ∷ 0 ∷ 4 ∷ 0 ∷ 1 ∷ 0 ∷ 2 ∷ []) ++ (examplePair 11 1 2 ++ (examplePair 12 2 1 ++ (3 ∷ 0 ∷ 4 ∷ 0 ∷ 0 ∷ 0 ∷ 1 ∷ [])))
+
+abbrev pub ExampleAnswered : Type 0
+ExampleAnswered = answerText exampleSheet ≡ bytesOf "PLAN 2 1 2900\n11 12 12\n12 11 11\nCOUNTS 1 6 1\n"

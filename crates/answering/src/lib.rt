@@ -1,0 +1,181 @@
+// A sheet answered (document 01, 'Writer and printout'): it is read, its tables are built, its pool is planned, and the plan is printed; or the
+// refusal of reading is printed. Nothing else refuses: what reading accepts can be built, what is built can be planned, and the buffer holds every
+// text. So the branches for other refusals are never taken, and that is proved.
+use planner::Planned;
+use planner::Planning;
+use printout::Printing;
+use reader::Reading;
+use refusal::Refusal;
+use weighing::Building;
+ghost use mathlib.Core.Path.{_≡_};
+ghost use Prim.Native.Nat.{_≤_};
+ghost use lib.ListN.{getD, length};
+ghost use Rattle.refusal.specs.Answer.{finished, outcome};
+ghost use Rattle.refusal.specs.Number.{numberOf};
+ghost use Rattle.pool.specs.Tables.{fields, tables, pairIn};
+ghost use Rattle.exchange.specs.Subsets.{entry};
+ghost use Rattle.printout.specs.Printed.{planText, refusalText};
+ghost use Rattle.planner.specs.Said.{planIn};
+ghost use Rattle.answering.specs.Answering.{planBy, planOf, putting, answering};
+ghost use Rattle.answering.specs.Steps.{Read, FaultlessTables, Partnered};
+
+// The plan of n pairs with these tables, which planning does not refuse, and its partners.
+fn plan_tables(
+    n: usize,
+    m: &[u8],
+    w: &[u16],
+    shuffle: &[u16],
+    donors: &mut [u16],
+    recipients: &mut [u16],
+) -> Planned
+    requires { ⌜ FaultlessTables n (now m) (now w) (now shuffle) × (n ≤ length (now donors)) × (n ≤ length (now recipients)) ⌝ }
+    ensures { λ r. ⌜ Partnered n (now (m .entry)) (now (w .entry)) (now (shuffle .entry)) (now (donors .entry)) (now (recipients .entry)) (planIn r) (now (donors .exit)) (now (recipients .exit)) ⌝ }
+{
+    let mut weights = [0u32; 10660];
+    let mut choices = [0u32; 20];
+    let work = planner::plan_by_value(
+        n,
+        m,
+        w,
+        shuffle,
+        &mut weights,
+        &mut choices,
+        donors,
+        recipients,
+        20,
+    );
+    let planning = work.planning;
+    match planning {
+        Planning::Made(made) => made,
+        Planning::Refused(_) => Planned {
+            weight: 0,
+            cycles: 0,
+            tally: gates::Tally {
+                comparisons: 0,
+                products: 0,
+                rounds: 0,
+            },
+        },
+    }
+}
+
+// Prints the plan of n pairs with these ids and tables, and gives the text's length.
+fn print_planned(
+    n: usize,
+    ids: &[u32],
+    m: &[u8],
+    w: &[u16],
+    shuffle: &[u16],
+    out: &mut [u8; 1458],
+) -> usize
+    requires { ⌜ FaultlessTables n (now m) (now w) (now shuffle) × (n ≤ length (now ids)) ⌝ }
+    ensures { λ r. ⌜ outcome (finished r) (now (out .exit)) ≡ putting (planText (planBy n (now (ids .entry)) (entry (now (m .entry)) n) (entry (now (w .entry)) n) (now (shuffle .entry)))) (now (out .entry)) ⌝ }
+{
+    let mut donors = [0u16; 40];
+    let mut recipients = [0u16; 40];
+    let made = plan_tables(n, m, w, shuffle, &mut donors, &mut recipients);
+    match printout::print_plan(
+        n,
+        made.cycles,
+        made.weight,
+        ids,
+        &donors[..n],
+        &recipients[..n],
+        made.tally.comparisons,
+        made.tally.products,
+        made.tally.rounds,
+        out,
+    ) {
+        Printing::Length(length) => length,
+        Printing::Refused(_) => 0,
+    }
+}
+
+// Builds the tables of the pool in the first n entries of its fields, plans it, and prints the plan.
+fn print_pool(
+    n: usize,
+    ids: &[u32],
+    donor_blood: &[u8],
+    patient_blood: &[u8],
+    donor_age: &[u8],
+    patient_age: &[u8],
+    donor_antigens: &[u64],
+    patient_antigens: &[u64],
+    patient_antibodies: &[u64],
+    shuffle: &[u16],
+    out: &mut [u8; 1458],
+) -> usize
+    requires { ⌜ Read n (tables (fields (now ids) (now «donor_blood») (now «patient_blood») (now «donor_age») (now «patient_age») (now «donor_antigens») (now «patient_antigens») (now «patient_antibodies»)) (now shuffle)) ⌝ }
+    ensures { λ r. ⌜ outcome (finished r) (now (out .exit)) ≡ putting (planText (planOf n (pairIn (fields (now (ids .entry)) (now («donor_blood» .entry)) (now («patient_blood» .entry)) (now («donor_age» .entry)) (now («patient_age» .entry)) (now («donor_antigens» .entry)) (now («patient_antigens» .entry)) (now («patient_antibodies» .entry)))) (λ j. getD (now (shuffle .entry)) j 0))) (now (out .entry)) ⌝ }
+{
+    let mut m = [0u8; 1600];
+    let mut w = [0u16; 1600];
+    match weighing::build(
+        n,
+        ids,
+        donor_blood,
+        patient_blood,
+        donor_age,
+        patient_age,
+        donor_antigens,
+        patient_antigens,
+        patient_antibodies,
+        &mut m,
+        &mut w,
+    ) {
+        Building::Built => print_planned(n, &ids[..n], &m, &w, &shuffle[..n], out),
+        Building::Refused(_) => 0,
+    }
+}
+
+// Prints a refusal, and gives the text's length.
+fn print_refused(why: Refusal, place: usize, out: &mut [u8; 1458]) -> usize
+    ensures { λ r. ⌜ outcome (finished r) (now (out .exit)) ≡ putting (refusalText (numberOf why) place) (now (out .entry)) ⌝ }
+{
+    match printout::print_refusal(why, place, out) {
+        Printing::Length(length) => length,
+        Printing::Refused(_) => 0,
+    }
+}
+
+// Prints the answer to a sheet: the plan of its pool, or the refusal. Gives the text's length.
+pub fn answer(sheet: &[u8], out: &mut [u8; 1458]) -> usize
+    ensures { λ r. ⌜ outcome (finished r) (now (out .exit)) ≡ answering (now (sheet .entry)) (now (out .entry)) ⌝ }
+{
+    let mut ids = [0u32; 40];
+    let mut donor_blood = [0u8; 40];
+    let mut patient_blood = [0u8; 40];
+    let mut donor_age = [0u8; 40];
+    let mut patient_age = [0u8; 40];
+    let mut donor_antigens = [0u64; 40];
+    let mut patient_antigens = [0u64; 40];
+    let mut patient_antibodies = [0u64; 40];
+    let mut shuffle = [0u16; 40];
+    match reader::read(
+        sheet,
+        &mut ids,
+        &mut donor_blood,
+        &mut patient_blood,
+        &mut donor_age,
+        &mut patient_age,
+        &mut donor_antigens,
+        &mut patient_antigens,
+        &mut patient_antibodies,
+        &mut shuffle,
+    ) {
+        Reading::Refused(why, place) => print_refused(why, place, out),
+        Reading::Pairs(n) => print_pool(
+            n,
+            &ids,
+            &donor_blood,
+            &patient_blood,
+            &donor_age,
+            &patient_age,
+            &donor_antigens,
+            &patient_antigens,
+            &patient_antibodies,
+            &shuffle,
+            out,
+        ),
+    }
+}
