@@ -1,5 +1,6 @@
-"""The planner in Rust that trial/ has, written from document 01 alone: its own tests, and its plans of the pools that the program `pools` plans, which
-must be what crates/pools/stdout has, byte for byte."""
+"""The planner in Rust that trial/ has, written from document 01 alone: its own tests; its plans of the pools that the program `pools` plans, which must
+be what crates/pools/stdout has, byte for byte; and the library run beside it on random, damaged and faulty input. Links the archive that tests/c.py
+makes."""
 import pathlib
 import re
 import subprocess
@@ -9,22 +10,31 @@ from closing import check, close
 top = pathlib.Path(__file__).resolve().parent.parent
 
 
-def cargo(*words):
-    return subprocess.run(['cargo', *words], cwd=top / 'trial', capture_output=True, text=True)
+def cargo(folder, *words):
+    return subprocess.run(['cargo', *words], cwd=top / folder, capture_output=True, text=True)
 
 
-tests = cargo('test', '--release', '--offline')
+tests = cargo('trial', 'test', '--release', '--offline')
 results = re.findall(r'^test (\S+.*) \.\.\. (\w+)', tests.stdout, re.M)
 check(tests.returncode == 0, 'cargo test failed:\n' + tests.stdout[-3000:] + tests.stderr[-3000:])
 check(len(results) >= 60, f'only {len(results)} tests ran')
 for name, result in results:
     check(result == 'ok', f'{name}: {result}')
 
-plans = cargo('run', '--release', '--offline', '--quiet', '--example', 'pools')
+plans = cargo('trial', 'run', '--release', '--offline', '--quiet', '--example', 'pools')
 expected = (top / 'crates' / 'pools' / 'stdout').read_text()
 check(plans.returncode == 0, 'the example pools failed:\n' + plans.stderr[-3000:])
 for got, want in zip(plans.stdout.splitlines(), expected.splitlines()):
     check(got == want, f'the planner in Rust prints {got[:100]!r}, crates/pools/stdout has {want[:100]!r}')
 check(plans.stdout == expected, 'what the planner in Rust prints is not crates/pools/stdout')
+
+beside = cargo('trial/beside', 'run', '--release', '--offline', '--quiet')
+print(beside.stdout.rpartition('\n')[0].rpartition('\n')[0])
+check(beside.returncode == 0, 'the library beside the planner in Rust:\n' + beside.stdout[-3000:] + beside.stderr[-3000:])
+groups = {name: (int(cases), int(failures)) for name, cases, failures in re.findall(r'^(\S+): (\d+) cases, (\d+) failures', beside.stdout, re.M)}
+check(len(groups) == 14, f'{len(groups)} groups of trials ran')
+for name, (cases, failures) in groups.items():
+    check(cases > 0 and failures == 0, f'{name}: {cases} cases, {failures} failures')
+check(groups.get('damaged-sheets', (0, 0))[0] >= 100000, 'fewer than 100,000 damaged sheets')
 
 close()

@@ -1,5 +1,5 @@
 """The functions that are walked."""
-from walk import Walk, call, copy, give, lend, length, less, loop, make, put, relend, relend_ref, store, zero
+from walk import Walk, call, copy, give, lend, lend_array, length, less, let, loop, make, put, relend, relend_ref, store, zero
 
 WALKS = [
     Walk('records', 'put', 7, [
@@ -107,5 +107,38 @@ WALKS = [
         'recorded-guarantee {n} {m} {w} {shuffle} (weights .now) (choices .now) (donors .now) (recipients .now) {weights} {choices} {donors} {recipients} r1 (records .now) {records} e2 e1-2',
     ], [
         'use Rattle.planner.proofs.Recorded.{recorded, recorded-guarantee}',
+    ]),
+
+    Walk('vadivuzhen', 'vadivuzhen_plan', 21, [
+        relend(11, 12, 'weights'),
+        relend(13, 14, 'choices'),
+        relend(15, 16, 'donors'),
+        relend(17, 18, 'recipients'),
+        relend(19, 20, 'records'),
+        call(10, 'planner::plan', ['n', 'm', 'w', 'shuffle', 12, 14, 16, 18, 20]),
+        call(0, 'plan_numbers', [10]),
+        give(0),
+    ], [
+        'kept-plan (e2 .0) e1-0 e1-1 .0',
+        'kept-plan (e2 .0) e1-0 e1-1 .1',
+        'e2 .1',
+    ], [
+        'use Rattle.vadivuzhen.proofs.Told.{kept-plan}',
+    ]),
+
+    Walk('pools', 'plan', 22, [
+        call(11, 'fresh', []),
+        let(9, 11),
+        relend(12, 13, 'weights'),
+        relend(14, 15, 'choices'),
+        relend(16, 17, 'donors'),
+        relend(18, 19, 'recipients'),
+        lend_array(20, 21, 9),
+        call(10, 'planner::plan', ['n', 'm', 'w', 'shuffle', 13, 15, 17, 19, 21]),
+        let(11, 9),
+        call(0, 'together', [10, 11]),
+        give(0),
+    ], 'with-records {n} {m} {w} {shuffle} (weights .now) (choices .now) (donors .now) (recipients .now) {weights} {choices} {donors} {recipients} _ _ _ _ _ e1 e3 e2-0', [
+        'use Rattle.pools.proofs.Lent.{with-records}',
     ]),
 ]

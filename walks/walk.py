@@ -294,16 +294,16 @@ class Fn:
 # ## Sources
 
 class Source:
-    """A crate's src/lib.rt."""
+    """A crate's source: src/lib.rt, or a program's src/main.rt."""
 
     def __init__(self, crate):
         self.crate = crate
-        self.text = (TOP / 'crates' / crate / 'src' / 'lib.rt').read_text()
-        self.enums = {name: Enum(crate, name, []) for name in re.findall(r'pub enum (\w+) \{', self.text)}
+        self.text = next((TOP / 'crates' / crate / 'src').glob('*.rt')).read_text()
+        self.enums = {name: Enum(crate, name, []) for name in re.findall(r'enum (\w+) \{', self.text)}
         self.structs = {}
         self.others = {name: other for other, name in re.findall(r'^use (\w+)::(\w+);', self.text, re.M)}
-        for name, fields in re.findall(r'pub struct (\w+) \{(.*?)\}', self.text, re.S):
-            fields = re.findall(r'pub (\w+): ([^,\n]+)', fields)
+        for name, fields in re.findall(r'^(?:pub )?struct (\w+) \{(.*?)\}', self.text, re.S | re.M):
+            fields = re.findall(r'(\w+): ([^,\n]+)', fields)
             mixed = any(isinstance(self.kind(of), (Array, Mixed)) for _, of in fields)
             self.structs[name] = (Mixed if mixed else Struct)(crate, name, fields)
         # what contracts cite, by name: the module, and how the name is imported
@@ -888,8 +888,11 @@ class Walk:
             k.move('dead', f'kept{j}', f'end{j}')
             k.say(f'use3 W (later (some (λ (u : Val). ‵ (fat fullShare {array.mir} {l} 0 u) ⊛ ‵ ({array.row} .own {last} (u ∷ []))))) (array-back 𝓤 H A W {p.of.row} tt {a["n"]} {l} 0 {ν} {a["δ"]} {last}) $ await ! tt $ pick ! (λ u{i}-{j}. split ! $ ', 1)
             k.head(3, f'_{a["local"]}', 'own')
-            k.drop('own')
-            self.live[a['local']] = Held(array, last)
+            k.move('own')
+            self.fact_of(array, last, f'u{i}-{j}', f'is{i}-{j}')
+            told = array.told(last, f'is{i}-{j}')
+            k.say(f' rewrite ! {self.cell(a["local"])} (λ (u : Val). ‵ (fat fullShare {array.mir} {l} 0 u)) (ap only {told}) refl $')
+            self.live[a['local']] = Held(array, last, f'(subst (Is {array.row} {last}) {told} is{i}-{j})')
         elif 'l' in a:
             S, l = p.of, a['l']
             k.move('dead', f'kept{j}', f'end{j}')
@@ -1108,13 +1111,13 @@ class Walk:
         slices = [p for p in fn.kept if p.kind == 'mut']
         ends, fits = pairs([f'{p.name}′' if p.kept else 'tt' for p in fn.params]), pairs([f'long-{p.name}' if p.kind == 'mut' else 'tt' for p in fn.params])
         clauses = [self.at_entry(clause, last, 'r') for clause in fn.ensures]
-        several = len(clauses) > 1
-        shown = ' '.join(f'e-{n}' for n in range(len(clauses))) if several else 'e'
-        return f"""  exits : {' '.join(takes)} → {' → '.join(f'({clause})' for clause in clauses) if several else clauses[0]}{''.join(f' → (length {p.name}′) ≡ (length ({p.name} .now))' for p in slices)}
+        shown = [f'e-{n}' for n in range(len(clauses))] if len(clauses) > 1 else ['e']
+        says = ['says', 'says-two', 'says-three'][len(clauses) - 1]
+        return f"""  exits : {' '.join(takes)} → {' → '.join(f'({clause})' for clause in clauses) if clauses[1:] else clauses[0]}{''.join(f' → (length {p.name}′) ≡ (length ({p.name} .now))' for p in slices)}
       → ent 𝓤 (⋆ 𝓤 H A ({has})) (Post {value})
-  exits {' '.join((['r r-fits'] if S else []) + last)} {shown}{''.join(f' long-{p.name}' for p in slices)} =
+  exits {' '.join((['r r-fits'] if S else []) + last)} {' '.join(shown)}{''.join(f' long-{p.name}' for p in slices)} =
       qed W ({has}) ∵
-      suffices ! _ (ends-at 𝓤 H A me.ended stayed (me.clauses 𝓤 H A at-mem run) W {self.ghosts} {value} {r} {ends} {fits}) $ {'says-two' if several else 'says'} ! {shown} $
+      suffices ! _ (ends-at 𝓤 H A me.ended stayed (me.clauses 𝓤 H A at-mem run) W {self.ghosts} {value} {r} {ends} {fits}) $ {says} ! {' '.join(shown)} $
       {k.text(0)}
 """
 

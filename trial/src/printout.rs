@@ -1,7 +1,7 @@
 //! The printout of the program `plan`.
 
 use crate::planner::{plan, Plan, Room};
-use crate::refusal::Refusal;
+use crate::refusal::{Reason, Refusal};
 use crate::sheet::{self, read};
 use crate::tables::build;
 use crate::tally::Tally;
@@ -15,37 +15,90 @@ pub const LENT_PAIRS: usize = 40;
 
 /// The printout of a plan for pairs with these ids.
 pub fn printed(ids: &[u32], plan: &Plan, tally: Tally) -> String {
-    let mut text = String::new();
-    let mut line = |words: &[&dyn std::fmt::Display]| {
-        for (i, word) in words.iter().enumerate() {
-            let space = if i == 0 { "" } else { " " };
-            write!(text, "{space}{word}").expect("a string takes all");
-        }
-        text.push('\n');
-    };
-
-    let n = ids.len();
-    line(&[&"PLAN", &n, &plan.cycles(), &plan.weight]);
-    // A pair number N, which stands for none, is past the ids.
-    let id_of = |pair: u16| match ids.get(usize::from(pair)) {
-        Some(id) => id.to_string(),
-        None => "-".to_string(),
-    };
-    for (i, id) in ids.iter().enumerate() {
-        line(&[id, &id_of(plan.donors[i]), &id_of(plan.recipients[i])]);
+    Printed {
+        pairs: ids.len(),
+        cycles: plan.cycles(),
+        weight: u64::from(plan.weight),
+        ids,
+        donors: &plan.donors,
+        recipients: &plan.recipients,
+        tally,
     }
-    line(&[
-        &"COUNTS",
-        &tally.comparisons,
-        &tally.products,
-        &tally.rounds,
-    ]);
-    text
+    .text()
+}
+
+/// What is printed of a plan, as a caller lends it: any numbers, and tables
+/// that may be shorter than the number of pairs, or longer.
+#[derive(Clone, Copy, Debug, Default)]
+pub struct Printed<'a> {
+    /// The number of pairs, N.
+    pub pairs: usize,
+    /// The number of cycles.
+    pub cycles: usize,
+    /// The plan's weight.
+    pub weight: u64,
+    /// The pairs' ids.
+    pub ids: &'a [u32],
+    /// Who gives to patient i.
+    pub donors: &'a [u16],
+    /// Whom donor i gives to.
+    pub recipients: &'a [u16],
+    /// The plan's tally.
+    pub tally: Tally,
+}
+
+impl Printed<'_> {
+    /// The text for a buffer of `room` bytes: 9 where a table has fewer
+    /// entries than there are pairs, or the buffer is too short.
+    pub fn fitted(self, room: usize) -> Result<String, Reason> {
+        let tables = [self.ids.len(), self.donors.len(), self.recipients.len()];
+        if tables.iter().any(|&length| length < self.pairs) {
+            return Err(Reason::TooShort);
+        }
+        Some(self.text())
+            .filter(|text| text.len() <= room)
+            .ok_or(Reason::TooShort)
+    }
+
+    /// The text. Every table must have an entry for each pair.
+    fn text(self) -> String {
+        let mut text = String::new();
+        let mut line = |words: &[&dyn std::fmt::Display]| {
+            for (i, word) in words.iter().enumerate() {
+                let space = if i == 0 { "" } else { " " };
+                write!(text, "{space}{word}").expect("a string takes all");
+            }
+            text.push('\n');
+        };
+
+        let ids = &self.ids[..self.pairs];
+        line(&[&"PLAN", &self.pairs, &self.cycles, &self.weight]);
+        // A pair number N, which stands for none, is past the ids.
+        let id_of = |pair: u16| match ids.get(usize::from(pair)) {
+            Some(id) => id.to_string(),
+            None => "-".to_string(),
+        };
+        for (i, id) in ids.iter().enumerate() {
+            line(&[id, &id_of(self.donors[i]), &id_of(self.recipients[i])]);
+        }
+        let Tally {
+            comparisons,
+            products,
+            rounds,
+        } = self.tally;
+        line(&[&"COUNTS", &comparisons, &products, &rounds]);
+        text
+    }
 }
 
 /// The printout of a refusal.
 pub fn refused(refusal: Refusal) -> String {
     let (number, place) = refusal.pair();
+    refused_by(number.into(), place)
+}
+
+/// The printout of a refusal by any number.
+pub fn refused_by(number: u32, place: usize) -> String {
     format!("REFUSED {number} {place}\n")
 }
 
@@ -56,7 +109,7 @@ pub fn program(input: &[u8]) -> String {
         sheet::fits(&pool, &[LENT_PAIRS])?;
         let n = pool.len();
         // What has been read and fits is refused by nothing that follows.
-        let no_place = |reason: crate::Reason| reason.at(0);
+        let no_place = |reason: Reason| reason.at(0);
         let table = LENT_PAIRS * LENT_PAIRS;
         let tables = build(n, pool.fields(), table, table).map_err(no_place)?;
         let room = Room::due(LENT_PAIRS);
@@ -69,7 +122,6 @@ pub fn program(input: &[u8]) -> String {
 #[cfg(test)]
 mod tests {
     use super::*;
-    use crate::refusal::Reason;
 
     #[test]
     fn the_example() {

@@ -31,6 +31,7 @@ fn plan_tables(
     requires { ⌜ FaultlessTables n (now m) (now w) (now shuffle) × (n ≤ length (now donors)) × (n ≤ length (now recipients)) ⌝ }
     ensures { λ r. ⌜ Partnered n (now (m .entry)) (now (w .entry)) (now (shuffle .entry)) (now (donors .entry)) (now (recipients .entry)) (planIn r) (now (donors .exit)) (now (recipients .exit)) ⌝ }
 {
+    // 40 pairs have (40³ − 40) / 6 subsets and 20 rounds. The records are not printed, so no table of 20 stands here.
     let mut weights = [0u32; 10660];
     let mut choices = [0u32; 20];
     let work = planner::plan_by_value(
@@ -108,6 +109,7 @@ fn print_pool(
     requires { ⌜ Read n (tables (fields (now ids) (now «donor_blood») (now «patient_blood») (now «donor_age») (now «patient_age») (now «donor_antigens») (now «patient_antigens») (now «patient_antibodies»)) (now shuffle)) ⌝ }
     ensures { λ r. ⌜ outcome (finished r) (now (out .exit)) ≡ putting (planText (planOf n (pairIn (fields (now (ids .entry)) (now («donor_blood» .entry)) (now («patient_blood» .entry)) (now («donor_age» .entry)) (now («patient_age» .entry)) (now («donor_antigens» .entry)) (now («patient_antigens» .entry)) (now («patient_antibodies» .entry)))) (λ j. getD (now (shuffle .entry)) j 0))) (now (out .entry)) ⌝ }
 {
+    // 40 rows of 40.
     let mut m = [0u8; 1600];
     let mut w = [0u16; 1600];
     match weighing::build(
@@ -138,7 +140,7 @@ fn print_refused(why: Refusal, place: usize, out: &mut [u8; 1458]) -> usize
     }
 }
 
-// Prints the answer to a sheet: the plan of its pool, or the refusal. Gives the text's length.
+// Prints the answer to a sheet: the plan of its pool, or the refusal. Gives the text's length. A text has at most 1,458 bytes.
 pub fn answer(sheet: &[u8], out: &mut [u8; 1458]) -> usize
     ensures { λ r. ⌜ outcome (finished r) (now (out .exit)) ≡ answering (now (sheet .entry)) (now (out .entry)) ⌝ }
 {

@@ -9,7 +9,7 @@ ghost use lib.ListN.{length, set};
 ghost use Rattle.greedy.specs.Rounds.{byHalves, choosing};
 ghost use Rattle.exchange.specs.Subsets.{subsets};
 ghost use Rattle.gates.specs.Counts.{counted, Room, Raised};
-ghost use Rattle.cursor.specs.Cursor.{placesAt};
+ghost use Rattle.cursor.specs.Cursor.{places, placesAt};
 ghost use Rattle.choosing.specs.Parts.{wonBy, chosenBy, choiceOf, Part, Whole, Turn};
 
 // A winner: its weight, its number and its places.
@@ -73,12 +73,22 @@ fn join(a: Best, b: Best, t: Tally) -> Joined
     }
 }
 
-// The winner of the part of the weights whose first number is `first`, where the cursor p stands. The part is halved until one is left.
-fn choose_part(n: usize, weights: &[u32], first: usize, p: Places, t: Tally) -> Won
-    requires { ⌜ Part n (now weights) first p t ⌝ }
+// The winner of the part of the weights whose first number is `first`, where the cursor stands at u, v, w. The part is halved until one is left.
+// The cursor comes as numbers, since a struct would go through memory at every call.
+fn choose_part(
+    n: usize,
+    weights: &[u32],
+    first: usize,
+    u: usize,
+    v: usize,
+    w: usize,
+    t: Tally,
+) -> Won
+    requires { ⌜ Part n (now weights) first (places u v w) t ⌝ }
     ensures { λ r. ⌜ (wonBy r ≡ byHalves (length (now (weights .entry))) first (now (weights .entry)) (counted t)) × (r .best .at ≡ placesAt n (r .best .number)) × (r .next ≡ placesAt n (first + length (now (weights .entry)))) ⌝ }
 {
     if weights.len() <= 1 {
+        let p = Places { u: u, v: v, w: w };
         let best = Best {
             weight: weights[0] as usize,
             number: first,
@@ -92,8 +102,16 @@ fn choose_part(n: usize, weights: &[u32], first: usize, p: Places, t: Tally) -> 
         };
     }
     let half = weights.len() / 2;
-    let left = choose_part(n, &weights[..half], first, p, t);
-    let right = choose_part(n, &weights[half..], first + half, left.next, left.tally);
+    let left = choose_part(n, &weights[..half], first, u, v, w, t);
+    let right = choose_part(
+        n,
+        &weights[half..],
+        first + half,
+        left.next.u,
+        left.next.v,
+        left.next.w,
+        left.tally,
+    );
     let joined = join(left.best, right.best, right.tally);
     let best = joined.best;
     let next = right.next;
@@ -110,7 +128,8 @@ fn choice(n: usize, weights: &[u32], t: Tally) -> Chosen
     requires { ⌜ Whole n (now weights) t ⌝ }
     ensures { λ r. ⌜ (chosenBy r ≡ choosing 0 (subsets 3 n) (now (weights .entry)) (counted t)) × (r .at ≡ placesAt n (r .number)) ⌝ }
 {
-    let won = choose_part(n, weights, 0, cursor::first(n), t);
+    let start = cursor::first(n);
+    let won = choose_part(n, weights, 0, start.u, start.v, start.w, t);
     let best = won.best;
     let some = gates::comparison(0, best.weight, won.tally);
     let number = gates::pick(some.value, best.number, weights.len(), some.tally);

@@ -3,9 +3,8 @@ use mathlib.Core.Path.{_≡_, refl, sym, ap, ap₂, _∙_}
 use mathlib.Core.List.{List, [], _∷_, _++_, append-assoc, append-nil, flatMap}
 use Prim.Native.Nat.{ℕ, zero, suc, _+_, _*_, _≤_, _<_}
 use native.Mathlib.Nat.{mul-zero, mul-suc, add-comm}
-use native.Mathlib.Numerals.{add-one}
 use native.Mathlib.Omega.{arith}
-use lib.ListN.{length, getD, take, drop, length-append, length-take, length-drop}
+use lib.ListN.{length, getD, take, drop, length-append}
 use lib.Seq.{take-add, drop-drop, take-at, drop-at, take-take, take-length, drop-append-add}
 use Rattle.laws.specs.Below.{table}
 use Rattle.laws.proofs.Below.{length-table}
@@ -16,10 +15,6 @@ unfoldable pub part : {A : Type 0} → List A → ℕ → ℕ → List A
 part b o k = take k (drop o b)
 
 module _ {A : Type 0} where
-  pub length-part : (b : List A) (o k : ℕ) → o + k ≤ length b → length (part b o k) ≡ k
-  unfolding part
-  length-part b o k h = simp (length-take, length-drop) (omega arith)
-
   pub part-add : (b : List A) (o j k : ℕ) → part b o (j + k) ≡ part b o j ++ part b (o + j) k
   unfolding part
   part-add b o j k = take-add j k (drop o b) ∙ ap (λ (l : List A). take j (drop o b) ++ take k l) (drop-drop j o b)

@@ -4,7 +4,7 @@
 --     LentShared, shared-out, shared-back      a `&κ mut [T]` is lent as a `&κ′ [T]`; it comes back as it was
 --     array-out, array-back      an array in a local is lent as a `&κ mut [T]`; it is back in memory, at the last list
 --     Row, rowVal, row-tells, row-makes, row-typed, row-field      an array of a declared struct by value: its row, its machine value and their laws
---     says-two      a goal P ∗ (⌜φ⌝ ∗ ⌜ψ⌝), as a contract of two clauses has it: φ and ψ are shown, and P is left
+--     says-two, says-three      a goal P ∗ (⌜φ⌝ ∗ ⌜ψ⌝), as a contract of two clauses has it: φ and ψ are shown, and P is left; the same for three
 -- A `&κ mut T` is lent again by the toolchain's own lends-again and comes-back. Assumes `Given`.
 use mathlib.Core.Path.{_≡_, refl, sym, _∙_, ap, subst}
 use Prim.Native.Nat.{ℕ, zero, suc, _-_, _*_, _<_, _≤_, _^_}
@@ -126,13 +126,22 @@ less-fits a b l = omega (arith, l)
 more : {M : Type 1} (𝓤 : URA M) (P : SProp 𝓤) (φ : Type 0) → φ → ent 𝓤 P (sep 𝓤 P (fact 𝓤 φ))
 more 𝓤 P φ x = via 𝓤 (sep 𝓤 (emp 𝓤) P) (emp∗ 𝓤 P) (via 𝓤 (sep 𝓤 (fact 𝓤 φ) P) (monoL 𝓤 P (factI 𝓤 φ (emp 𝓤) x)) (comm∗ 𝓤 (fact 𝓤 φ) P))
 
+more-two : {M : Type 1} (𝓤 : URA M) (P : SProp 𝓤) (φ ψ : Type 0) → φ → ψ → ent 𝓤 P (sep 𝓤 P (sep 𝓤 (fact 𝓤 φ) (fact 𝓤 ψ)))
+more-two 𝓤 P φ ψ x y =
+    via 𝓤 (sep 𝓤 P (fact 𝓤 φ)) (more 𝓤 P φ x) (via 𝓤 (sep 𝓤 (sep 𝓤 P (fact 𝓤 φ)) (fact 𝓤 ψ)) (more 𝓤 (sep 𝓤 P (fact 𝓤 φ)) ψ y) (assoc∗ 𝓤 P (fact 𝓤 φ) (fact 𝓤 ψ)))
+
+more-three : {M : Type 1} (𝓤 : URA M) (P : SProp 𝓤) (φ ψ χ : Type 0) → φ → ψ → χ → ent 𝓤 P (sep 𝓤 P (sep 𝓤 (fact 𝓤 φ) (sep 𝓤 (fact 𝓤 ψ) (fact 𝓤 χ))))
+more-three 𝓤 P φ ψ χ x y z =
+    via 𝓤 (sep 𝓤 P (fact 𝓤 φ)) (more 𝓤 P φ x)
+    (via 𝓤 (sep 𝓤 (sep 𝓤 P (fact 𝓤 φ)) (sep 𝓤 (fact 𝓤 ψ) (fact 𝓤 χ))) (more-two 𝓤 (sep 𝓤 P (fact 𝓤 φ)) ψ χ y z) (assoc∗ 𝓤 P (fact 𝓤 φ) (sep 𝓤 (fact 𝓤 ψ) (fact 𝓤 χ))))
+
 pub says-two : {M : Type 1} {𝓤 : URA M} {H : Heap 𝓤} {A : Atoms 𝓤} {K : Type 0} {W : Given 𝓤 H A} {Γ : List (Item 𝓤)} → K → {φ ψ : Type 0} {P : SProp 𝓤} → φ → ψ
     → Step K W Γ (prop P) Γ (prop (sep 𝓤 P (sep 𝓤 (fact 𝓤 φ) (fact 𝓤 ψ))))
-says-two {𝓤 = 𝓤} t {φ} {ψ} {P} x y =
-    step (λ s. record {
-      prf = via 𝓤 P (s .prf)
-          (via 𝓤 (sep 𝓤 P (fact 𝓤 φ)) (more 𝓤 P φ x) (via 𝓤 (sep 𝓤 (sep 𝓤 P (fact 𝓤 φ)) (fact 𝓤 ψ)) (more 𝓤 (sep 𝓤 P (fact 𝓤 φ)) ψ y) (assoc∗ 𝓤 P (fact 𝓤 φ) (fact 𝓤 ψ))));
-    })
+says-two {𝓤 = 𝓤} t {φ} {ψ} {P} x y = step (λ s. record { prf = via 𝓤 P (s .prf) (more-two 𝓤 P φ ψ x y) })
+
+pub says-three : {M : Type 1} {𝓤 : URA M} {H : Heap 𝓤} {A : Atoms 𝓤} {K : Type 0} {W : Given 𝓤 H A} {Γ : List (Item 𝓤)} → K → {φ ψ χ : Type 0} {P : SProp 𝓤} → φ → ψ → χ
+    → Step K W Γ (prop P) Γ (prop (sep 𝓤 P (sep 𝓤 (fact 𝓤 φ) (sep 𝓤 (fact 𝓤 ψ) (fact 𝓤 χ)))))
+says-three {𝓤 = 𝓤} t {φ} {ψ} {χ} {P} x y z = step (λ s. record { prf = via 𝓤 P (s .prf) (more-three 𝓤 P φ ψ χ x y z) })
 
 module _ {M : Type 1} (𝓤 : URA M) (H : Heap 𝓤) (A : Atoms 𝓤) (W : Given 𝓤 H A) (R : RattleType) (single : Single (R .mir)) (n b o : ℕ) where
   abbrev in-memory : List (R .Denot) → Val → SProp 𝓤

@@ -56,4 +56,4 @@ pub use denote.Triple.Clauses.{ensured, lasts}
 pub use denote.Triple.Table.{entered, cited}
 pub use denote.Triple.Walked.{says, needs, Stays, stay-dropped, stay-ref, stay-slice, walkOf, goes-dropped, goes-ref, goes-slice, Walks, ends-at, walked, walk-meets}
 pub use denote.Exit.{yes}
-pub use Rattle.lending.proofs.Lending.{renamed, tyOf, less-fits, local-out, local-back, LentAgain, again-out, again-back, LentShared, shared-out, shared-back, array-out, array-back, Row, rowVal, row-tells, row-makes, row-typed, row-field, place-fits, says-two}
+pub use Rattle.lending.proofs.Lending.{renamed, tyOf, less-fits, local-out, local-back, LentAgain, again-out, again-back, LentShared, shared-out, shared-back, array-out, array-back, Row, rowVal, row-tells, row-makes, row-typed, row-field, place-fits, says-two, says-three}

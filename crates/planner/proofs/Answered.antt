@@ -5,7 +5,7 @@ use mathlib.Core.Path.{_≡_, sym, ap, ap₂, subst, _∙_}
 use native.Mathlib.Omega.{arith}
 use lib.ListN.{length, take, replicate, length-replicate}
 use Rattle.laws.specs.Lent.{filled}
-use Rattle.refusal.specs.Fault.{none, fault}
+use Rattle.refusal.specs.Fault.{none}
 use Rattle.refusal.specs.Answer.{Answer, finished, refused, Outcome, outcome}
 use Rattle.refusal.specs.Number.{numberOf, faultAt}
 use Rattle.refusal.specs.declared.Refusal.{Refusal}
@@ -31,7 +31,7 @@ promised n M W s t left a e p f =
     subst (Guarantee n M W s p) (sym (ap (λ (x : Outcome Plan Lent). x .lent) e))
     (guaranteed n M W s t p (sym (ap (λ (x : Outcome Plan Lent). x .answer) e) ∙ f))
 
--- no record is few
+-- a refusal has no record, and so not too many
 
 pub none-few : (room k : ℕ) → k ≡ 0 → (k ≤ room) × (k ≤ 100)
 none-few room k e = (omega (arith, e), omega (arith, e))

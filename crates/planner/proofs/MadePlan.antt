@@ -14,7 +14,7 @@ use Rattle.greedy.specs.Tally as Tallies
 use Rattle.greedy.specs.Rounds.{Left, left}
 use Rattle.greedy.proofs.Tallied.{rounds-length}
 use Rattle.exchange.specs.Subsets.{subsets, subsetCount, entry, subsetWeight}
-use Rattle.exchange.specs.Resolution.{recordOf, total, donorTable, recipientTable}
+use Rattle.exchange.specs.Resolution.{recordOf, donorTable, recipientTable}
 use Rattle.exchange.specs.Planning.{lent, plan, roundCount, leftBy, plannedBy, filledLent}
 use Rattle.exchange.proofs.Guaranteed.{resolved-few}
 use Rattle.gates.specs.Counts.{counted}

@@ -2,8 +2,12 @@
 // file 'stdout'. Every lent entry holds 99 before a call, and the first one past the filled part is printed too.
 use planner::Planning;
 use records::Cycle;
+ghost use mathlib.Core.Path.{_≡_};
 ghost use Prim.Native.Nat.{_≤_, _<_};
-ghost use lib.ListN.{length};
+ghost use lib.ListN.{length, replicate};
+ghost use Rattle.refusal.specs.Answer.{outcome};
+ghost use Rattle.exchange.specs.Planning.{lent, planning};
+ghost use Rattle.planner.specs.Said.{answerOf};
 
 fn print(text: &[u8]) {
     io::write_all(1, text);
@@ -56,19 +60,15 @@ fn number_of(record: Cycle, which: usize) -> u16 {
     record.third
 }
 
-// The first numbers of a table of records that held 99s, with so many records in it.
-fn print_records(name: &[u8], records: [Cycle; 100], cycles: usize, count: usize)
-    requires { ⌜ cycles ≤ 100 ⌝ }
-{
+// The first numbers of a table of records, as far as it has them.
+fn print_records(name: &[u8], records: [Cycle; 101], count: usize) {
     print(name);
     let mut i: usize = 0;
     while i < count {
         let k = i / 3;
-        if k < cycles {
+        if k < 101 {
             let record = records[k];
             print_pair(number_of(record, i % 3));
-        } else {
-            print_pair(99);
         }
         i += 1;
     }
@@ -93,6 +93,60 @@ fn print_answer(answer: Planning) {
     }
 }
 
+// What planning answered, and the table of records that it was lent.
+struct Planned {
+    answer: Planning,
+    records: [Cycle; 101],
+}
+
+// A table of records, whose numbers are 99.
+fn fresh() -> [Cycle; 101]
+    ensures { λ r. ⌜ r ≡ replicate 101 (record { first = 99; second = 99; third = 99 }) ⌝ }
+{
+    [Cycle {
+        first: 99,
+        second: 99,
+        third: 99,
+    }; 101]
+}
+
+fn together(answer: Planning, records: [Cycle; 101]) -> Planned
+    ensures { λ r. ⌜ (r .answer ≡ answer) × (r .records ≡ records) ⌝ }
+{
+    Planned {
+        answer: answer,
+        records: records,
+    }
+}
+
+// Plans, lending a table of records.
+fn plan(
+    n: usize,
+    m: &[u8],
+    w: &[u16],
+    shuffle: &[u16],
+    weights: &mut [u32],
+    choices: &mut [u32],
+    donors: &mut [u16],
+    recipients: &mut [u16],
+) -> Planned
+    ensures { λ r. ⌜ outcome (answerOf (r .answer)) (lent (now (weights .exit)) (now (choices .exit)) (now (donors .exit)) (now (recipients .exit)) (r .records)) ≡ planning n (now (m .entry)) (now (w .entry)) (now (shuffle .entry)) (lent (now (weights .entry)) (now (choices .entry)) (now (donors .entry)) (now (recipients .entry)) (replicate 101 (record { first = 99; second = 99; third = 99 }))) ⌝ }
+{
+    let mut records = fresh();
+    let answer = planner::plan(
+        n,
+        m,
+        w,
+        shuffle,
+        weights,
+        choices,
+        donors,
+        recipients,
+        &mut records,
+    );
+    together(answer, records)
+}
+
 // Plans a pool of at most 6 pairs and so many subsets, and prints the answer and what stands then in each table, with one entry past what is due.
 fn try_pool(name: &[u8], n: usize, subsets: usize, m: &[u8], w: &[u16], shuffle: &[u16])
     requires { ⌜ (n ≤ 6) × (subsets ≤ 35) ⌝ }
@@ -106,7 +160,7 @@ fn try_pool(name: &[u8], n: usize, subsets: usize, m: &[u8], w: &[u16], shuffle:
     let mut choices = [99u32; 4];
     let mut donors = [99u16; 7];
     let mut recipients = [99u16; 7];
-    let work = planner::plan_by_value(
+    let planned = plan(
         n,
         m,
         w,
@@ -115,18 +169,16 @@ fn try_pool(name: &[u8], n: usize, subsets: usize, m: &[u8], w: &[u16], shuffle:
         &mut choices,
         &mut donors,
         &mut recipients,
-        4,
     );
-    let answer = work.planning;
-    let cycles = work.cycles;
-    let records = work.records;
+    let answer = planned.answer;
+    let records = planned.records;
     print(name);
     print_answer(answer);
     print_choices(b"\n  weights", &weights, past_weights);
     print_choices(b"\n  choices", &choices, past_choices);
     print_pairs(b"\n  donors", &donors, past);
     print_pairs(b"\n  recipients", &recipients, past);
-    print_records(b"\n  records", records, cycles, past_records);
+    print_records(b"\n  records", records, past_records);
     print(b"\n");
 }
 
@@ -245,7 +297,7 @@ fn try_36() {
     let mut choices = [99u32; 19];
     let mut donors = [99u16; 37];
     let mut recipients = [99u16; 37];
-    let work = planner::plan_by_value(
+    let planned = plan(
         36,
         &m,
         &w,
@@ -254,17 +306,15 @@ fn try_36() {
         &mut choices,
         &mut donors,
         &mut recipients,
-        18,
     );
-    let answer = work.planning;
-    let cycles = work.cycles;
-    let records = work.records;
+    let answer = planned.answer;
+    let records = planned.records;
     print(b"36 pairs:");
     print_answer(answer);
     print_choices(b"\n  choices", &choices, 19);
     print_pairs(b"\n  donors", &donors, 37);
     print_pairs(b"\n  recipients", &recipients, 37);
-    print_records(b"\n  records", records, cycles, 55);
+    print_records(b"\n  records", records, 55);
     print(b"\n");
 }
 
@@ -278,7 +328,7 @@ fn try_200() {
     let mut choices = [99u32; 101];
     let mut donors = [99u16; 201];
     let mut recipients = [99u16; 201];
-    let work = planner::plan_by_value(
+    let planned = plan(
         200,
         &m,
         &w,
@@ -287,9 +337,8 @@ fn try_200() {
         &mut choices,
         &mut donors,
         &mut recipients,
-        100,
     );
-    let answer = work.planning;
+    let answer = planned.answer;
     print(b"200 pairs:");
     print_answer(answer);
     print_choices(b"\n  choices", &choices, 101);

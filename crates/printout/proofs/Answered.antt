@@ -20,10 +20,10 @@ use Rattle.printout.specs.Printed.{Plan, planText, refusalText}
 use Rattle.printout.specs.Calls.{roomFault, planFault, printingPlan, printingRefusal}
 use Rattle.printout.specs.Said.{said}
 use Rattle.printout.specs.Steps.{Put, Hold}
-use Rattle.printout.specs.Promises.{Typed, Prints, PrintsPlan, PrintsRefusal}
+use Rattle.printout.specs.Promises.{Typed, Prints, PrintsPlan, PrintsRefused, PrintsRefusal}
 use Rattle.printout.specs.declared.Printing.{Printing}
 use Rattle.printout.specs.declared.Printing.the-variants.{Length, Refused}
-use Rattle.printout.proofs.Promised.{plan-fits, refusal-fits}
+use Rattle.printout.proofs.Promised.{plan-fits, refused-fits, refusal-fits}
 
 -- the number and the place of every refusal of printing
 abbrev Nine : ℕ → ℕ → Type 0
@@ -163,13 +163,20 @@ prints-plan p out w e =
     (λ s. tables-passed (length out) p (s .0) ∙ room-none (length out) (planText p) (omega (arith, plan-fits p w)))
     (λ f. passed (length out) p f .1) (plan-nine (length out) p) e
 
-pub prints-refusal : (number place : ℕ) (out : List ℕ) {new : List ℕ} {a : Answer ℕ} → number < 256 → place < 18446744073709551616
-    → outcome a new ≡ printingRefusal number place out → PrintsRefusal number place (length out) a
-unfolding printingRefusal
-prints-refusal number place out h i e =
-    prints-by (roomFault (length out) (refusalText number place)) (refusalText number place) out
-    (λ s. room-none (length out) (refusalText number place) (omega (arith, refusal-fits number place h i)))
-    (none-room (length out) (refusalText number place)) (nine (length out) (refusalText number place)) e
+module _ (number place : ℕ) (out : List ℕ) {new : List ℕ} {a : Answer ℕ} (l : place < 18446744073709551616)
+    (e : outcome a new ≡ printingRefusal number place out) where
+  refusal-by : (sure : Type 0) → (sure → length (refusalText number place) ≤ length out) → Prints sure (refusalText number place) (length out) a
+  unfolding printingRefusal
+  refusal-by sure h =
+      prints-by (roomFault (length out) (refusalText number place)) (refusalText number place) out
+      (λ s. room-none (length out) (refusalText number place) (h s)) (none-room (length out) (refusalText number place))
+      (nine (length out) (refusalText number place)) e
+
+  pub prints-refused : number < 4294967296 → PrintsRefused number place (length out) a
+  prints-refused h = refusal-by _ (λ s. omega (arith, refused-fits number place h l))
+
+  pub prints-refusal : number < 256 → PrintsRefusal number place (length out) a
+  prints-refusal h = refusal-by _ (λ s. omega (arith, refusal-fits number place h l))
 
 -- ## For a caller, by the answer's cases
 

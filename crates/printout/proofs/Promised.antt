@@ -8,7 +8,7 @@ use native.Mathlib.Decide.{decLt}
 use lib.ListN.{length, getD, length-append}
 use Rattle.laws.specs.Below.{table}
 use Rattle.printout.specs.Printed.{bytesOf, digitsWithin, decimal, line, numberLine, Plan, partner, pairLine, pairLines, planText, refusalText}
-use Rattle.printout.specs.Promises.{ExamplePrinted, NonePrinted, RefusalPrinted, Typed, PlanFits, RefusalFits}
+use Rattle.printout.specs.Promises.{ExamplePrinted, NonePrinted, RefusalPrinted, Typed, PlanFits, RefusalFits, RefusedFits}
 use Rattle.printout.proofs.Decimal.{length-decimal, length-wide, length-id}
 use Rattle.printout.proofs.Lines.{length-none, length-texts, length-line}
 use Rattle.printout.proofs.Pairs.{partner-id, partner-none, length-pair}
@@ -72,8 +72,15 @@ plan-fits p w =
       line-three (bytesOf "COUNTS") (p .comparisons) (p .products) (p .rounds) (w .comparisons) (w .products) (w .rounds),
     )
 
-pub refusal-fits : RefusalFits
+-- a number of no more than d digits
+refusal-within : (d k o : ℕ) → length (decimal k) ≤ d → o < 18446744073709551616 → length (refusalText k o) ≤ 30 + d
 unfolding refusalText table flatten
-refusal-fits k o l m =
+refusal-within d k o l m =
     let e = simp length-append at (length-line (bytesOf "REFUSED") (k ∷ o ∷ [])) in
-    omega (arith, length-decimal 2 k (omega arith), length-wide o m)
+    omega (arith, length-wide o m)
+
+pub refusal-fits : RefusalFits
+refusal-fits k o l = refusal-within 3 k o (length-decimal 2 k (omega arith))
+
+pub refused-fits : RefusedFits
+refused-fits k o l = refusal-within 10 k o (length-id k l)

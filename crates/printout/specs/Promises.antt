@@ -1,5 +1,5 @@
--- What is promised of the text and of the calls, as statements: the proofs are in `proofs/`, and the contracts of `print_plan` and `print_refusal`
--- carry `PrintsPlan` and `PrintsRefusal`. Assumes nothing.
+-- What is promised of the text and of the calls, as statements: the proofs are in `proofs/`, and the contracts of `print_plan`, `print_refused`
+-- and `print_refusal` carry `PrintsPlan`, `PrintsRefused` and `PrintsRefusal`. Assumes nothing.
 use Prim.Native.Nat.{ℕ, _+_, _-_, _*_, _≤_, _<_}
 use Prim.Native.Char.{code}
 use mathlib.Core.Path.{_≡_}
@@ -62,11 +62,18 @@ planRoom n = 138 + 33 * n
 abbrev pub refusalRoom : ℕ
 refusalRoom = 33
 
+-- and for `REFUSED` with any number of 32 bits
+abbrev pub refusedRoom : ℕ
+refusedRoom = 40
+
 abbrev pub PlanFits : Type 0
 PlanFits = (p : Plan) → Typed p → length (planText p) ≤ planRoom (p .pairs)
 
 abbrev pub RefusalFits : Type 0
 RefusalFits = (number place : ℕ) → number < 256 → place < 18446744073709551616 → length (refusalText number place) ≤ refusalRoom
+
+abbrev pub RefusedFits : Type 0
+RefusedFits = (number place : ℕ) → number < 4294967296 → place < 18446744073709551616 → length (refusalText number place) ≤ refusedRoom
 
 -- an answer of printing a text into a buffer of `room` bytes: surely its length, where `sure` holds; no length is above the buffer's; and a refusal
 -- is 9 with place 0
@@ -78,6 +85,9 @@ pub record Prints (sure : Type 0) (text : List ℕ) (room : ℕ) (a : Answer ℕ
 -- a plan is surely printed where its tables hold its pairs and the buffer has as many bytes
 abbrev pub PrintsPlan : Plan → ℕ → Answer ℕ → Type 0
 PrintsPlan p room = Prints (Hold (p .pairs) (p .ids) (p .donors) (p .recipients) × (planRoom (p .pairs) ≤ room)) (planText p) room
+
+abbrev pub PrintsRefused : ℕ → ℕ → ℕ → Answer ℕ → Type 0
+PrintsRefused number place room = Prints (refusedRoom ≤ room) (refusalText number place) room
 
 abbrev pub PrintsRefusal : ℕ → ℕ → ℕ → Answer ℕ → Type 0
 PrintsRefusal number place room = Prints (refusalRoom ≤ room) (refusalText number place) room

@@ -12,7 +12,7 @@ ghost use Rattle.printout.specs.Printed.{decimal, digit as Printed·digi
 ghost use Rattle.printout.specs.Calls.{planFault, printingPlan, printingRefusal};
 ghost use Rattle.printout.specs.Said.{said};
 ghost use Rattle.printout.specs.Steps.{Put, Hold};
-ghost use Rattle.printout.specs.Promises.{PrintsPlan, PrintsRefusal};
+ghost use Rattle.printout.specs.Promises.{PrintsPlan, PrintsRefused, PrintsRefusal};
 
 // What printing answers: the text's length, or the refusal, whose place is 0.
 pub enum Printing {
@@ -314,14 +314,22 @@ pub fn print_plan(
     }
 }
 
+// Prints `REFUSED`, any number and a place into the lent buffer.
+pub fn print_refused(number: u32, place: usize, out: &mut [u8]) -> Printing
+    ensures { λ r. ⌜ outcome (said r) (now (out .exit)) ≡ printingRefusal number place (now (out .entry)) ⌝ }
+    ensures { λ r. ⌜ PrintsRefused number place (length (now (out .entry))) (said r) ⌝ }
+{
+    let numbers = [number as u64, place as u64];
+    if out.len() < line_length(b"REFUSED", &numbers) {
+        return Printing::Refused(Refusal::TooShort);
+    }
+    Printing::Length(put_line(out, 0, b"REFUSED", &numbers))
+}
+
 // Prints a refusal and its place into the lent buffer.
 pub fn print_refusal(why: Refusal, place: usize, out: &mut [u8]) -> Printing
     ensures { λ r. ⌜ outcome (said r) (now (out .exit)) ≡ printingRefusal (numberOf why) place (now (out .entry)) ⌝ }
     ensures { λ r. ⌜ PrintsRefusal (numberOf why) place (length (now (out .entry))) (said r) ⌝ }
 {
-    let numbers = [refusal::number(why) as u64, place as u64];
-    if out.len() < line_length(b"REFUSED", &numbers) {
-        return Printing::Refused(Refusal::TooShort);
-    }
-    Printing::Length(put_line(out, 0, b"REFUSED", &numbers))
+    print_refused(refusal::number(why) as u32, place, out)
 }

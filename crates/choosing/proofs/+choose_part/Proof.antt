@@ -25,7 +25,7 @@ choose-part-at t = and 1 choose-part-kinds.ps (is 1 choose-part-kinds.ps μ-choo
 abbrev choose-part-below : ℕ → In 1 choose-part-kinds.ps
 choose-part-below t = and 1 choose-part-kinds.ps (falls 1 choose-part-kinds.ps _<_ μ-choose-part t) choose-part.Pre
 
-choose-part-shared-slice-read-t18 : (t : ℕ) → choose-part-lts.Need-shared-slice-read-t18 (
+choose-part-shared-slice-read-t21 : (t : ℕ) → choose-part-lts.Need-shared-slice-read-t21 (
   next-reads.Asked,
   next-reads.Learnt,
   choose-part-below t,
@@ -33,9 +33,9 @@ choose-part-shared-slice-read-t18 : (t : ℕ) → choose-part-lts.Need-shared-sl
   join-reads.Asked,
   join-reads.Learnt,
 ) (choose-part-at t) choose-part.Post
-choose-part-shared-slice-read-t18 t c = search needs
+choose-part-shared-slice-read-t21 t c = search needs
 
-choose-part-cast-t19 : (t : ℕ) → choose-part-lts.Need-cast-t19 (
+choose-part-cast-t22 : (t : ℕ) → choose-part-lts.Need-cast-t22 (
   next-reads.Asked,
   next-reads.Learnt,
   choose-part-below t,
@@ -43,7 +43,7 @@ choose-part-cast-t19 : (t : ℕ) → choose-part-lts.Need-cast-t19 (
   join-reads.Asked,
   join-reads.Learnt,
 ) (choose-part-at t) choose-part.Post
-choose-part-cast-t19 t c = record { fits = omega (arith, c .shared-slice-known2 .given 0) }
+choose-part-cast-t22 t c = record { fits = omega (arith, c .shared-slice-known2 .given 0) }
 
 choose-part-next-requires : (t : ℕ) → choose-part-lts.Need-next-requires (
   next-reads.Asked,
@@ -176,8 +176,8 @@ pub +choose-part-spec : {M : Type 1} → statement M
 )
     (choose-part-at t)
     choose-part.Post
-    (choose-part-shared-slice-read-t18 t)
-    (choose-part-cast-t19 t)
+    (choose-part-shared-slice-read-t21 t)
+    (choose-part-cast-t22 t)
     (choose-part-next-requires t)
     (choose-part-returns t)
     (choose-part-slice-aggregate-choose-part t)

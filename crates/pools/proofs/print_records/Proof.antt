@@ -4,10 +4,10 @@ use Rattle.pools.proofs.print_records.Statement.{statement}
 use Rattle.pools.proofs.print_records.Tie as tie
 
 abbrev Inv-loop : tie.InvT-loop
-Inv-loop name cycles count records i₀ i = i ≤ count
+Inv-loop name count records i₀ i = i ≤ count
 
 abbrev μ-loop : tie.MeasureT-loop
-μ-loop name cycles count records i₀ i = count - i
+μ-loop name count records i₀ i = count - i
 
 print-requires : tie.Need-print-requires Inv-loop μ-loop
 print-requires c κs = search needs
@@ -26,9 +26,6 @@ number-of-requires c κs = search needs
 
 print-pair-requires : tie.Need-print-pair-requires Inv-loop μ-loop
 print-pair-requires c κs = search needs
-
-print-pair-requires-2 : tie.Need-print-pair-requires-2 Inv-loop μ-loop
-print-pair-requires-2 c κs = search needs
 
 add-i : tie.Need-add-i Inv-loop μ-loop
 add-i c = search needs
@@ -54,7 +51,6 @@ print-records-spec =
     array-copy-out-record
     number-of-requires
     print-pair-requires
-    print-pair-requires-2
     add-i
     loop-less
     loop-again

@@ -20,29 +20,29 @@ slice-aggregate-fill-shuffle c = search needs
 fill-shuffle-requires : tie.Need-fill-shuffle-requires
 fill-shuffle-requires c κs = search needs
 
-slice-aggregate-plan-by-value : tie.Need-slice-aggregate-plan-by-value
-slice-aggregate-plan-by-value c = search needs
+slice-aggregate-plan : tie.Need-slice-aggregate-plan
+slice-aggregate-plan c = search needs
 
-slice-aggregate-plan-by-value-2 : tie.Need-slice-aggregate-plan-by-value-2
-slice-aggregate-plan-by-value-2 c = search needs
+slice-aggregate-plan-2 : tie.Need-slice-aggregate-plan-2
+slice-aggregate-plan-2 c = search needs
 
-slice-aggregate-plan-by-value-3 : tie.Need-slice-aggregate-plan-by-value-3
-slice-aggregate-plan-by-value-3 c = search needs
+slice-aggregate-plan-3 : tie.Need-slice-aggregate-plan-3
+slice-aggregate-plan-3 c = search needs
 
-slice-aggregate-plan-by-value-4 : tie.Need-slice-aggregate-plan-by-value-4
-slice-aggregate-plan-by-value-4 c = sym (length-replicate {A = ℕ} 1333301 99)
+slice-aggregate-plan-4 : tie.Need-slice-aggregate-plan-4
+slice-aggregate-plan-4 c = sym (length-replicate {A = ℕ} 1333301 99)
 
-slice-aggregate-plan-by-value-5 : tie.Need-slice-aggregate-plan-by-value-5
-slice-aggregate-plan-by-value-5 c = search needs
+slice-aggregate-plan-5 : tie.Need-slice-aggregate-plan-5
+slice-aggregate-plan-5 c = search needs
 
-slice-aggregate-plan-by-value-6 : tie.Need-slice-aggregate-plan-by-value-6
-slice-aggregate-plan-by-value-6 c = search needs
+slice-aggregate-plan-6 : tie.Need-slice-aggregate-plan-6
+slice-aggregate-plan-6 c = search needs
 
-slice-aggregate-plan-by-value-7 : tie.Need-slice-aggregate-plan-by-value-7
-slice-aggregate-plan-by-value-7 c = search needs
+slice-aggregate-plan-7 : tie.Need-slice-aggregate-plan-7
+slice-aggregate-plan-7 c = search needs
 
-plan-by-value-requires : tie.Need-plan-by-value-requires
-plan-by-value-requires c κs = search needs
+plan-requires : tie.Need-plan-requires
+plan-requires c κs = search needs
 
 slice-aggregate-print : tie.Need-slice-aggregate-print
 slice-aggregate-print c = search needs
@@ -57,7 +57,7 @@ slice-aggregate-print-choices : tie.Need-slice-aggregate-print-choices
 slice-aggregate-print-choices c = search needs
 
 slice-aggregate-print-choices-2 : tie.Need-slice-aggregate-print-choices-2
-slice-aggregate-print-choices-2 c = sym (c .before .before .before .before .before .before .before .before .before .plan-by-value .kept .1 .1 .1 .1 .1 .0)
+slice-aggregate-print-choices-2 c = sym (c .before .before .before .before .before .before .before .before .before .plan .kept .1 .1 .1 .1 .1 .0)
 
 print-choices-requires : tie.Need-print-choices-requires
 print-choices-requires c κs = search needs
@@ -66,7 +66,7 @@ slice-aggregate-print-pairs : tie.Need-slice-aggregate-print-pairs
 slice-aggregate-print-pairs c = search needs
 
 slice-aggregate-print-pairs-2 : tie.Need-slice-aggregate-print-pairs-2
-slice-aggregate-print-pairs-2 c = sym (c .before .before .before .before .before .before .before .before .before .before .before .before .plan-by-value .kept .1 .1 .1 .1 .1 .1 .1 .0)
+slice-aggregate-print-pairs-2 c = sym (c .before .before .before .before .before .before .before .before .before .before .before .before .plan .kept .1 .1 .1 .1 .1 .1 .1 .0)
 
 print-pairs-requires : tie.Need-print-pairs-requires
 print-pairs-requires c κs = search needs
@@ -89,14 +89,14 @@ try-200-spec =
     fill-requires
     slice-aggregate-fill-shuffle
     fill-shuffle-requires
-    slice-aggregate-plan-by-value
-    slice-aggregate-plan-by-value-2
-    slice-aggregate-plan-by-value-3
-    slice-aggregate-plan-by-value-4
-    slice-aggregate-plan-by-value-5
-    slice-aggregate-plan-by-value-6
-    slice-aggregate-plan-by-value-7
-    plan-by-value-requires
+    slice-aggregate-plan
+    slice-aggregate-plan-2
+    slice-aggregate-plan-3
+    slice-aggregate-plan-4
+    slice-aggregate-plan-5
+    slice-aggregate-plan-6
+    slice-aggregate-plan-7
+    plan-requires
     slice-aggregate-print
     print-requires
     print-answer-requires

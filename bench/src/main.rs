@@ -1,0 +1,289 @@
+//! Times reading, building and planning by the proved library, and beside its
+//! planning the same gates in plain Rust, and a planner that counts nothing.
+//!
+//! `cargo run --release [-- SIZE..]` prints Markdown.
+
+use reference::random::{pool, PoolKind, Random};
+use reference::{gates, sheet, straight, subsets, Room, Tally};
+use std::fs;
+use std::hint::black_box;
+use std::time::Duration;
+use vadivuzhen::{raw, Cycle};
+
+/// The seed of every pool.
+const SEED: u64 = 20_230_227;
+
+/// The sizes, if none are named.
+const SIZES: [usize; 4] = [10, 40, 100, 200];
+
+/// A size is timed for about so long, and at least so often.
+const LONG_ENOUGH: Duration = Duration::from_secs(10);
+const OFTEN_ENOUGH: usize = 7;
+const TOO_OFTEN: usize = 2_000;
+
+/// Work on few pairs is repeated between two looks at the clock, about as many
+/// times as work on this many pairs takes longer.
+const PAIRS_TO_TIME: usize = 50;
+
+fn main() {
+    let mut sizes: Vec<usize> = std::env::args()
+        .skip(1)
+        .map(|size| size.parse().expect("sizes are numbers"))
+        .collect();
+    if sizes.is_empty() {
+        sizes = SIZES.to_vec();
+    }
+    let timed: Vec<Timed> = sizes.into_iter().map(timed).collect();
+    println!("Machine: {}, {} cores.", cpu(), cores());
+    println!("Pools: dense, from seed {SEED}. The library's buffers are made once and not cleared between runs; (a) and (b) make theirs anew in each run. Times are the thread's processor time in milliseconds: the median of all runs, and in brackets the least.");
+    println!();
+    print_times(&timed);
+    println!();
+    print_gates(&timed);
+}
+
+/// The times of one piece of work.
+#[derive(Default)]
+struct Times(Vec<Duration>);
+
+impl Times {
+    /// Does the work so often between two looks at the clock, and gives the
+    /// last outcome.
+    fn add<T>(&mut self, often: u32, mut work: impl FnMut() -> T) -> T {
+        let start = processor_time();
+        for _ in 1..often {
+            black_box(work());
+        }
+        let outcome = black_box(work());
+        self.0.push((processor_time() - start) / often);
+        outcome
+    }
+
+    fn least(&self) -> Duration {
+        *self.0.iter().min().expect("a time")
+    }
+
+    fn median(&self) -> Duration {
+        let mut times = self.0.clone();
+        times.sort();
+        times[times.len() / 2]
+    }
+
+    /// Median and least, for a cell of a table.
+    fn cell(&self) -> String {
+        let milliseconds = |time: Duration| time.as_secs_f64() * 1e3;
+        let (median, least) = (milliseconds(self.median()), milliseconds(self.least()));
+        format!("{median:.4} ({least:.4})")
+    }
+}
+
+/// The times of all work on one pool.
+struct Timed {
+    n: usize,
+    read: Times,
+    build: Times,
+    plan: Times,
+    gates: Times,
+    straight: Times,
+}
+
+impl Timed {
+    /// How many gates a plan goes through.
+    fn gates_in_plan(&self) -> u64 {
+        let tally = Tally::demanded(self.n);
+        tally.comparisons + tally.products
+    }
+}
+
+/// Times all work on a pool of `n` pairs, taking turns, so that whatever else
+/// the machine does falls on all alike.
+fn timed(n: usize) -> Timed {
+    let pool = pool(&mut Random::new(SEED), n, PoolKind::Dense);
+    let sheet = reference::write(n, pool.fields(), &pool.shuffle, sheet::LONGEST)
+        .expect("a sound pool is written");
+
+    let mut ids = vec![0; n];
+    let [mut donor_blood, mut patient_blood, mut donor_age, mut patient_age] =
+        [(); 4].map(|()| vec![0; n]);
+    let [mut donor_antigens, mut patient_antigens, mut patient_antibodies] =
+        [(); 3].map(|()| vec![0; n]);
+    let mut shuffle = vec![0; n];
+    let (mut m, mut w) = (vec![0; n * n], vec![0; n * n]);
+    let (mut weights, mut choices) = (vec![0; subsets::count(n)], vec![0; n / 2]);
+    let (mut donors, mut recipients) = (vec![0; n], vec![0; n]);
+    let mut records = vec![Cycle::default(); n / 2];
+
+    let mut timed = Timed {
+        n,
+        read: Times::default(),
+        build: Times::default(),
+        plan: Times::default(),
+        gates: Times::default(),
+        straight: Times::default(),
+    };
+    let often = 1 + (PAIRS_TO_TIME / n.max(1)).pow(3) as u32;
+    let start = processor_time();
+    let mut runs = 0;
+    while runs < OFTEN_ENOUGH || runs < TOO_OFTEN && processor_time() - start < LONG_ENOUGH {
+        let read = timed.read.add(often, || {
+            raw::read(
+                black_box(&sheet),
+                raw::Sheet {
+                    ids: &mut ids,
+                    donor_blood: &mut donor_blood,
+                    patient_blood: &mut patient_blood,
+                    donor_age: &mut donor_age,
+                    patient_age: &mut patient_age,
+                    donor_antigens: &mut donor_antigens,
+                    patient_antigens: &mut patient_antigens,
+                    patient_antibodies: &mut patient_antibodies,
+                    shuffle: &mut shuffle,
+                },
+            )
+        });
+        let fields = raw::Fields {
+            ids: &ids,
+            donor_blood: &donor_blood,
+            patient_blood: &patient_blood,
+            donor_age: &donor_age,
+            patient_age: &patient_age,
+            donor_antigens: &donor_antigens,
+            patient_antigens: &patient_antigens,
+            patient_antibodies: &patient_antibodies,
+        };
+        let build = timed
+            .build
+            .add(often, || raw::build(n, fields, &mut m, &mut w));
+        let plan = timed.plan.add(often, || {
+            raw::plan(
+                n,
+                &m,
+                &w,
+                &shuffle,
+                raw::Planned {
+                    weights: &mut weights,
+                    choices: &mut choices,
+                    donors: &mut donors,
+                    recipients: &mut recipients,
+                    records: &mut records,
+                },
+            )
+        });
+        let room = Room::due(n);
+        let (by_gates, tally) = timed
+            .gates
+            .add(often, || gates::plan(n, &m, &w, &shuffle, room))
+            .expect("a plan by gates");
+        let by_straight = timed
+            .straight
+            .add(often, || straight::plan(n, &m, &w, &shuffle, room))
+            .expect("a straight plan");
+
+        // All three made the same plan.
+        assert_eq!((read.refusal, build.refusal, plan.refusal), (0, 0, 0));
+        assert_eq!(by_gates, by_straight);
+        assert_eq!((&weights, &choices), (&by_gates.weights, &by_gates.choices));
+        assert_eq!(recipients, by_gates.recipients);
+        let counted = (plan.comparisons, plan.products);
+        assert_eq!(counted, (tally.comparisons, tally.products));
+        runs += 1;
+    }
+    timed
+}
+
+fn print_times(timed: &[Timed]) {
+    println!("| pairs | runs | read | build | plan | (a) the same gates in plain Rust | (b) a planner that counts nothing | plan / (a) | plan / (b) |");
+    println!("|--:|--:|--:|--:|--:|--:|--:|--:|--:|");
+    for t in timed {
+        println!(
+            "| {} | {} | {} | {} | {} | {} | {} | {} | {} |",
+            t.n,
+            t.plan.0.len(),
+            t.read.cell(),
+            t.build.cell(),
+            t.plan.cell(),
+            t.gates.cell(),
+            t.straight.cell(),
+            ratio(&t.plan, &t.gates),
+            ratio(&t.plan, &t.straight),
+        );
+    }
+}
+
+/// The ratios of medians and of least times.
+fn ratio(times: &Times, to: &Times) -> String {
+    format!(
+        "{:.2} ({:.2})",
+        times.median().div_duration_f64(to.median()),
+        times.least().div_duration_f64(to.least())
+    )
+}
+
+/// Gates by the second, and how the least time of planning grows: the power of
+/// N that it follows from the size before.
+fn print_gates(timed: &[Timed]) {
+    println!("| pairs | gates in a plan | million gates a second: library | (a) | growth: library | (a) | gates |");
+    println!("|--:|--:|--:|--:|--:|--:|--:|");
+    let mut before: Option<&Timed> = None;
+    for t in timed {
+        let gates = t.gates_in_plan();
+        let speed = |times: &Times| gates as f64 / times.least().as_secs_f64() / 1e6;
+        let power = |of: &dyn Fn(&Timed) -> f64| match before {
+            Some(before) => {
+                let growth = of(t).ln() - of(before).ln();
+                format!("N^{:.2}", growth / (t.n as f64 / before.n as f64).ln())
+            }
+            None => String::new(),
+        };
+        println!(
+            "| {} | {gates} | {:.0} | {:.0} | {} | {} | {} |",
+            t.n,
+            speed(&t.plan),
+            speed(&t.gates),
+            power(&|t| t.plan.least().as_secs_f64()),
+            power(&|t| t.gates.least().as_secs_f64()),
+            power(&|t| t.gates_in_plan() as f64),
+        );
+        before = Some(t);
+    }
+}
+
+/// How long this thread has been running on a processor: what else the machine
+/// does counts for little.
+fn processor_time() -> Duration {
+    let mut time = Timespec {
+        seconds: 0,
+        nanoseconds: 0,
+    };
+    // SAFETY: the pointer is a live struct's, laid out as the C library's.
+    let status = unsafe { clock_gettime(THREAD_CPUTIME, &mut time) };
+    assert_eq!(status, 0, "there is no clock of the thread");
+    Duration::new(time.seconds as u64, time.nanoseconds as u32)
+}
+
+/// The C library's `timespec` on x86-64 Linux, for which the archive is built.
+#[repr(C)]
+struct Timespec {
+    seconds: i64,
+    nanoseconds: i64,
+}
+
+/// `CLOCK_THREAD_CPUTIME_ID`.
+const THREAD_CPUTIME: i32 = 3;
+
+extern "C" {
+    fn clock_gettime(clock: i32, time: *mut Timespec) -> i32;
+}
+
+/// The processor's name.
+fn cpu() -> String {
+    let info = fs::read_to_string("/proc/cpuinfo").unwrap_or_default();
+    let line = info.lines().find(|line| line.starts_with("model name"));
+    let name = line.and_then(|line| line.split_once(':'));
+    name.map_or("an unnamed processor", |(_, name)| name.trim())
+        .to_string()
+}
+
+fn cores() -> usize {
+    std::thread::available_parallelism().map_or(1, usize::from)
+}

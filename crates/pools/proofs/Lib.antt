@@ -1,0 +1,2 @@
+-- `Lent`: planning with records that a function lends.
+pub mod Lent

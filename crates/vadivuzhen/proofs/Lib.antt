@@ -1,0 +1,2 @@
+-- What the exported answers say.
+pub mod Told

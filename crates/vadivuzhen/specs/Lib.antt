@@ -1,0 +1,2 @@
+-- What the exported answers stand for.
+pub mod Answers

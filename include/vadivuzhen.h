@@ -1,0 +1,214 @@
+/* Vadivuzhen: plans kidney exchanges among patient-donor pairs.
+ *
+ * From a pool sheet to a printed plan: vadivuzhen_read, vadivuzhen_build, vadivuzhen_plan, vadivuzhen_print_plan; examples/plan.c goes that way.
+ * vadivuzhen_write makes a sheet from a pool, vadivuzhen_print_refusal prints what was refused.
+ *
+ * Every function is proved, for all bytes, tables and lengths, to answer a result or one of the refusals below, to do nothing undefined and to return.
+ * No call has to be prepared by a check: each checks its own input. What is proved of each call stands with it. The proofs are of the source; the
+ * compiler's back end, and this header, are not covered by them.
+ *
+ * What the caller owes:
+ *   - A table or buffer is a pointer and then its length in elements. The pointer is aligned, not null, and has that many elements behind it.
+ *   - What a call fills overlaps nothing else that is lent to that call.
+ *
+ * Memory: a refusal leaves all lent memory as it was. A call that finishes fills the stated number of elements from each table's start and changes
+ * nothing past them. So tables may be longer than they need to be. The library allocates nothing and keeps nothing from call to call; calls on
+ * separate memory may run at the same time.
+ *
+ * Answers are structs of numbers. `refusal` is 0 where the call finished, and else the refusal's number; a field that the answer does not use is 0.
+ *
+ * Pairs are numbered from 0. N is the number of pairs, 200 at most. */
+#ifndef VADIVUZHEN_H
+#define VADIVUZHEN_H
+
+#include <stddef.h>
+#include <stdint.h>
+
+#ifdef __cplusplus
+extern "C" {
+#endif
+
+/* ---- Refusals, by whom they are caused ---- */
+
+enum vadivuzhen_refusal {
+    VADIVUZHEN_FINISHED = 0, /* none: the call finished */
+    /* the sender of the sheet */
+    VADIVUZHEN_CUT_OFF = 1,         /* a field's three-byte start or its value is cut off or missing */
+    VADIVUZHEN_WRONG_FIELD = 2,     /* a tag or a length is not the one due */
+    VADIVUZHEN_WRONG_VERSION = 3,   /* the version is not 1 */
+    VADIVUZHEN_TOO_MANY_PAIRS = 4,  /* N is above 200 */
+    VADIVUZHEN_LEFT_OVER = 5,       /* bytes are left over after the last field */
+    /* the hospital */
+    VADIVUZHEN_OUT_OF_RANGE = 6,    /* a blood group is above 3 or an age group above 1 */
+    VADIVUZHEN_REPEATED_ID = 7,     /* an id is that of an earlier pair */
+    /* whoever drew the shuffle */
+    VADIVUZHEN_NOT_A_SHUFFLE = 8,   /* the shuffle does not have each of 0 to N - 1 exactly once */
+    /* the calling program */
+    VADIVUZHEN_TOO_SHORT = 9,       /* a lent buffer or table is too short */
+    VADIVUZHEN_NOT_COMPATIBILITY = 10 /* a compatibility entry is above 1, or a pair's own is not 0 */
+};
+
+/* ---- Lengths that suffice, in elements, for n pairs; n is 0 to 200, and may be a constant expression ---- */
+
+#define VADIVUZHEN_MOST_PAIRS 200
+
+/* the sheet: 7,410 bytes at most */
+#define VADIVUZHEN_SHEET(n) (10 + 37 * (size_t)(n))
+/* each of the tables M and W */
+#define VADIVUZHEN_ENTRIES(n) ((size_t)(n) * (size_t)(n))
+/* the weights of all subsets of two or three: 1,333,300 at most */
+#define VADIVUZHEN_SUBSETS(n) (((size_t)(n) * (size_t)(n) * (size_t)(n) - (size_t)(n)) / 6)
+/* the rounds, and so the choices */
+#define VADIVUZHEN_ROUNDS(n) ((size_t)(n) / 2)
+/* the records, one for each round */
+#define VADIVUZHEN_RECORDS(n) VADIVUZHEN_ROUNDS(n)
+/* the printed plan, whatever its numbers */
+#define VADIVUZHEN_PLAN_TEXT(n) (138 + 33 * (size_t)(n))
+/* a printed refusal, whatever its number and place */
+#define VADIVUZHEN_REFUSAL_TEXT 40
+
+/* ---- The pool sheet ---- */
+
+/* A pool is nine tables with an entry for each pair: its id; the donor's and the patient's blood group (0 O, 1 A, 2 B, 3 AB) and age group (0 young,
+ * 1 senior); the donor's antigens, the patient's antigens and antibodies, a bit for each entry of the laboratory's list; and the shuffle, which has
+ * each pair's number once. */
+
+struct vadivuzhen_read_answer {
+    uint32_t refusal;
+    size_t place; /* of a refusal: the offset of the field; of 5, of the first byte too many; of 9, 0 */
+    size_t pairs; /* N */
+};
+
+/* Reads a pool sheet into the tables.
+ * Fills the first N entries of each of the nine tables. A sheet has at most 200 pairs, so tables of 200 entries always suffice.
+ * Refuses 1 to 8, the first fault of the sheet going forward; then 9, where a table has fewer than N entries.
+ * Proved: a sheet is accepted if and only if it has none of the faults and the tables can hold it; the tables then hold the pool that it says. An accepted
+ * sheet read and written again is the same sheet, byte for byte. */
+struct vadivuzhen_read_answer vadivuzhen_read(
+    const uint8_t *sheet, size_t sheet_length,
+    uint32_t *ids, size_t ids_length,
+    uint8_t *donor_blood, size_t donor_blood_length,
+    uint8_t *patient_blood, size_t patient_blood_length,
+    uint8_t *donor_age, size_t donor_age_length,
+    uint8_t *patient_age, size_t patient_age_length,
+    uint64_t *donor_antigens, size_t donor_antigens_length,
+    uint64_t *patient_antigens, size_t patient_antigens_length,
+    uint64_t *patient_antibodies, size_t patient_antibodies_length,
+    uint16_t *shuffle, size_t shuffle_length);
+
+struct vadivuzhen_write_answer {
+    uint32_t refusal;
+    size_t length; /* of the sheet, in bytes */
+};
+
+/* Writes the pool in the first n entries of the tables as a sheet into the buffer `out`.
+ * Fills VADIVUZHEN_SHEET(n) bytes, which is the answer's length.
+ * Refuses 4; 9, where a table has fewer than n entries; 6 and 7, pair by pair; 8; 9, where `out` is shorter than the sheet.
+ * Proved: a pool is accepted if and only if it has none of these faults; what is written reads back as that pool. */
+struct vadivuzhen_write_answer vadivuzhen_write(
+    size_t n,
+    const uint32_t *ids, size_t ids_length,
+    const uint8_t *donor_blood, size_t donor_blood_length,
+    const uint8_t *patient_blood, size_t patient_blood_length,
+    const uint8_t *donor_age, size_t donor_age_length,
+    const uint8_t *patient_age, size_t patient_age_length,
+    const uint64_t *donor_antigens, size_t donor_antigens_length,
+    const uint64_t *patient_antigens, size_t patient_antigens_length,
+    const uint64_t *patient_antibodies, size_t patient_antibodies_length,
+    const uint16_t *shuffle, size_t shuffle_length,
+    uint8_t *out, size_t out_length);
+
+/* ---- Compatibility and weight ---- */
+
+struct vadivuzhen_build_answer {
+    uint32_t refusal;
+};
+
+/* Builds the tables M and W from the first n entries of a pool's fields. In each, the entry for donor i and patient j stands at i * n + j. M says with 1
+ * that donor i may give to patient j, and with 0 that not; W says what that is worth, and is 0 for a pair's own.
+ * Fills VADIVUZHEN_ENTRIES(n) entries of each.
+ * Refuses 4; 9, where a table of the fields has fewer than n entries; 6 and 7, pair by pair; 9, where M or W is shorter than n rows of n.
+ * Proved: the fields are accepted if and only if they have none of these faults; every entry is then the published one, and M is 0 or 1, and 0 for a
+ * pair's own, as vadivuzhen_plan asks. */
+struct vadivuzhen_build_answer vadivuzhen_build(
+    size_t n,
+    const uint32_t *ids, size_t ids_length,
+    const uint8_t *donor_blood, size_t donor_blood_length,
+    const uint8_t *patient_blood, size_t patient_blood_length,
+    const uint8_t *donor_age, size_t donor_age_length,
+    const uint8_t *patient_age, size_t patient_age_length,
+    const uint64_t *donor_antigens, size_t donor_antigens_length,
+    const uint64_t *patient_antigens, size_t patient_antigens_length,
+    const uint64_t *patient_antibodies, size_t patient_antibodies_length,
+    uint8_t *compatibilities, size_t compatibilities_length,
+    uint16_t *weights, size_t weights_length);
+
+/* ---- Planning ---- */
+
+/* A record: an exchange, as pairs in giving order. The donor of each gives to the patient of the next, and the last to the first. */
+struct vadivuzhen_cycle {
+    uint16_t first;
+    uint16_t second;
+    uint16_t third; /* n for an exchange of two */
+};
+
+struct vadivuzhen_plan_answer {
+    uint32_t refusal;
+    size_t cycles;        /* how many exchanges are planned */
+    uint64_t weight;      /* of the plan: the sum of their weights */
+    uint64_t comparisons; /* the tally: what the gates did, the same for every pool of n pairs */
+    uint64_t products;
+    uint64_t rounds;
+};
+
+/* Plans the pool of n pairs whose tables are m and w, built by vadivuzhen_build or the caller's own, with the shuffle. W of a pair's own is not read, and
+ * a present edge may weigh 0.
+ * Fills VADIVUZHEN_SUBSETS(n) weights, those left after the last round; VADIVUZHEN_ROUNDS(n) choices, each a subset's number, or the number of all subsets
+ * for none; n donors, who gives to patient i, and n recipients, whom donor i gives to, with n for nobody; and of the records as many as there are cycles,
+ * in order of choice.
+ * Refuses 4; 9, where m or w is shorter than n rows of n, the shuffle than n, weights, choices, donors or recipients than what is filled, or the records
+ * than VADIVUZHEN_RECORDS(n); 8; 10.
+ * Proved of every plan made: its donors and recipients are those of Algorithm 1 of arXiv 2302.13880; all its cycles can be carried out; no pair is in two
+ * of them; no other set of exchanges of two or three pairs, none of which is in two, weighs more than three times as much; and the tally depends on n
+ * alone: with T triples and P twos among n pairs and R = n / 2 rounds, comparisons are T + R (T + P), and products 2P + 7T + R (5 (T + P) - 1)
+ * + (R - 1) (2P + 3T), or 0 where R is 0. */
+struct vadivuzhen_plan_answer vadivuzhen_plan(
+    size_t n,
+    const uint8_t *m, size_t m_length,
+    const uint16_t *w, size_t w_length,
+    const uint16_t *shuffle, size_t shuffle_length,
+    uint32_t *weights, size_t weights_length,
+    uint32_t *choices, size_t choices_length,
+    uint16_t *donors, size_t donors_length,
+    uint16_t *recipients, size_t recipients_length,
+    struct vadivuzhen_cycle *records, size_t records_length);
+
+/* ---- The printout ---- */
+
+struct vadivuzhen_print_answer {
+    uint32_t refusal;
+    size_t length; /* of the text, in bytes; no 0 byte follows it */
+};
+
+/* Prints a plan of n pairs into the buffer `out`: a line with PLAN, n, cycles and weight; for each pair a line with its id, its donor's id and its
+ * recipient's id, `-` for a donor or recipient that is no pair's number; a line with COUNTS, comparisons, products and rounds. Numbers are decimal.
+ * Fills as many bytes as the answer's length; VADIVUZHEN_PLAN_TEXT(n) bytes always suffice.
+ * Refuses 9, where ids, donors or recipients have fewer than n entries or `out` is shorter than the text. */
+struct vadivuzhen_print_answer vadivuzhen_print_plan(
+    size_t n, size_t cycles, uint64_t weight,
+    const uint32_t *ids, size_t ids_length,
+    const uint16_t *donors, size_t donors_length,
+    const uint16_t *recipients, size_t recipients_length,
+    uint64_t comparisons, uint64_t products, uint64_t rounds,
+    uint8_t *out, size_t out_length);
+
+/* Prints a line with REFUSED, a number and a place into the buffer `out`. The number may be any.
+ * Fills as many bytes as the answer's length; VADIVUZHEN_REFUSAL_TEXT bytes always suffice.
+ * Refuses 9, where `out` is shorter than the text. */
+struct vadivuzhen_print_answer vadivuzhen_print_refusal(uint32_t number, size_t place, uint8_t *out, size_t out_length);
+
+#ifdef __cplusplus
+}
+#endif
+
+#endif

@@ -1,0 +1,148 @@
+//! A plan: all that planning leaves.
+
+use crate::raw::{self, Cycle, PlanAnswer};
+use crate::refused::{finished, text, Refused};
+use crate::tables::Tables;
+
+/// How many operations on secrets a plan took. It is the same for all pools
+/// of equally many pairs.
+#[derive(Clone, Copy, Debug, Default, PartialEq, Eq, Hash)]
+pub struct Tally {
+    /// Comparisons.
+    pub comparisons: u64,
+    /// Products.
+    pub products: u64,
+    /// Rounds.
+    pub rounds: u64,
+}
+
+/// A plan of N pairs.
+///
+/// Its cycles are executable and no pair is in two of them, and no other such
+/// set of cycles weighs more than three times as much.
+#[derive(Clone, Debug, PartialEq, Eq, Hash)]
+pub struct Plan {
+    answer: PlanAnswer,
+    weights: Vec<u32>,
+    choices: Vec<u32>,
+    // N entries each.
+    donors: Vec<u16>,
+    recipients: Vec<u16>,
+    // As many as there are planned cycles.
+    records: Vec<Cycle>,
+}
+
+impl Plan {
+    pub(crate) fn make(tables: &Tables, shuffle: &[u16]) -> Result<Plan, Refused> {
+        let n = tables.pairs();
+        let rounds = n / 2;
+        // As many subsets as there are triples among one more.
+        let subsets = (n * n * n - n) / 6;
+        let mut plan = Plan {
+            answer: PlanAnswer::default(),
+            weights: vec![0; subsets],
+            choices: vec![0; rounds],
+            donors: vec![0; n],
+            recipients: vec![0; n],
+            records: vec![Cycle::default(); rounds],
+        };
+        plan.answer = raw::plan(
+            n,
+            tables.compatibilities(),
+            tables.weights(),
+            shuffle,
+            raw::Planned {
+                weights: &mut plan.weights,
+                choices: &mut plan.choices,
+                donors: &mut plan.donors,
+                recipients: &mut plan.recipients,
+                records: &mut plan.records,
+            },
+        );
+        finished(plan.answer.refusal, 0)?;
+        plan.records.truncate(plan.answer.cycles);
+        Ok(plan)
+    }
+
+    /// The number of pairs, N.
+    pub fn pairs(&self) -> usize {
+        self.donors.len()
+    }
+
+    /// The sum of the planned cycles' weights.
+    pub fn weight(&self) -> u64 {
+        self.answer.weight
+    }
+
+    /// The number of planned cycles.
+    pub fn cycles(&self) -> usize {
+        self.answer.cycles
+    }
+
+    /// The planned cycles, in order of choice.
+    pub fn records(&self) -> &[Cycle] {
+        &self.records
+    }
+
+    /// For each pair, the pair whose donor gives to its patient; N means none.
+    pub fn donors(&self) -> &[u16] {
+        &self.donors
+    }
+
+    /// For each pair, the pair whose patient its donor gives to; N means none.
+    pub fn recipients(&self) -> &[u16] {
+        &self.recipients
+    }
+
+    /// The pair whose donor gives to this pair's patient.
+    pub fn donor_of(&self, pair: usize) -> Option<usize> {
+        self.partner(&self.donors, pair)
+    }
+
+    /// The pair whose patient this pair's donor gives to.
+    pub fn recipient_of(&self, pair: usize) -> Option<usize> {
+        self.partner(&self.recipients, pair)
+    }
+
+    fn partner(&self, partners: &[u16], pair: usize) -> Option<usize> {
+        let partner = usize::from(*partners.get(pair)?);
+        (partner < self.pairs()).then_some(partner)
+    }
+
+    /// The choice of each round: a subset's number in the published order, or
+    /// the number of subsets for none.
+    pub fn choices(&self) -> &[u32] {
+        &self.choices
+    }
+
+    /// The weight of each subset in the published order, as after the last
+    /// round.
+    pub fn weights(&self) -> &[u32] {
+        &self.weights
+    }
+
+    /// The operations that the plan took.
+    pub fn tally(&self) -> Tally {
+        Tally {
+            comparisons: self.answer.comparisons,
+            products: self.answer.products,
+            rounds: self.answer.rounds,
+        }
+    }
+
+    /// The plan as the program `plan` prints it, for pairs with these ids.
+    ///
+    /// # Errors
+    ///
+    /// Refused are fewer ids than pairs.
+    pub fn print(&self, ids: &[u32]) -> Result<String, Refused> {
+        let n = self.pairs();
+        // Two lines of a word and three numbers of at most 20 digits, and for
+        // each pair a line of three ids of at most 10.
+        let mut printed = vec![0; (4 + 3 * 21 + 1) + n * (3 * 11) + (6 + 3 * 21 + 1)];
+        let (donors, recipients) = (&self.donors, &self.recipients);
+        let answer = raw::print_plan(n, self.answer, ids, donors, recipients, &mut printed);
+        finished(answer.refusal, 0)?;
+        Ok(text(printed, answer.length))
+    }
+}

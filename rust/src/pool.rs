@@ -1,0 +1,242 @@
+//! A pool in its fields.
+
+use crate::plan::Plan;
+use crate::raw;
+use crate::refused::{finished, sound, Refusal, Refused};
+use crate::tables::Tables;
+
+/// The greatest number of pairs.
+pub const MOST_PAIRS: usize = 200;
+
+/// The length of the longest sheet, in bytes. Whoever reads a sheet from
+/// outside needs to read one byte more and no further.
+pub const LONGEST_SHEET: usize = sheet_length(MOST_PAIRS);
+
+/// The length of a sheet of `n` pairs: its head, a field for each pair, and
+/// the shuffle, each after a start of three bytes.
+const fn sheet_length(n: usize) -> usize {
+    (3 + 4) + n * (3 + 32) + (3 + 2 * n)
+}
+
+/// A blood group.
+#[derive(Clone, Copy, Debug, PartialEq, Eq, Hash)]
+#[repr(u8)]
+pub enum Blood {
+    /// O.
+    O = 0,
+    /// A.
+    A = 1,
+    /// B.
+    B = 2,
+    /// AB.
+    Ab = 3,
+}
+
+impl Blood {
+    const ALL: [Blood; 4] = [Blood::O, Blood::A, Blood::B, Blood::Ab];
+}
+
+/// An age group.
+#[derive(Clone, Copy, Debug, PartialEq, Eq, Hash)]
+#[repr(u8)]
+pub enum Age {
+    /// Young.
+    Young = 0,
+    /// Senior.
+    Senior = 1,
+}
+
+impl Age {
+    const ALL: [Age; 2] = [Age::Young, Age::Senior];
+}
+
+/// A patient and a donor who does not suit that patient.
+#[derive(Clone, Copy, Debug, PartialEq, Eq, Hash)]
+pub struct Pair {
+    /// The pair's id, which no other pair of its pool has.
+    pub id: u32,
+    /// The donor's blood.
+    pub donor_blood: Blood,
+    /// The patient's blood.
+    pub patient_blood: Blood,
+    /// The donor's age group.
+    pub donor_age: Age,
+    /// The patient's age group.
+    pub patient_age: Age,
+    /// The donor's antigens, one bit for each entry of the laboratory's list.
+    pub donor_antigens: u64,
+    /// The patient's antigens.
+    pub patient_antigens: u64,
+    /// The patient's antibodies.
+    pub patient_antibodies: u64,
+}
+
+/// A pool of pairs and its shuffle, with none of the faults that document 01
+/// lists: there are at most [`MOST_PAIRS`] pairs, no two ids are alike, and
+/// the shuffle holds each pair's number once.
+#[derive(Clone, Debug, PartialEq, Eq, Hash)]
+pub struct Pool {
+    // All of one length.
+    ids: Vec<u32>,
+    donor_blood: Vec<u8>,
+    patient_blood: Vec<u8>,
+    donor_age: Vec<u8>,
+    patient_age: Vec<u8>,
+    donor_antigens: Vec<u64>,
+    patient_antigens: Vec<u64>,
+    patient_antibodies: Vec<u64>,
+    shuffle: Vec<u16>,
+}
+
+impl Pool {
+    /// The pool of these pairs, with place p holding pair `shuffle[p]`.
+    ///
+    /// # Errors
+    ///
+    /// Refused are more than [`MOST_PAIRS`] pairs, then an id that is not the
+    /// first of its kind, then a shuffle that has not each pair's number once
+    /// and no more.
+    pub fn new(pairs: &[Pair], shuffle: &[u16]) -> Result<Pool, Refused> {
+        let pool = Pool {
+            ids: pairs.iter().map(|pair| pair.id).collect(),
+            donor_blood: pairs.iter().map(|pair| pair.donor_blood as u8).collect(),
+            patient_blood: pairs.iter().map(|pair| pair.patient_blood as u8).collect(),
+            donor_age: pairs.iter().map(|pair| pair.donor_age as u8).collect(),
+            patient_age: pairs.iter().map(|pair| pair.patient_age as u8).collect(),
+            donor_antigens: pairs.iter().map(|pair| pair.donor_antigens).collect(),
+            patient_antigens: pairs.iter().map(|pair| pair.patient_antigens).collect(),
+            patient_antibodies: pairs.iter().map(|pair| pair.patient_antibodies).collect(),
+            shuffle: shuffle.to_vec(),
+        };
+        // The writer looks for every fault of a pool. Where numbers are missing
+        // in the shuffle, it gets some that are no pair's.
+        let n = pairs.len();
+        let mut numbers = shuffle.to_vec();
+        numbers.resize(n, u16::MAX);
+        let mut sheet = vec![0; sheet_length(n.min(MOST_PAIRS))];
+        let answer = raw::write(n, pool.fields(), &numbers, &mut sheet);
+        finished(answer.refusal, 0)?;
+        if shuffle.len() > n {
+            return Err(Refusal::NotAShuffle.at(0));
+        }
+        Ok(pool)
+    }
+
+    /// The pool that a sheet says.
+    ///
+    /// # Errors
+    ///
+    /// The first fault of the sheet, going forward, and where it is.
+    pub fn read(sheet: &[u8]) -> Result<Pool, Refused> {
+        let mut pool = Pool {
+            ids: vec![0; MOST_PAIRS],
+            donor_blood: vec![0; MOST_PAIRS],
+            patient_blood: vec![0; MOST_PAIRS],
+            donor_age: vec![0; MOST_PAIRS],
+            patient_age: vec![0; MOST_PAIRS],
+            donor_antigens: vec![0; MOST_PAIRS],
+            patient_antigens: vec![0; MOST_PAIRS],
+            patient_antibodies: vec![0; MOST_PAIRS],
+            shuffle: vec![0; MOST_PAIRS],
+        };
+        let answer = raw::read(
+            sheet,
+            raw::Sheet {
+                ids: &mut pool.ids,
+                donor_blood: &mut pool.donor_blood,
+                patient_blood: &mut pool.patient_blood,
+                donor_age: &mut pool.donor_age,
+                patient_age: &mut pool.patient_age,
+                donor_antigens: &mut pool.donor_antigens,
+                patient_antigens: &mut pool.patient_antigens,
+                patient_antibodies: &mut pool.patient_antibodies,
+                shuffle: &mut pool.shuffle,
+            },
+        );
+        finished(answer.refusal, answer.place)?;
+        pool.truncate(answer.pairs);
+        Ok(pool)
+    }
+
+    fn truncate(&mut self, n: usize) {
+        self.ids.truncate(n);
+        self.donor_blood.truncate(n);
+        self.patient_blood.truncate(n);
+        self.donor_age.truncate(n);
+        self.patient_age.truncate(n);
+        self.donor_antigens.truncate(n);
+        self.patient_antigens.truncate(n);
+        self.patient_antibodies.truncate(n);
+        self.shuffle.truncate(n);
+    }
+
+    /// The number of pairs, N.
+    pub fn len(&self) -> usize {
+        self.ids.len()
+    }
+
+    /// Whether there is no pair.
+    pub fn is_empty(&self) -> bool {
+        self.ids.is_empty()
+    }
+
+    /// The pairs, in order of their numbers.
+    pub fn pairs(&self) -> impl ExactSizeIterator<Item = Pair> + '_ {
+        (0..self.len()).map(|i| Pair {
+            id: self.ids[i],
+            donor_blood: Blood::ALL[usize::from(self.donor_blood[i])],
+            patient_blood: Blood::ALL[usize::from(self.patient_blood[i])],
+            donor_age: Age::ALL[usize::from(self.donor_age[i])],
+            patient_age: Age::ALL[usize::from(self.patient_age[i])],
+            donor_antigens: self.donor_antigens[i],
+            patient_antigens: self.patient_antigens[i],
+            patient_antibodies: self.patient_antibodies[i],
+        })
+    }
+
+    /// The pairs' ids, in order of the pairs' numbers.
+    pub fn ids(&self) -> &[u32] {
+        &self.ids
+    }
+
+    /// The shuffle: place p holds pair `shuffle[p]`.
+    pub fn shuffle(&self) -> &[u16] {
+        &self.shuffle
+    }
+
+    /// The pairs' fields, for the calls of [`raw`].
+    pub fn fields(&self) -> raw::Fields<'_> {
+        raw::Fields {
+            ids: &self.ids,
+            donor_blood: &self.donor_blood,
+            patient_blood: &self.patient_blood,
+            donor_age: &self.donor_age,
+            patient_age: &self.patient_age,
+            donor_antigens: &self.donor_antigens,
+            patient_antigens: &self.patient_antigens,
+            patient_antibodies: &self.patient_antibodies,
+        }
+    }
+
+    /// The pool's sheet. Reading it gives this pool.
+    pub fn write(&self) -> Vec<u8> {
+        let n = self.len();
+        let mut sheet = vec![0; sheet_length(n)];
+        let answer = raw::write(n, self.fields(), &self.shuffle, &mut sheet);
+        sound(answer.refusal);
+        sheet
+    }
+
+    /// The pool's compatibilities and weights.
+    pub fn tables(&self) -> Tables {
+        Tables::build(self)
+    }
+
+    /// The pool's plan.
+    pub fn plan(&self) -> Plan {
+        match self.tables().plan(&self.shuffle) {
+            Ok(plan) => plan,
+            Err(refused) => panic!("what is built was turned back: {refused}"),
+        }
+    }
+}

@@ -1,0 +1,412 @@
+//! The library's functions as they are: slices in, an answer out.
+//!
+//! The functions of this module are safe with slices of any length and any
+//! contents. The library is proved for all of them: what does not fit it
+//! refuses, and then every lent table is as it was. What lies past the entries
+//! that a call fills is unchanged as well.
+//!
+//! `refusal` in an answer is document 01's number, and 0 where the call
+//! finished. On a refusal every other number but `place` is 0.
+
+/// A chosen cycle: three pair numbers in giving order from the lowest place.
+/// In a two the third is N.
+#[repr(C)]
+#[derive(Clone, Copy, Debug, Default, PartialEq, Eq, Hash)]
+pub struct Cycle {
+    /// The pair at the lowest place.
+    pub first: u16,
+    /// The pair whose patient receives from the first pair's donor.
+    pub second: u16,
+    /// The pair whose patient receives from the second pair's donor; N in a
+    /// two.
+    pub third: u16,
+}
+
+/// What [`read`] answers.
+#[repr(C)]
+#[derive(Clone, Copy, Debug, Default, PartialEq, Eq, Hash)]
+pub struct ReadAnswer {
+    /// Document 01's number of the refusal, or 0.
+    pub refusal: u32,
+    /// The offset that goes with the refusal.
+    pub place: usize,
+    /// The number of pairs, N.
+    pub pairs: usize,
+}
+
+/// What [`write()`] answers.
+#[repr(C)]
+#[derive(Clone, Copy, Debug, Default, PartialEq, Eq, Hash)]
+pub struct WriteAnswer {
+    /// Document 01's number of the refusal, or 0.
+    pub refusal: u32,
+    /// The sheet's length in bytes.
+    pub length: usize,
+}
+
+/// What [`build`] answers.
+#[repr(C)]
+#[derive(Clone, Copy, Debug, Default, PartialEq, Eq, Hash)]
+pub struct BuildAnswer {
+    /// Document 01's number of the refusal, or 0.
+    pub refusal: u32,
+}
+
+/// What [`plan`] answers.
+#[repr(C)]
+#[derive(Clone, Copy, Debug, Default, PartialEq, Eq, Hash)]
+pub struct PlanAnswer {
+    /// Document 01's number of the refusal, or 0.
+    pub refusal: u32,
+    /// The number of planned cycles: as many records are filled.
+    pub cycles: usize,
+    /// The plan's weight.
+    pub weight: u64,
+    /// How many secrets were compared.
+    pub comparisons: u64,
+    /// How many secrets were multiplied.
+    pub products: u64,
+    /// How many rounds were gone through.
+    pub rounds: u64,
+}
+
+/// What [`print_plan`] and [`print_refusal`] answer.
+#[repr(C)]
+#[derive(Clone, Copy, Debug, Default, PartialEq, Eq, Hash)]
+pub struct PrintAnswer {
+    /// Document 01's number of the refusal, or 0.
+    pub refusal: u32,
+    /// The text's length in bytes.
+    pub length: usize,
+}
+
+/// The pairs' fields as tables that a call reads.
+#[derive(Clone, Copy, Debug, Default)]
+pub struct Fields<'a> {
+    /// Ids.
+    pub ids: &'a [u32],
+    /// Bloods of the donors.
+    pub donor_blood: &'a [u8],
+    /// Bloods of the patients.
+    pub patient_blood: &'a [u8],
+    /// Age groups of the donors.
+    pub donor_age: &'a [u8],
+    /// Age groups of the patients.
+    pub patient_age: &'a [u8],
+    /// Antigens of the donors.
+    pub donor_antigens: &'a [u64],
+    /// Antigens of the patients.
+    pub patient_antigens: &'a [u64],
+    /// Antibodies of the patients.
+    pub patient_antibodies: &'a [u64],
+}
+
+/// The tables that [`read`] fills: the pairs' fields, and the shuffle.
+#[derive(Debug, Default)]
+pub struct Sheet<'a> {
+    /// Ids.
+    pub ids: &'a mut [u32],
+    /// Bloods of the donors.
+    pub donor_blood: &'a mut [u8],
+    /// Bloods of the patients.
+    pub patient_blood: &'a mut [u8],
+    /// Age groups of the donors.
+    pub donor_age: &'a mut [u8],
+    /// Age groups of the patients.
+    pub patient_age: &'a mut [u8],
+    /// Antigens of the donors.
+    pub donor_antigens: &'a mut [u64],
+    /// Antigens of the patients.
+    pub patient_antigens: &'a mut [u64],
+    /// Antibodies of the patients.
+    pub patient_antibodies: &'a mut [u64],
+    /// The shuffle: place p holds pair `shuffle[p]`.
+    pub shuffle: &'a mut [u16],
+}
+
+/// The tables that [`plan`] fills.
+#[derive(Debug, Default)]
+pub struct Planned<'a> {
+    /// The weight of each subset, as after the last round.
+    pub weights: &'a mut [u32],
+    /// The choice of each round; the number of subsets means none.
+    pub choices: &'a mut [u32],
+    /// Who gives to patient i; N means none.
+    pub donors: &'a mut [u16],
+    /// Whom donor i gives to; N means none.
+    pub recipients: &'a mut [u16],
+    /// The planned cycles, in order of choice.
+    pub records: &'a mut [Cycle],
+}
+
+/// Reads a sheet into the lent tables, of which it fills the first N entries.
+pub fn read(sheet: &[u8], into: Sheet<'_>) -> ReadAnswer {
+    // SAFETY: every pointer is a live slice's and goes with its length, what
+    // is filled is lent by `&mut`, and the call keeps no pointer.
+    unsafe {
+        vadivuzhen_read(
+            sheet.as_ptr(),
+            sheet.len(),
+            into.ids.as_mut_ptr(),
+            into.ids.len(),
+            into.donor_blood.as_mut_ptr(),
+            into.donor_blood.len(),
+            into.patient_blood.as_mut_ptr(),
+            into.patient_blood.len(),
+            into.donor_age.as_mut_ptr(),
+            into.donor_age.len(),
+            into.patient_age.as_mut_ptr(),
+            into.patient_age.len(),
+            into.donor_antigens.as_mut_ptr(),
+            into.donor_antigens.len(),
+            into.patient_antigens.as_mut_ptr(),
+            into.patient_antigens.len(),
+            into.patient_antibodies.as_mut_ptr(),
+            into.patient_antibodies.len(),
+            into.shuffle.as_mut_ptr(),
+            into.shuffle.len(),
+        )
+    }
+}
+
+/// Writes the sheet of a pool of `n` pairs into the lent buffer.
+pub fn write(n: usize, fields: Fields<'_>, shuffle: &[u16], out: &mut [u8]) -> WriteAnswer {
+    // SAFETY: as in `read`.
+    unsafe {
+        vadivuzhen_write(
+            n,
+            fields.ids.as_ptr(),
+            fields.ids.len(),
+            fields.donor_blood.as_ptr(),
+            fields.donor_blood.len(),
+            fields.patient_blood.as_ptr(),
+            fields.patient_blood.len(),
+            fields.donor_age.as_ptr(),
+            fields.donor_age.len(),
+            fields.patient_age.as_ptr(),
+            fields.patient_age.len(),
+            fields.donor_antigens.as_ptr(),
+            fields.donor_antigens.len(),
+            fields.patient_antigens.as_ptr(),
+            fields.patient_antigens.len(),
+            fields.patient_antibodies.as_ptr(),
+            fields.patient_antibodies.len(),
+            shuffle.as_ptr(),
+            shuffle.len(),
+            out.as_mut_ptr(),
+            out.len(),
+        )
+    }
+}
+
+/// Builds M and W of `n` pairs into the lent tables: `n` rows of `n`, row i
+/// holding donor i.
+pub fn build(n: usize, fields: Fields<'_>, m: &mut [u8], w: &mut [u16]) -> BuildAnswer {
+    // SAFETY: as in `read`.
+    unsafe {
+        vadivuzhen_build(
+            n,
+            fields.ids.as_ptr(),
+            fields.ids.len(),
+            fields.donor_blood.as_ptr(),
+            fields.donor_blood.len(),
+            fields.patient_blood.as_ptr(),
+            fields.patient_blood.len(),
+            fields.donor_age.as_ptr(),
+            fields.donor_age.len(),
+            fields.patient_age.as_ptr(),
+            fields.patient_age.len(),
+            fields.donor_antigens.as_ptr(),
+            fields.donor_antigens.len(),
+            fields.patient_antigens.as_ptr(),
+            fields.patient_antigens.len(),
+            fields.patient_antibodies.as_ptr(),
+            fields.patient_antibodies.len(),
+            m.as_mut_ptr(),
+            m.len(),
+            w.as_mut_ptr(),
+            w.len(),
+        )
+    }
+}
+
+/// Plans a pool of `n` pairs from M, W and the shuffle into the lent tables.
+pub fn plan(n: usize, m: &[u8], w: &[u16], shuffle: &[u16], into: Planned<'_>) -> PlanAnswer {
+    // SAFETY: as in `read`. A record is three 16-bit numbers with no gap.
+    unsafe {
+        vadivuzhen_plan(
+            n,
+            m.as_ptr(),
+            m.len(),
+            w.as_ptr(),
+            w.len(),
+            shuffle.as_ptr(),
+            shuffle.len(),
+            into.weights.as_mut_ptr(),
+            into.weights.len(),
+            into.choices.as_mut_ptr(),
+            into.choices.len(),
+            into.donors.as_mut_ptr(),
+            into.donors.len(),
+            into.recipients.as_mut_ptr(),
+            into.recipients.len(),
+            into.records.as_mut_ptr(),
+            into.records.len(),
+        )
+    }
+}
+
+/// Prints a plan of `n` pairs, whose numbers are in `answer`, into the lent
+/// buffer. A donor or recipient that is no pair's number is printed as none.
+pub fn print_plan(
+    n: usize,
+    answer: PlanAnswer,
+    ids: &[u32],
+    donors: &[u16],
+    recipients: &[u16],
+    out: &mut [u8],
+) -> PrintAnswer {
+    // SAFETY: as in `read`.
+    unsafe {
+        vadivuzhen_print_plan(
+            n,
+            answer.cycles,
+            answer.weight,
+            ids.as_ptr(),
+            ids.len(),
+            donors.as_ptr(),
+            donors.len(),
+            recipients.as_ptr(),
+            recipients.len(),
+            answer.comparisons,
+            answer.products,
+            answer.rounds,
+            out.as_mut_ptr(),
+            out.len(),
+        )
+    }
+}
+
+/// Prints a refusal, by document 01's number, and its place into the lent
+/// buffer.
+pub fn print_refusal(number: u32, place: usize, out: &mut [u8]) -> PrintAnswer {
+    // SAFETY: as in `read`.
+    unsafe { vadivuzhen_print_refusal(number, place, out.as_mut_ptr(), out.len()) }
+}
+
+extern "C" {
+    fn vadivuzhen_read(
+        sheet: *const u8,
+        sheet_length: usize,
+        ids: *mut u32,
+        ids_length: usize,
+        donor_blood: *mut u8,
+        donor_blood_length: usize,
+        patient_blood: *mut u8,
+        patient_blood_length: usize,
+        donor_age: *mut u8,
+        donor_age_length: usize,
+        patient_age: *mut u8,
+        patient_age_length: usize,
+        donor_antigens: *mut u64,
+        donor_antigens_length: usize,
+        patient_antigens: *mut u64,
+        patient_antigens_length: usize,
+        patient_antibodies: *mut u64,
+        patient_antibodies_length: usize,
+        shuffle: *mut u16,
+        shuffle_length: usize,
+    ) -> ReadAnswer;
+
+    fn vadivuzhen_write(
+        n: usize,
+        ids: *const u32,
+        ids_length: usize,
+        donor_blood: *const u8,
+        donor_blood_length: usize,
+        patient_blood: *const u8,
+        patient_blood_length: usize,
+        donor_age: *const u8,
+        donor_age_length: usize,
+        patient_age: *const u8,
+        patient_age_length: usize,
+        donor_antigens: *const u64,
+        donor_antigens_length: usize,
+        patient_antigens: *const u64,
+        patient_antigens_length: usize,
+        patient_antibodies: *const u64,
+        patient_antibodies_length: usize,
+        shuffle: *const u16,
+        shuffle_length: usize,
+        out: *mut u8,
+        out_length: usize,
+    ) -> WriteAnswer;
+
+    fn vadivuzhen_build(
+        n: usize,
+        ids: *const u32,
+        ids_length: usize,
+        donor_blood: *const u8,
+        donor_blood_length: usize,
+        patient_blood: *const u8,
+        patient_blood_length: usize,
+        donor_age: *const u8,
+        donor_age_length: usize,
+        patient_age: *const u8,
+        patient_age_length: usize,
+        donor_antigens: *const u64,
+        donor_antigens_length: usize,
+        patient_antigens: *const u64,
+        patient_antigens_length: usize,
+        patient_antibodies: *const u64,
+        patient_antibodies_length: usize,
+        compatibilities: *mut u8,
+        compatibilities_length: usize,
+        weights: *mut u16,
+        weights_length: usize,
+    ) -> BuildAnswer;
+
+    fn vadivuzhen_plan(
+        n: usize,
+        m: *const u8,
+        m_length: usize,
+        w: *const u16,
+        w_length: usize,
+        shuffle: *const u16,
+        shuffle_length: usize,
+        weights: *mut u32,
+        weights_length: usize,
+        choices: *mut u32,
+        choices_length: usize,
+        donors: *mut u16,
+        donors_length: usize,
+        recipients: *mut u16,
+        recipients_length: usize,
+        records: *mut Cycle,
+        records_length: usize,
+    ) -> PlanAnswer;
+
+    fn vadivuzhen_print_plan(
+        n: usize,
+        cycles: usize,
+        weight: u64,
+        ids: *const u32,
+        ids_length: usize,
+        donors: *const u16,
+        donors_length: usize,
+        recipients: *const u16,
+        recipients_length: usize,
+        comparisons: u64,
+        products: u64,
+        rounds: u64,
+        out: *mut u8,
+        out_length: usize,
+    ) -> PrintAnswer;
+
+    fn vadivuzhen_print_refusal(
+        number: u32,
+        place: usize,
+        out: *mut u8,
+        out_length: usize,
+    ) -> PrintAnswer;
+}

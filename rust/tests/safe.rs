@@ -1,0 +1,126 @@
+//! The safe types: what they refuse, and that a refusal says what to do.
+
+use vadivuzhen::{Age, Blood, Cycle, Pair, Pool, Refusal, Refused, Tables, LONGEST_SHEET};
+
+/// The pair of that id; any two of these suit each other.
+fn pair(id: u32) -> Pair {
+    Pair {
+        id,
+        donor_blood: Blood::O,
+        patient_blood: Blood::Ab,
+        donor_age: Age::Senior,
+        patient_age: Age::Young,
+        donor_antigens: 1 << 63,
+        patient_antigens: u64::from(id),
+        patient_antibodies: 2,
+    }
+}
+
+fn pool(n: u16) -> Pool {
+    let pairs: Vec<Pair> = (0..n).map(|id| pair(id.into())).collect();
+    let shuffle: Vec<u16> = (0..n).rev().collect();
+    Pool::new(&pairs, &shuffle).expect("a sound pool")
+}
+
+fn refused(why: Refusal, place: usize) -> Refused {
+    Refused { why, place }
+}
+
+#[test]
+fn a_pool_is_what_it_was_made_of() {
+    for n in [0, 1, 2, 40, 200] {
+        let pool = pool(n);
+        let pairs: Vec<Pair> = pool.pairs().collect();
+        assert_eq!(pairs.len(), pool.len());
+        assert_eq!(Pool::new(&pairs, pool.shuffle()), Ok(pool.clone()));
+        assert_eq!(Pool::read(&pool.write()), Ok(pool));
+    }
+    assert_eq!(pool(200).write().len(), LONGEST_SHEET);
+}
+
+#[test]
+fn a_faulty_pool_is_not_made() {
+    let two = [pair(7), pair(8)];
+    let made = |shuffle: &[u16]| Pool::new(&two, shuffle).map(|pool| pool.len());
+    assert_eq!(made(&[1, 0]), Ok(2));
+    let no_shuffle = Err(refused(Refusal::NotAShuffle, 0));
+    for shuffle in [
+        &[][..],
+        &[0],
+        &[1],
+        &[0, 0],
+        &[0, 2],
+        &[0, 1, 2],
+        &[1, 0, 0],
+    ] {
+        assert_eq!(made(shuffle), no_shuffle);
+    }
+    let twice = Pool::new(&[pair(7), pair(7)], &[0, 0]);
+    assert_eq!(twice, Err(refused(Refusal::RepeatedId, 0)));
+    let many: Vec<Pair> = (0..201).map(pair).collect();
+    let many = Pool::new(&many, &[]);
+    assert_eq!(many, Err(refused(Refusal::TooManyPairs, 0)));
+}
+
+#[test]
+fn a_sheet_is_refused_at_its_field() {
+    let sheet = pool(2).write();
+    let read = |sheet: &[u8]| Pool::read(sheet).expect_err("a faulty sheet");
+    assert_eq!(read(&sheet[..8]), refused(Refusal::CutOff, 7));
+    let mut longer = sheet.clone();
+    longer.push(0);
+    assert_eq!(read(&longer), refused(Refusal::LeftOver, 84));
+    let mut blood = sheet;
+    blood[42 + 7] = 4;
+    assert_eq!(read(&blood), refused(Refusal::OutOfRange, 42));
+}
+
+#[test]
+fn own_tables_are_planned_or_refused() {
+    let too_short = Err(refused(Refusal::TooShort, 0));
+    assert_eq!(Tables::new(2, vec![0; 3], vec![0; 4]), too_short);
+    assert_eq!(Tables::new(2, vec![0; 4], vec![0; 3]), too_short);
+    let too_many = Err(refused(Refusal::TooManyPairs, 0));
+    assert_eq!(Tables::new(201, vec![], vec![]), too_many);
+    assert_eq!(Tables::new(usize::MAX, vec![], vec![]), too_many);
+
+    // k10 of document 01, with entries past the ninth that nobody reads.
+    let m = vec![0, 1, 1, 1, 0, 0, 1, 0, 0, 9];
+    let tables = Tables::new(3, m, vec![5; 12]).expect("tables for three");
+    assert_eq!(tables.compatibilities().len(), 9);
+    let plan = tables.plan(&[2, 0, 1]).expect("a plan");
+    assert_eq!((plan.weight(), plan.cycles()), (10, 1));
+    let cycle = Cycle {
+        first: 2,
+        second: 0,
+        third: 3,
+    };
+    assert_eq!(plan.records(), [cycle]);
+    assert_eq!(plan.recipients(), [2, 3, 0]);
+    assert_eq!(plan.donor_of(0), Some(2));
+    assert_eq!(plan.recipient_of(1), None);
+    assert_eq!(plan.recipient_of(3), None);
+    assert_eq!((plan.choices().len(), plan.weights().len()), (1, 4));
+    assert_eq!(plan.print(&[1, 2]), Err(refused(Refusal::TooShort, 0)));
+
+    let why = |shuffle: &[u16]| tables.plan(shuffle).expect_err("no shuffle").why;
+    assert_eq!(why(&[0, 1]), Refusal::TooShort);
+    assert_eq!(why(&[0, 1, 1]), Refusal::NotAShuffle);
+    let own = Tables::new(1, vec![1], vec![0]).expect("tables for one");
+    let own = own.plan(&[0]).expect_err("a donor for the own patient");
+    assert_eq!(own.why, Refusal::NotCompatibility);
+}
+
+#[test]
+fn every_refusal_has_its_number_and_says_what_to_do() {
+    for (why, number) in Refusal::ALL.into_iter().zip(1..) {
+        assert_eq!(why.number(), number);
+        let refused = refused(why, 42);
+        assert_eq!(refused.print(), format!("REFUSED {number} 42\n"));
+        let told = refused.to_string();
+        assert!(told.starts_with(&format!("refusal {number}: ")));
+        assert!(told.contains("; "), "{told}");
+    }
+    let longest = refused(Refusal::NotCompatibility, usize::MAX);
+    assert_eq!(longest.print(), format!("REFUSED 10 {}\n", usize::MAX));
+}

@@ -1,0 +1,49 @@
+"""The library from Rust: the tests and the documentation of the crate in rust/, its example on document 01's sheet and on a damaged one, and the
+benchmark at one small size. Links the archive that tests/c.py makes."""
+import os
+import pathlib
+import re
+import subprocess
+
+from closing import check, close
+
+top = pathlib.Path(__file__).resolve().parent.parent
+PRINTED = 'PLAN 2 1 2900\n11 12 12\n12 11 11\nCOUNTS 1 6 1\n'
+
+
+def cargo(folder, *words, given=b'', **environment):
+    return subprocess.run(['cargo', *words], cwd=top / folder, input=given, capture_output=True, env={**os.environ, **environment})
+
+
+def said(done):
+    return (done.stdout + done.stderr).decode('utf-8', 'replace')[-3000:]
+
+
+tests = cargo('rust', 'test', '--offline')
+results = re.findall(r'^test (\S+.*) \.\.\. (\w+)', tests.stdout.decode(), re.M)
+check(tests.returncode == 0, 'cargo test failed:\n' + said(tests))
+check(len(results) >= 6, f'only {len(results)} tests ran')
+for name, result in results:
+    check(result == 'ok', f'{name}: {result}')
+
+documented = cargo('rust', 'doc', '--offline', '--no-deps', RUSTDOCFLAGS='-D warnings')
+check(documented.returncode == 0, 'cargo doc:\n' + said(documented))
+
+two = (top / 'examples' / 'two.sheet').read_bytes()
+example = ['run', '--release', '--offline', '--quiet', '--example', 'plan']
+for what, words, given, text, status in [
+    ('a file', ['--', '../examples/two.sheet'], b'', PRINTED, 0),
+    ('standard input', [], two, PRINTED, 0),
+    ('a sheet that is cut off', [], two[:79], 'REFUSED 1 77\n', 1),
+    ('many bytes more', [], two + bytes(10000), 'REFUSED 5 84\n', 1),
+]:
+    done = cargo('rust', *example, *words, given=given)
+    check(done.stdout.decode() == text and done.returncode == status, f'the example on {what}:\n' + said(done))
+
+lost = cargo('rust', 'build', '--offline', VADIVUZHEN_LIB='nowhere')
+check(lost.returncode != 0 and b'run `rt staticlib vadivuzhen`' in lost.stderr, 'a build without the archive:\n' + said(lost))
+
+bench = cargo('bench', 'run', '--release', '--offline', '--quiet', '--', '10')
+check(bench.returncode == 0 and re.search(rb'^\| 10 \| \d+ \|', bench.stdout, re.M), 'the benchmark:\n' + said(bench))
+
+close()

@@ -1,0 +1,314 @@
+//! Faults of an input, one by one and any two at once.
+
+use crate::lent::Answered;
+use crate::plans::Input;
+use crate::sheets::TABLES;
+use crate::Cases;
+use reference::pool::{MOST_AGE, MOST_BLOOD, MOST_PAIRS};
+use reference::sheet::{length, offset_of_pair, offset_of_shuffle, START};
+use reference::Pool;
+
+/// Something that makes an input faulty, unless another fault undoes it.
+pub struct Fault<T> {
+    name: String,
+    apply: Box<dyn Fn(&mut T)>,
+}
+
+/// The faults of some input.
+pub struct Faults<T>(Vec<Fault<T>>);
+
+impl<T: Clone> Faults<T> {
+    fn add(&mut self, name: String, apply: impl Fn(&mut T) + 'static) {
+        let apply = Box::new(apply);
+        self.0.push(Fault { name, apply });
+    }
+
+    /// Tries a sound input, and then with any two faults after each other.
+    pub fn any_two(
+        &self,
+        sound: &T,
+        cases: &mut Cases,
+        mut answered: impl FnMut(&T) -> Answered,
+    ) -> Result<(), String> {
+        cases.add(answered(sound)?);
+        for first in &self.0 {
+            for second in &self.0 {
+                let mut input = sound.clone();
+                (first.apply)(&mut input);
+                (second.apply)(&mut input);
+                let number = answered(&input)
+                    .map_err(|what| format!("{}, then {}: {what}", first.name, second.name))?;
+                cases.add(number);
+            }
+        }
+        Ok(())
+    }
+}
+
+/// Numbers of pairs that are too great, some of them so that a square wraps.
+const TOO_MANY: [usize; 5] = [MOST_PAIRS + 1, 1 << 16, 1 << 32, 1 << 63, usize::MAX];
+
+/// Shorter lengths: one less, and none.
+fn shorter(length: usize) -> Vec<usize> {
+    match length {
+        0 => vec![],
+        1 => vec![0],
+        _ => vec![length - 1, 0],
+    }
+}
+
+/// The first, a middle and the last of `n`.
+fn some_of(n: usize) -> Vec<usize> {
+    let mut some = match n {
+        0 => vec![],
+        _ => vec![0, n / 2, n - 1],
+    };
+    some.dedup();
+    some
+}
+
+/// Puts an entry, if the table reaches so far.
+fn put<T>(table: &mut [T], at: usize, entry: T) {
+    if let Some(old) = table.get_mut(at) {
+        *old = entry;
+    }
+}
+
+/// What a sheet of `n` pairs is read from and into.
+#[derive(Clone)]
+pub struct Reading {
+    /// The sheet.
+    pub sheet: Vec<u8>,
+    /// The lengths of the lent tables.
+    pub lengths: [usize; TABLES],
+}
+
+/// Faults of reading a sheet of `n` pairs.
+pub fn of_reading(n: usize) -> Faults<Reading> {
+    let mut faults = Faults(Vec::new());
+    for end in 0..length(n) {
+        faults.add(format!("cut at {end}"), move |input: &mut Reading| {
+            input.sheet.truncate(end)
+        });
+    }
+    for more in [1, 3, 40] {
+        faults.add(format!("{more} bytes more"), move |input| {
+            input.sheet.extend(vec![3; more])
+        });
+    }
+    let mut set = |name: &str, at: usize, byte: u8| {
+        faults.add(format!("{name} at {at} is {byte}"), move |input| {
+            put(&mut input.sheet, at, byte)
+        });
+    };
+    let fields = (0..=n).map(offset_of_pair).chain([0]);
+    for field in fields {
+        for at in field..field + START {
+            set("start", at, 0x7F);
+        }
+    }
+    for (at, byte) in [(3, 1), (4, 0), (4, 2)] {
+        set("version", at, byte);
+    }
+    for (at, byte) in [(5, 1), (6, 200), (6, 201), (6, n as u8 + 1)] {
+        set("N", at, byte);
+    }
+    for i in 0..n {
+        let groups = offset_of_pair(i) + START + 4;
+        set("blood", groups, MOST_BLOOD + 1);
+        set("blood", groups + 1, 255);
+        set("age", groups + 2, MOST_AGE + 1);
+        set("age", groups + 3, 255);
+    }
+    let numbers = offset_of_shuffle(n) + START;
+    for i in 0..n {
+        set("shuffle", numbers + 2 * i + 1, n as u8);
+        set("shuffle", numbers + 2 * i, 1);
+    }
+    for i in 0..n {
+        for j in i + 1..n {
+            let (from, to) = (offset_of_pair(i) + START, offset_of_pair(j) + START);
+            faults.add(format!("pair {j} has the id of {i}"), move |input| {
+                for byte in 0..4 {
+                    if let Some(&id) = input.sheet.get(from + byte) {
+                        put(&mut input.sheet, to + byte, id);
+                    }
+                }
+            });
+            let (from, to) = (numbers + 2 * i + 1, numbers + 2 * j + 1);
+            faults.add(format!("place {j} has the number of {i}"), move |input| {
+                if let Some(&number) = input.sheet.get(from) {
+                    put(&mut input.sheet, to, number);
+                }
+            });
+        }
+    }
+    for table in 0..TABLES {
+        for short in shorter(n) {
+            faults.add(format!("table {table} has {short}"), move |input| {
+                input.lengths[table] = short
+            });
+        }
+    }
+    faults
+}
+
+/// What a pool of `n` pairs is written from, or built from, and into.
+#[derive(Clone)]
+pub struct Fields {
+    /// The number of pairs.
+    pub n: usize,
+    /// The lent fields, whatever their lengths.
+    pub pool: Pool,
+    /// The lengths of what is to be filled: the sheet, or M and W.
+    pub room: [usize; 2],
+}
+
+/// Cuts one of a pool's tables off at an end.
+type Cut = fn(&mut Pool, usize);
+
+/// Faults of writing or building `n` pairs into that much room.
+pub fn of_fields(n: usize, room: [usize; 2]) -> Faults<Fields> {
+    let mut faults = Faults(Vec::new());
+    for many in TOO_MANY {
+        faults.add(format!("{many} pairs"), move |input: &mut Fields| {
+            input.n = many
+        });
+    }
+    for short in shorter(n) {
+        let cuts: [(&str, Cut); TABLES] = [
+            ("ids", |pool, end| pool.ids.truncate(end)),
+            ("donor_blood", |pool, end| pool.donor_bloods.truncate(end)),
+            ("patient_blood", |pool, end| {
+                pool.patient_bloods.truncate(end)
+            }),
+            ("donor_age", |pool, end| pool.donor_ages.truncate(end)),
+            ("patient_age", |pool, end| pool.patient_ages.truncate(end)),
+            ("donor_antigens", |pool, end| {
+                pool.donor_antigens.truncate(end)
+            }),
+            ("patient_antigens", |pool, end| {
+                pool.patient_antigens.truncate(end)
+            }),
+            ("patient_antibodies", |pool, end| {
+                pool.patient_antibodies.truncate(end)
+            }),
+            ("shuffle", |pool, end| pool.shuffle.truncate(end)),
+        ];
+        for (table, cut) in cuts {
+            faults.add(format!("{table} has {short}"), move |input| {
+                cut(&mut input.pool, short)
+            });
+        }
+    }
+    for i in some_of(n) {
+        for above in [1, 200] {
+            let (blood, age) = (MOST_BLOOD + above, MOST_AGE + above);
+            faults.add(format!("donor {i} has blood {blood}"), move |input| {
+                put(&mut input.pool.donor_bloods, i, blood)
+            });
+            faults.add(format!("patient {i} has blood {blood}"), move |input| {
+                put(&mut input.pool.patient_bloods, i, blood)
+            });
+            faults.add(format!("donor {i} has age {age}"), move |input| {
+                put(&mut input.pool.donor_ages, i, age)
+            });
+            faults.add(format!("patient {i} has age {age}"), move |input| {
+                put(&mut input.pool.patient_ages, i, age)
+            });
+        }
+        for number in [n as u16, u16::MAX] {
+            faults.add(format!("place {i} has {number}"), move |input| {
+                put(&mut input.pool.shuffle, i, number)
+            });
+        }
+        for j in some_of(n).into_iter().filter(move |&j| j > i) {
+            faults.add(format!("pair {j} has the id of {i}"), move |input| {
+                if let Some(&id) = input.pool.ids.get(i) {
+                    put(&mut input.pool.ids, j, id);
+                }
+            });
+            faults.add(format!("place {j} has the number of {i}"), move |input| {
+                if let Some(&number) = input.pool.shuffle.get(i) {
+                    put(&mut input.pool.shuffle, j, number);
+                }
+            });
+        }
+    }
+    for (which, length) in room.into_iter().enumerate() {
+        for short in shorter(length) {
+            faults.add(format!("room {which} is {short}"), move |input| {
+                input.room[which] = short
+            });
+        }
+    }
+    faults
+}
+
+/// Faults of planning that input, all of whose tables are just long enough.
+pub fn of_planning(sound: &Input) -> Faults<Input> {
+    let n = sound.n;
+    let mut faults = Faults(Vec::new());
+    for many in TOO_MANY {
+        faults.add(format!("{many} pairs"), move |input: &mut Input| {
+            input.n = many
+        });
+    }
+    for short in shorter(n * n) {
+        faults.add(format!("M has {short}"), move |input| {
+            input.m.truncate(short)
+        });
+        faults.add(format!("W has {short}"), move |input| {
+            input.w.truncate(short)
+        });
+    }
+    for short in shorter(n) {
+        faults.add(format!("shuffle has {short}"), move |input| {
+            input.shuffle.truncate(short)
+        });
+        faults.add(format!("donors has {short}"), move |input| {
+            input.room.donors = short
+        });
+        faults.add(format!("recipients has {short}"), move |input| {
+            input.room.recipients = short
+        });
+    }
+    for short in shorter(sound.room.weights) {
+        faults.add(format!("weights has {short}"), move |input| {
+            input.room.weights = short
+        });
+    }
+    for short in shorter(n / 2) {
+        faults.add(format!("choices has {short}"), move |input| {
+            input.room.choices = short
+        });
+        faults.add(format!("records has {short}"), move |input| {
+            input.room.records = short
+        });
+    }
+    for i in some_of(n) {
+        for number in [n as u16, u16::MAX] {
+            faults.add(format!("place {i} has {number}"), move |input| {
+                put(&mut input.shuffle, i, number)
+            });
+        }
+        for j in some_of(n).into_iter().filter(move |&j| j > i) {
+            faults.add(format!("place {j} has the number of {i}"), move |input| {
+                if let Some(&number) = input.shuffle.get(i) {
+                    put(&mut input.shuffle, j, number);
+                }
+            });
+        }
+        faults.add(format!("M({i}, {i}) is 1"), move |input| {
+            put(&mut input.m, i * n + i, 1)
+        });
+        for j in some_of(n) {
+            for entry in [2, 255] {
+                faults.add(format!("M({i}, {j}) is {entry}"), move |input| {
+                    put(&mut input.m, i * n + j, entry)
+                });
+            }
+        }
+    }
+    faults
+}

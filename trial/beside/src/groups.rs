@@ -1,0 +1,417 @@
+//! The groups of trials. A trial has its seed and nothing else to go by; its
+//! size and kind are taken from the seed too, so that seeds in a row go
+//! through all of them.
+
+use crate::faults::{of_fields, of_planning, of_reading, Fields, Reading};
+use crate::lent::same;
+use crate::plans::{made, plans, prints, prints_refusal, Input};
+use crate::sheets::{builds, enough, more, reads, there_and_back, writes, TABLES};
+use crate::Cases;
+use reference::printout::{self, Printed};
+use reference::random::{damaged, pool, tables, PoolKind, Random, TableKind};
+use reference::sheet::{self, length};
+use reference::{best, build, Pool, Reason, Room, Tables, Tally};
+
+/// Trials of one sort.
+pub struct Group {
+    /// Its name.
+    pub name: &'static str,
+    /// How many trials a whole run makes.
+    pub trials: u64,
+    /// The refusals that must come up in a whole run, 0 for none.
+    pub due: &'static [u8],
+    /// One trial.
+    pub run: fn(u64, &mut Random, &mut Cases) -> Result<(), String>,
+}
+
+/// All groups.
+pub const ALL: [Group; 14] = [
+    Group {
+        name: "plans",
+        trials: SIZES * KINDS * 3,
+        due: &[0],
+        run: |seed, random, cases| {
+            plan(random, (seed % SIZES) as usize, seed / SIZES)?;
+            cases.add(0);
+            Ok(())
+        },
+    },
+    Group {
+        name: "plans-of-100",
+        trials: KINDS,
+        due: &[0],
+        run: |seed, random, cases| {
+            plan(random, 100, seed)?;
+            cases.add(0);
+            Ok(())
+        },
+    },
+    Group {
+        name: "plans-of-200",
+        trials: 3,
+        due: &[0],
+        run: |seed, random, cases| {
+            plan(random, 200, seed)?;
+            cases.add(0);
+            Ok(())
+        },
+    },
+    Group {
+        name: "bound",
+        trials: 20_000,
+        due: &[0],
+        run: bound,
+    },
+    Group {
+        name: "tallies",
+        trials: SIZES * 3,
+        due: &[0],
+        run: tallies,
+    },
+    Group {
+        name: "sheets",
+        trials: 201 * 5,
+        due: &[0],
+        run: sheets,
+    },
+    Group {
+        name: "damaged-sheets",
+        trials: 200_000,
+        due: &[0, 1, 2, 3, 4, 5, 6, 7, 8, 9],
+        run: damaged_sheets,
+    },
+    Group {
+        name: "faults-of-reading",
+        trials: 4,
+        due: &[0, 1, 2, 3, 4, 5, 6, 7, 8, 9],
+        run: faults_of_reading,
+    },
+    Group {
+        name: "faults-of-writing",
+        trials: 14,
+        due: &[0, 4, 6, 7, 8, 9],
+        run: faults_of_writing,
+    },
+    Group {
+        name: "faults-of-building",
+        trials: 14,
+        due: &[0, 4, 6, 7, 9],
+        run: faults_of_building,
+    },
+    Group {
+        name: "faults-of-planning",
+        trials: 14,
+        due: &[0, 4, 8, 9, 10],
+        run: faults_of_planning,
+    },
+    Group {
+        name: "printed-plans",
+        trials: 600,
+        due: &[0, 9],
+        run: printed_plans,
+    },
+    Group {
+        name: "printed-refusals",
+        trials: 3_000,
+        due: &[0, 9],
+        run: printed_refusals,
+    },
+    Group {
+        name: "safe-crate",
+        trials: 2_000,
+        due: &[0, 1, 2, 3, 4, 5, 6, 7, 8],
+        run: safe_crate,
+    },
+];
+
+/// Sizes from 0 to 60.
+const SIZES: u64 = 61;
+
+/// Kinds of tables: a caller's own, and built ones.
+const KINDS: u64 = (TableKind::ALL.len() + PoolKind::ALL.len()) as u64;
+
+/// Tables of that kind. Those of a pool are built by both first.
+fn tables_of(random: &mut Random, n: usize, kind: u64) -> Result<Tables, String> {
+    let kind = (kind % KINDS) as usize;
+    if let Some(&own) = TableKind::ALL.get(kind) {
+        return Ok(tables(random, n, own));
+    }
+    let pool = pool(random, n, PoolKind::ALL[kind - TableKind::ALL.len()]);
+    let (m, w) = (n * n + more(random), n * n + more(random));
+    builds(random, n, &pool, m, w)?;
+    build(n, pool.fields(), m, w).map_err(|reason| format!("{reason:?} in a sound pool"))
+}
+
+/// Tables of that kind and a shuffle, in tables that are often longer than
+/// they need be.
+fn input(random: &mut Random, n: usize, kind: u64) -> Result<Input, String> {
+    let Tables { mut m, mut w } = tables_of(random, n, kind)?;
+    let mut shuffle = random.shuffle(n);
+    m.extend((0..more(random)).map(|_| random.byte()));
+    w.extend((0..more(random)).map(|_| random.bits() as u16));
+    shuffle.extend((0..more(random)).map(|_| random.bits() as u16));
+    let due = Room::due(n);
+    let room = Room {
+        weights: due.weights + more(random),
+        choices: due.choices + more(random),
+        donors: due.donors + more(random),
+        recipients: due.recipients + more(random),
+        records: due.records + more(random),
+    };
+    Ok(Input {
+        n,
+        m,
+        w,
+        shuffle,
+        room,
+    })
+}
+
+fn plan(random: &mut Random, n: usize, kind: u64) -> Result<(), String> {
+    let input = input(random, n, kind)?;
+    made(random, &input)?;
+    Ok(())
+}
+
+/// Three times the plan's weight is at least that of the best set.
+fn bound(seed: u64, random: &mut Random, cases: &mut Cases) -> Result<(), String> {
+    let n = (seed % 9) as usize;
+    let input = input(random, n, seed / 9)?;
+    let (plan, _) = made(random, &input)?;
+    let best = best(n, &input.m, &input.w);
+    if plan.weight > best.weight || 3 * plan.weight < best.weight {
+        return Err(format!("weight {} beside {best:?}", plan.weight));
+    }
+    cases.add(0);
+    Ok(())
+}
+
+/// Two pools of equally many pairs have the same tally, demand 3's.
+fn tallies(seed: u64, random: &mut Random, cases: &mut Cases) -> Result<(), String> {
+    let n = (seed % SIZES) as usize;
+    let kinds = [random.bits(), random.bits()];
+    let [one, other] = kinds.map(|kind| -> Result<Tally, String> {
+        let input = input(random, n, kind)?;
+        Ok(made(random, &input)?.1)
+    });
+    let (one, other) = (one?, other?);
+    same("the tally of another pool", one, other)?;
+    same("the tally, by demand 3", one, Tally::demanded(n))?;
+    cases.add(0);
+    Ok(())
+}
+
+/// A pool of any kind.
+fn any_pool(random: &mut Random, n: usize) -> Pool {
+    let kind = random.one_of(&PoolKind::ALL);
+    pool(random, n, kind)
+}
+
+/// The sheet of a sound pool.
+fn sheet_of(pool: &Pool) -> Vec<u8> {
+    reference::write(pool.len(), pool.fields(), &pool.shuffle, sheet::LONGEST)
+        .expect("a sound pool is written")
+}
+
+fn sheets(seed: u64, random: &mut Random, cases: &mut Cases) -> Result<(), String> {
+    let n = (seed % 201) as usize;
+    let pool = any_pool(random, n);
+    let lengths = enough(random, n);
+    cases.add(reads(random, &sheet_of(&pool), lengths)?);
+    let room = length(n) + more(random);
+    cases.add(writes(random, n, &pool, room)?);
+    // Of longer tables the first pairs are written.
+    let fewer = random.between(0, n);
+    let mut first = pool.clone();
+    first.shuffle = random.shuffle(fewer);
+    first.shuffle.resize(n, u16::MAX);
+    cases.add(writes(random, fewer, &first, room)?);
+    cases.add(builds(random, fewer, &first, n * n, n * n)?);
+    there_and_back(random, &pool)?;
+    cases.add(0);
+    Ok(())
+}
+
+/// A sheet of a few pairs, seldom of many, sound or with damages.
+fn any_sheet(random: &mut Random) -> (usize, Vec<u8>) {
+    let most = if random.chance(1, 100) { 200 } else { 12 };
+    let n = random.between(0, most);
+    let sheet = sheet_of(&any_pool(random, n));
+    if random.chance(1, 10) {
+        return (n, sheet);
+    }
+    (n, damaged(random, n, &sheet))
+}
+
+fn damaged_sheets(_: u64, random: &mut Random, cases: &mut Cases) -> Result<(), String> {
+    let (n, sheet) = any_sheet(random);
+    let mut lengths = enough(random, n);
+    if n > 0 && random.chance(1, 8) {
+        lengths[random.below(TABLES)] = random.below(n);
+    }
+    cases.add(reads(random, &sheet, lengths)?);
+    Ok(())
+}
+
+fn faults_of_reading(seed: u64, random: &mut Random, cases: &mut Cases) -> Result<(), String> {
+    let n = (seed % 4) as usize;
+    let sound = Reading {
+        sheet: sheet_of(&any_pool(random, n)),
+        lengths: [n; TABLES],
+    };
+    of_reading(n).any_two(&sound, cases, |input| {
+        reads(random, &input.sheet, input.lengths)
+    })
+}
+
+/// Sizes for any two faults; the greatest is the document's.
+const FAULTY: [usize; 7] = [0, 1, 2, 3, 4, 7, 200];
+
+fn faulty(seed: u64) -> usize {
+    FAULTY[(seed % FAULTY.len() as u64) as usize]
+}
+
+fn faults_of_writing(seed: u64, random: &mut Random, cases: &mut Cases) -> Result<(), String> {
+    let n = faulty(seed);
+    let room = [length(n), 0];
+    let pool = any_pool(random, n);
+    let sound = Fields { n, pool, room };
+    of_fields(n, room).any_two(&sound, cases, |input| {
+        writes(random, input.n, &input.pool, input.room[0])
+    })
+}
+
+fn faults_of_building(seed: u64, random: &mut Random, cases: &mut Cases) -> Result<(), String> {
+    // Of 200 pairs there would be too many tables to build.
+    let n = faulty(seed).min(20);
+    let room = [n * n; 2];
+    let pool = any_pool(random, n);
+    let sound = Fields { n, pool, room };
+    of_fields(n, room).any_two(&sound, cases, |input| {
+        builds(random, input.n, &input.pool, input.room[0], input.room[1])
+    })
+}
+
+fn faults_of_planning(seed: u64, random: &mut Random, cases: &mut Cases) -> Result<(), String> {
+    // Of 200 pairs there would be too many plans to make.
+    let n = faulty(seed).min(9);
+    let kind = random.bits();
+    let Tables { m, w } = tables_of(random, n, kind)?;
+    let sound = Input {
+        n,
+        m,
+        w,
+        shuffle: random.shuffle(n),
+        room: Room::due(n),
+    };
+    of_planning(&sound).any_two(&sound, cases, |input| {
+        let answer = plans(random, input)?;
+        Ok(answer.err().map_or(0, Reason::number))
+    })
+}
+
+/// A number with any number of bits.
+fn any_number(random: &mut Random) -> u64 {
+    random.bits() >> random.below(64)
+}
+
+/// Any numbers and tables of a plan, printed into buffers of every length.
+fn printed_plans(seed: u64, random: &mut Random, cases: &mut Cases) -> Result<(), String> {
+    let n = (seed % 25) as usize;
+    let longer = n + more(random);
+    let ids: Vec<u32> = (0..longer).map(|_| any_number(random) as u32).collect();
+    let mut partners = || -> Vec<u16> {
+        let none = n as u16;
+        let entry = |random: &mut Random| match random.below(4) {
+            0 => random.one_of(&[none, none + 1, u16::MAX]),
+            _ => random.below(n + 1) as u16,
+        };
+        (0..longer).map(|_| entry(random)).collect()
+    };
+    let (donors, recipients) = (partners(), partners());
+    let printed = Printed {
+        pairs: n,
+        cycles: any_number(random) as usize,
+        weight: any_number(random),
+        ids: &ids,
+        donors: &donors,
+        recipients: &recipients,
+        tally: Tally {
+            comparisons: any_number(random),
+            products: any_number(random),
+            rounds: any_number(random),
+        },
+    };
+    let text = printed
+        .fitted(usize::MAX)
+        .map_err(|reason| format!("{reason:?} with all the room there is"))?;
+    for room in 0..text.len() + 4 {
+        cases.add(prints(random, printed, room)?);
+    }
+
+    // Each table too short, for the buffer's length and for none.
+    for pairs in [longer + 1, MANY, usize::MAX] {
+        let many = Printed { pairs, ..printed };
+        cases.add(prints(random, many, text.len())?);
+    }
+    if n > 0 {
+        let (ids, donors, recipients) = (&ids[..n - 1], &donors[..n - 1], &recipients[..n - 1]);
+        for short in [
+            Printed { ids, ..printed },
+            Printed { donors, ..printed },
+            Printed {
+                recipients,
+                ..printed
+            },
+        ] {
+            for room in [0, text.len() - 1, text.len(), text.len() + 100] {
+                cases.add(prints(random, short, room)?);
+            }
+        }
+    }
+    Ok(())
+}
+
+/// So many pairs that no table has them and their lines have no length.
+const MANY: usize = 1 << 62;
+
+/// The refusals that there are, and other numbers.
+fn printed_refusals(seed: u64, random: &mut Random, cases: &mut Cases) -> Result<(), String> {
+    let number = match seed % 15 {
+        number @ 0..=12 => number as u32,
+        13 => u32::MAX,
+        _ => any_number(random) as u32,
+    };
+    let place = match random.below(4) {
+        0 => random.one_of(&[0, 9, 10, usize::MAX]),
+        _ => any_number(random) as usize,
+    };
+    for room in 0..printout::refused_by(number, place).len() + 4 {
+        cases.add(prints_refusal(random, number, place, room)?);
+    }
+    Ok(())
+}
+
+/// Sheets through the safe crate, from the bytes to the printout.
+fn safe_crate(_: u64, random: &mut Random, cases: &mut Cases) -> Result<(), String> {
+    let (_, sheet) = any_sheet(random);
+    let (number, text) = match reference::read(&sheet) {
+        Ok(pool) if pool.len() > 40 => return Ok(()),
+        // The reference's program has room for forty pairs.
+        Ok(_) => (0, printout::program(&sheet)),
+        Err(refusal) => (refusal.pair().0, printout::refused(refusal)),
+    };
+    let printed = match vadivuzhen::Pool::read(&sheet) {
+        Ok(pool) => {
+            let pairs: Vec<vadivuzhen::Pair> = pool.pairs().collect();
+            let again = vadivuzhen::Pool::new(&pairs, pool.shuffle());
+            same("the pool, from its pairs", again.as_ref(), Ok(&pool))?;
+            same("the sheet, written again", pool.write(), sheet)?;
+            pool.plan().print(pool.ids()).unwrap_or_else(|r| r.print())
+        }
+        Err(refused) => refused.print(),
+    };
+    same("the printout", printed, text)?;
+    cases.add(number);
+    Ok(())
+}
