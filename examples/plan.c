@@ -3,8 +3,8 @@
  *
  * In the repository's folder:
  *   rt staticlib vadivuzhen
- *   gcc -std=c11 -Wall -Wextra -Werror -pedantic -Iinclude examples/plan.c target/staticlib/libvadivuzhen.a -o plan
- *   ./plan examples/two.sheet */
+ *   gcc -std=c11 -Wall -Wextra -Werror -pedantic -Iinclude examples/plan.c target/staticlib/libvadivuzhen.a -o target/plan-c
+ *   target/plan-c examples/two.sheet */
 #include <stdio.h>
 
 #include "vadivuzhen.h"

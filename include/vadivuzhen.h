@@ -8,8 +8,9 @@
  * compiler's back end, and this header, are not covered by them.
  *
  * What the caller owes:
- *   - A table or buffer is a pointer and then its length in elements. The pointer is aligned, not null, and has that many elements behind it.
- *   - What a call fills overlaps nothing else that is lent to that call.
+ *   - A table or buffer is a pointer and then its length in elements. The pointer is aligned and has that many elements behind it, all of them
+ *     initialized, those to be filled too. It is not null, also where the length is 0.
+ *   - A table or buffer that a call may fill overlaps, over its whole length, no other that is lent to that call.
  *
  * Memory: a refusal leaves all lent memory as it was. A call that finishes fills the stated number of elements from each table's start and changes
  * nothing past them. So tables may be longer than they need to be. The library allocates nothing and keeps nothing from call to call; calls on
@@ -17,7 +18,9 @@
  *
  * Answers are structs of numbers. `refusal` is 0 where the call finished, and else the refusal's number; a field that the answer does not use is 0.
  *
- * Pairs are numbered from 0. N is the number of pairs, 200 at most. */
+ * Pairs are numbered from 0. N is the number of pairs, 200 at most.
+ *
+ * The archive is for x86-64 Linux, where size_t has 64 bits; of the C library it needs memcpy and memset. */
 #ifndef VADIVUZHEN_H
 #define VADIVUZHEN_H
 
@@ -25,7 +28,10 @@
 #include <stdint.h>
 
 #ifdef __cplusplus
+static_assert(sizeof(size_t) == 8, "the library is built for a size_t of 64 bits");
 extern "C" {
+#else
+_Static_assert(sizeof(size_t) == 8, "the library is built for a size_t of 64 bits");
 #endif
 
 /* ---- Refusals, by whom they are caused ---- */
@@ -48,7 +54,7 @@ enum vadivuzhen_refusal {
     VADIVUZHEN_NOT_COMPATIBILITY = 10 /* a compatibility entry is above 1, or a pair's own is not 0 */
 };
 
-/* ---- Lengths that suffice, in elements, for n pairs; n is 0 to 200, and may be a constant expression ---- */
+/* ---- Lengths that suffice, in elements, for n pairs; n is 0 to 200, and may be a constant expression. It is evaluated more than once ---- */
 
 #define VADIVUZHEN_MOST_PAIRS 200
 
@@ -140,8 +146,8 @@ struct vadivuzhen_build_answer vadivuzhen_build(
     const uint64_t *donor_antigens, size_t donor_antigens_length,
     const uint64_t *patient_antigens, size_t patient_antigens_length,
     const uint64_t *patient_antibodies, size_t patient_antibodies_length,
-    uint8_t *compatibilities, size_t compatibilities_length,
-    uint16_t *weights, size_t weights_length);
+    uint8_t *m, size_t m_length,
+    uint16_t *w, size_t w_length);
 
 /* ---- Planning ---- */
 
@@ -169,7 +175,8 @@ struct vadivuzhen_plan_answer {
  * Refuses 4; 9, where m or w is shorter than n rows of n, the shuffle than n, weights, choices, donors or recipients than what is filled, or the records
  * than VADIVUZHEN_RECORDS(n); 8; 10.
  * Proved of every plan made: its donors and recipients are those of Algorithm 1 of arXiv 2302.13880; all its cycles can be carried out; no pair is in two
- * of them; no other set of exchanges of two or three pairs, none of which is in two, weighs more than three times as much; and the tally depends on n
+ * of them; no other set of exchanges of two or three pairs that can all be carried out, with no pair in two of them, weighs more than three times as much;
+ * and the tally depends on n
  * alone: with T triples and P twos among n pairs and R = n / 2 rounds, comparisons are T + R (T + P), and products 2P + 7T + R (5 (T + P) - 1)
  * + (R - 1) (2P + 3T), or 0 where R is 0. */
 struct vadivuzhen_plan_answer vadivuzhen_plan(
@@ -193,7 +200,8 @@ struct vadivuzhen_print_answer {
 /* Prints a plan of n pairs into the buffer `out`: a line with PLAN, n, cycles and weight; for each pair a line with its id, its donor's id and its
  * recipient's id, `-` for a donor or recipient that is no pair's number; a line with COUNTS, comparisons, products and rounds. Numbers are decimal.
  * Fills as many bytes as the answer's length; VADIVUZHEN_PLAN_TEXT(n) bytes always suffice.
- * Refuses 9, where ids, donors or recipients have fewer than n entries or `out` is shorter than the text. */
+ * Refuses 9, where ids, donors or recipients have fewer than n entries or `out` is shorter than the text.
+ * Proved: nothing else is refused, and what is printed is this text. */
 struct vadivuzhen_print_answer vadivuzhen_print_plan(
     size_t n, size_t cycles, uint64_t weight,
     const uint32_t *ids, size_t ids_length,
@@ -204,7 +212,8 @@ struct vadivuzhen_print_answer vadivuzhen_print_plan(
 
 /* Prints a line with REFUSED, a number and a place into the buffer `out`. The number may be any.
  * Fills as many bytes as the answer's length; VADIVUZHEN_REFUSAL_TEXT bytes always suffice.
- * Refuses 9, where `out` is shorter than the text. */
+ * Refuses 9, where `out` is shorter than the text.
+ * Proved: nothing else is refused, and what is printed is this text. */
 struct vadivuzhen_print_answer vadivuzhen_print_refusal(uint32_t number, size_t place, uint8_t *out, size_t out_length);
 
 #ifdef __cplusplus

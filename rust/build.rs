@@ -2,22 +2,18 @@
 //! nothing.
 
 use std::env;
-use std::path::{Path, PathBuf};
+use std::path::Path;
 use std::process::exit;
 
-/// The environment variable that names the archive's folder.
+/// The environment variable that names the archive's folder. A relative name
+/// is taken from this package's folder, wherever cargo is run.
 const FOLDER: &str = "VADIVUZHEN_LIB";
 
 fn main() {
     println!("cargo:rerun-if-env-changed={FOLDER}");
-    let folder = match env::var_os(FOLDER) {
-        Some(folder) => PathBuf::from(folder),
-        None => {
-            let package = env::var_os("CARGO_MANIFEST_DIR").expect("cargo names the package");
-            Path::new(&package).join("../target/staticlib")
-        }
-    };
-    let archive = folder.join("libvadivuzhen.a");
+    let package = env::var_os("CARGO_MANIFEST_DIR").expect("cargo names the package");
+    let folder = env::var_os(FOLDER).unwrap_or("../target/staticlib".into());
+    let archive = Path::new(&package).join(folder).join("libvadivuzhen.a");
     println!("cargo:rerun-if-changed={}", archive.display());
     let Ok(archive) = archive.canonicalize() else {
         eprintln!("the proved library is not at {}", archive.display());

@@ -88,6 +88,17 @@ def try_example(folder):
         prints(what, run(program, given=sheet), f'REFUSED {number} {place}\n', 1)
 
 
+def try_calls(folder):
+    program = folder / 'calls'
+    if not builds('tests/calls.c', 'gcc', '-std=c11', *STRICT, top / 'tests' / 'calls.c', LIBRARY, '-o', program):
+        return
+    done = run(program, given=(top / 'examples' / 'two.sheet').read_bytes())
+    lines = done.stdout.decode().splitlines()
+    check(done.returncode == 0 and len(lines) == 17, f'tests/calls.c: status {done.returncode}, {len(lines)} checks')
+    for line in lines:
+        check(line.startswith('ok: '), f'tests/calls.c: {line}')
+
+
 made = run('rt', 'staticlib', 'vadivuzhen')
 check(made.returncode == 0 and LIBRARY.is_file(), 'rt staticlib vadivuzhen:\n' + (made.stdout + made.stderr).decode('utf-8', 'replace')[-3000:])
 builds('the header as C11', 'gcc', '-std=c11', *STRICT, '-fsyntax-only', '-x', 'c', top / 'include' / 'vadivuzhen.h')
@@ -95,5 +106,6 @@ builds('the header as C++', 'g++', '-std=c++11', *STRICT, '-fsyntax-only', '-x',
 with tempfile.TemporaryDirectory() as name:
     try_lengths(pathlib.Path(name))
     try_example(pathlib.Path(name))
+    try_calls(pathlib.Path(name))
 
 close()

@@ -1,6 +1,6 @@
 """docs/CLAIMS.md holds to the tree. Of what stands there in backquotes: a path under crates/ is there, and a name that follows a path directly is in that
-file; a must-fail edit, as `crate/label`, is there, and every edit of the tree is cited; any other single name is in some source. A line count beside a
-module is that file's."""
+file; a must-fail edit, as `crate/label`, is there, and every edit of the tree is cited; any other single name is in some source, comments apart. A line
+count beside a module is that file's. The links of README.md lead to files, and in DECISIONS.md's table of forms the functions are in the files."""
 import pathlib
 import re
 
@@ -16,7 +16,7 @@ def module(path):
     return next((f for f in (crates / f'{path}.antt', crates / f'{path}.rt', crates / path) if f.is_file()), None)
 
 
-sources = ' '.join(f.read_text() for pattern in ('*/specs/*.antt', '*/proofs/*.antt', '*/proofs/*/*.antt', '*/src/*.rt') for f in crates.glob(pattern))
+sources = ' '.join(re.sub(r'(--|//) .*', '', f.read_text()) for pattern in ('*/specs/*.antt', '*/proofs/*.antt', '*/proofs/*/*.antt', '*/src/*.rt') for f in crates.glob(pattern))
 words = set(re.findall(r"[^\s(){}.;,@\"«»&!:<>=]+", sources))
 edits = {f'{f.parent.parent.name}/{f.stem}' for f in crates.glob('*/must-fail/*.edit')}
 cited = set()
@@ -44,5 +44,18 @@ check(counts, 'no line counts are given')
 for path, lines in counts:
     file = module(path)
     check(file and len(file.read_text().splitlines()) == int(lines), f'{path}: {lines} lines given, {file and len(file.read_text().splitlines())} there')
+
+for page in ('README.md', 'docs/DECISIONS.md', 'docs/CLAIMS.md'):
+    for link in re.findall(r'\]\(([^)#:]+)\)', (top / page).read_text()):
+        check((top / page).parent.joinpath(link).exists(), f'{page}: no {link}')
+
+forms = re.search(r'\| place \| form \| file \| function \|\n.*?\n\n', (top / 'docs' / 'DECISIONS.md').read_text(), re.S)
+rows = [row.split(' | ') for row in forms.group(0).splitlines()[2:] if row] if forms else []
+check(len(rows) == 9, f'DECISIONS.md has {len(rows)} forms, document 01 nine')
+for place, form, files, functions in rows:
+    if '(02)' not in place:
+        code = ' '.join((top / file).read_text() for file in re.findall(r'crates/\w+/src/lib\.rt', files))
+        for name in re.findall(r'`(\w+)`', functions):
+            check(re.search(rf'(?:fn|const|impl) {name}\b', code), f'DECISIONS.md: {files} has no {name}')
 
 close()

@@ -12,7 +12,7 @@ check(layout.returncode == 0, 'run `rt fmt`: ' + (layout.stdout + layout.stderr)
 
 tracked = subprocess.run(['git', 'ls-files'], cwd=top, capture_output=True, text=True).stdout.split()
 check(tracked, 'git lists no files')
-paths = re.compile(r'(?<![\w.])/(?:home|root|work|tmp|opt|usr)/')
+paths = re.compile(r'(?<![\w.])/(?:home|root|work|tmp|opt|usr|var|mnt|srv|Users)(?:/|(?=[\s`\'"),;]))')
 for name in tracked:
     file = top / name
     if file.is_file() and name != 'tests/layout.py':

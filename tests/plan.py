@@ -5,6 +5,7 @@ import pathlib
 import random
 import subprocess
 import sys
+import time
 
 from closing import check, close
 from sheets import damaged, sheet_of, whole
@@ -15,7 +16,8 @@ sys.path.insert(0, str(examples))
 import make  # noqa: E402
 
 PLAN = top / 'target' / 'bin' / 'plan'
-RUST = top / 'trial' / 'target' / 'release' / 'examples' / 'plan'
+BUILT = top / 'trial' / 'target'
+RUST = BUILT / 'release' / 'examples' / 'plan'
 
 
 def printed(program, sheet):
@@ -75,14 +77,16 @@ def try_limits():
 
 
 def try_pieces():
-    """Standard input that comes byte by byte is read to its end."""
+    """Standard input that comes in pieces, with pauses in which the program can read what is there, is read to its end."""
+    sheet = (examples / 'two.sheet').read_bytes()
     run = subprocess.Popen([PLAN], stdin=subprocess.PIPE, stdout=subprocess.PIPE)
-    for byte in (examples / 'two.sheet').read_bytes():
-        run.stdin.write(bytes([byte]))
+    for piece in (sheet[:1], sheet[1:20], sheet[20:50], sheet[50:]):
+        run.stdin.write(piece)
         run.stdin.flush()
+        time.sleep(0.2)
     run.stdin.close()
-    check(run.stdout.read() == (examples / 'two.plan').read_bytes(), 'a sheet that comes byte by byte')
-    run.wait()
+    check(run.stdout.read() == (examples / 'two.plan').read_bytes(), 'a sheet that comes in pieces')
+    check(run.wait() == 0, 'a sheet that comes in pieces: exit status')
 
 
 def try_random(draw, count):
@@ -100,6 +104,7 @@ def try_random(draw, count):
         else:
             sheet = damaged(draw)
         want = printed(RUST, sheet)
+        check(want.startswith(('PLAN ', 'REFUSED ')), f'the planner in Rust on {sheet.hex()}: {want[:80]!r}')
         answer = want.split()[1] if want.startswith('REFUSED') else 'planned'
         answers[answer] = answers.get(answer, 0) + 1
         expect(f'sheet {sheet.hex()}', sheet, want)
@@ -113,7 +118,7 @@ def main():
     seed = int(sys.argv[1]) if len(sys.argv) > 1 else random.randrange(2 ** 32)
     count = int(sys.argv[2]) if len(sys.argv) > 2 else 1000
     print('seed', seed)
-    built = subprocess.run(['cargo', 'build', '--release', '--offline', '--quiet', '--example', 'plan'], cwd=top / 'trial', capture_output=True, text=True)
+    built = subprocess.run(['cargo', 'build', '--release', '--offline', '--quiet', '--example', 'plan', '--target-dir', BUILT], cwd=top / 'trial', capture_output=True, text=True)
     check(built.returncode == 0, 'cargo build failed:\n' + built.stderr[-3000:])
     try_examples()
     try_limits()

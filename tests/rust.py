@@ -1,5 +1,5 @@
-"""The library from Rust: the tests and the documentation of the crate in rust/, its example on document 01's sheet and on a damaged one, and the
-benchmark at one small size. Links the archive that tests/c.py makes."""
+"""The library from Rust: the tests and the documentation of the crate in rust/, its example on document 01's sheet, on a damaged one and where nothing can
+be read or written, and the benchmark at one small size. Links the archive that tests/c.py makes, whatever VADIVUZHEN_LIB says."""
 import os
 import pathlib
 import re
@@ -8,15 +8,17 @@ import subprocess
 from closing import check, close
 
 top = pathlib.Path(__file__).resolve().parent.parent
+LIBRARY = {'VADIVUZHEN_LIB': str(top / 'target' / 'staticlib')}
 PRINTED = 'PLAN 2 1 2900\n11 12 12\n12 11 11\nCOUNTS 1 6 1\n'
 
 
-def cargo(folder, *words, given=b'', **environment):
-    return subprocess.run(['cargo', *words], cwd=top / folder, input=given, capture_output=True, env={**os.environ, **environment})
+def cargo(folder, *words, given=b'', out=subprocess.PIPE, **environment):
+    return subprocess.run(['cargo', *words], cwd=top / folder, input=given, stdout=out, stderr=subprocess.PIPE,
+                          env={**os.environ, **LIBRARY, **environment})
 
 
 def said(done):
-    return (done.stdout + done.stderr).decode('utf-8', 'replace')[-3000:]
+    return ((done.stdout or b'') + done.stderr).decode('utf-8', 'replace')[-3000:]
 
 
 tests = cargo('rust', 'test', '--offline')
@@ -36,12 +38,18 @@ for what, words, given, text, status in [
     ('standard input', [], two, PRINTED, 0),
     ('a sheet that is cut off', [], two[:79], 'REFUSED 1 77\n', 1),
     ('many bytes more', [], two + bytes(10000), 'REFUSED 5 84\n', 1),
+    ('no file', ['--', '../examples/none.sheet'], b'', '', 2),
 ]:
     done = cargo('rust', *example, *words, given=given)
     check(done.stdout.decode() == text and done.returncode == status, f'the example on {what}:\n' + said(done))
 
+with open('/dev/full', 'wb') as full:
+    unwritten = cargo('rust', *example, given=two, out=full)
+check(unwritten.returncode == 2 and b'the text cannot be written' in unwritten.stderr, 'the example with no room for its text:\n' + said(unwritten))
+
 lost = cargo('rust', 'build', '--offline', VADIVUZHEN_LIB='nowhere')
-check(lost.returncode != 0 and b'run `rt staticlib vadivuzhen`' in lost.stderr, 'a build without the archive:\n' + said(lost))
+told = [f"the proved library is not at {top / 'rust' / 'nowhere' / 'libvadivuzhen.a'}\n", 'run `rt staticlib vadivuzhen`']
+check(lost.returncode != 0 and all(line in said(lost) for line in told), 'a build without the archive:\n' + said(lost))
 
 bench = cargo('bench', 'run', '--release', '--offline', '--quiet', '--', '10')
 check(bench.returncode == 0 and re.search(rb'^\| 10 \| \d+ \|', bench.stdout, re.M), 'the benchmark:\n' + said(bench))

@@ -1,6 +1,7 @@
 """The planner in Rust that trial/ has, written from document 01 alone: its own tests; its plans of the pools that the program `pools` plans, which must
 be what crates/pools/stdout has, byte for byte; and the library run beside it on random, damaged and faulty input. Links the archive that tests/c.py
-makes."""
+makes, whatever VADIVUZHEN_LIB says."""
+import os
 import pathlib
 import re
 import subprocess
@@ -8,10 +9,11 @@ import subprocess
 from closing import check, close
 
 top = pathlib.Path(__file__).resolve().parent.parent
+LIBRARY = {'VADIVUZHEN_LIB': str(top / 'target' / 'staticlib')}
 
 
 def cargo(folder, *words):
-    return subprocess.run(['cargo', *words], cwd=top / folder, capture_output=True, text=True)
+    return subprocess.run(['cargo', *words], cwd=top / folder, capture_output=True, text=True, env={**os.environ, **LIBRARY})
 
 
 tests = cargo('trial', 'test', '--release', '--offline')

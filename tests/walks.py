@@ -1,4 +1,5 @@
-"""Each walk in the tree is the one that walks/walk.py writes from its description, and has at most 220 lines."""
+"""Each walk in the tree is the one that walks/walk.py writes from its description, and every walk has one. None has more than 220 lines: a function
+whose walk is longer does too much, and its work goes into functions that the borrow checker covers."""
 import pathlib
 import sys
 
@@ -15,7 +16,10 @@ for walk in WALKS:
     check(there == text, f'{name}: the walk in the tree is not the one that walks/walk.py writes')
     check(len(text.splitlines()) <= 220, f'{name}: more than 220 lines')
 
-written = {file for file in (top / 'crates').glob('*/proofs/*/Proof.antt') if 'written by walks/walk.py' in file.read_text()}
-check(written == {walk.path for walk in WALKS}, 'a walk in the tree has no description')
+# a proof that follows the MIR is known by what it uses
+written = {file for file in (top / 'crates').glob('*/proofs/**/Proof.antt') if 'walk-meets' in file.read_text()}
+for file in sorted(written - {walk.path for walk in WALKS}):
+    check(False, f'{file.relative_to(top)}: a walk with no description in walks/functions.py')
+check(written, 'the tree has no walks')
 
 close()

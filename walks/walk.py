@@ -2,11 +2,18 @@
 or to a slice of structs.
 
 Such a proof follows the function's MIR statement by statement. It keeps a list of what is owned, and each of its steps names places in that list; the
-statements are always the same few. So it is written by this program: from the function's signature and contract, which it reads in src/lib.rt, and from
+statements are always the same few. So it is written by this program: from the function's signature and contract, which it reads in the crate's source, and from
 a description (functions.py) of its statements, with the terms that show what each call requires and what the function promises. The checker checks
 what is written, and nothing here is believed.
 
     python3 walks/walk.py        writes each walk into crates/CRATE/proofs/FUNCTION/Proof.antt
+
+To add one: write the function with its contract; look at its statements in `rt mir CRATE`; describe them in functions.py as
+
+    Walk('CRATE', 'FUNCTION', locals, [statements], ends, [imports])
+
+where `locals` is how many locals the MIR has, _0 (the result) and the parameters among them; `ends` is the term that shows what the function promises,
+or a list of them, one for each `ensures`; and `imports` brings in what the author's terms cite. Then run this program, `rt fmt` and `rt dev CRATE`.
 
 A parameter is a number, a struct or an array of structs by value, a `&[T]`, a `&mut [T]` or a `&mut S`; a function returns such a value, an enum, or
 nothing. The statements, over the locals as `rt mir` numbers them:
@@ -21,16 +28,22 @@ nothing. The statements, over the locals as `rt mir` numbers them:
     let(d, x)                    d = x
     zero(d)                      d = 0
     length(d, 'xs')              d = xs.len()
-    less(d, x, y, shows)         d = x - y, where `shows` shows y ≤ x
+    less(d, x, y, shows)         d = x - y, where `shows` shows y ≤ x; y may be a literal, as '1'
     make(d, 'S', [..])           d = S { .. }, of literals
     call(d, 'f', [..], shows)    d = f(..), where `shows` shows what f requires; `crate::f` is another crate's
-    loop(..)                     while i < xs.len() { .. i += 1 }, or i < n
+    loop(i, test, below, ..)     while i < xs.len() { .. i += 1 }, or i < n: `i` and `test` are the locals of the counter and of the comparison, `below` names
+                                 xs or n, and `count` is the local of xs.len(). `body` and `after` are statements; `inv` is the invariant; `start` shows it
+                                 at first, `again` after a turn, `upto` that i is at most the bound, and `long` that a slice has kept its length
     give(x)                      returns x; with no x, nothing
 
 Here x is a local, a field (local, 'name') of the struct in one, or a parameter's name. A slice or a struct that is lent for a call comes back after it,
 with what the call left in it. In the author's terms {x} is what the parameter x holds there (the number, the list, the struct), and {_9} what local 9
 holds; `pre` is what the function requires, `e1`, `e2`, .. what the calls ensure, in their order (`e1-0`, `e1-1`, .. where there are several clauses), `r1`,
-`r2`, .. what they give; and in a loop {x₀} is what x held at entry, {inv} the invariant, `more` that a turn is left, `over` that none is."""
+`r2`, .. what they give; (x .now) is what a lent x held at entry, and `x-fits` that a value x is within its type. In a loop {x₀} is what x held at entry, {i}
+the counter, {inv} the invariant, `more` that a turn is left, `over` that none is.
+
+It knows no more than is used: at most three `ensures`; one loop, with nothing but a return after it; no parameter with an underscore in its name; no two
+callees of one name in a function."""
 import functools
 import pathlib
 import re

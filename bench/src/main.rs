@@ -179,13 +179,23 @@ fn timed(n: usize) -> Timed {
             .add(often, || straight::plan(n, &m, &w, &shuffle, room))
             .expect("a straight plan");
 
-        // All three made the same plan.
+        // All three made the same plan, and those that count counted alike.
         assert_eq!((read.refusal, build.refusal, plan.refusal), (0, 0, 0));
         assert_eq!(by_gates, by_straight);
         assert_eq!((&weights, &choices), (&by_gates.weights, &by_gates.choices));
+        assert_eq!(donors, by_gates.donors);
         assert_eq!(recipients, by_gates.recipients);
-        let counted = (plan.comparisons, plan.products);
-        assert_eq!(counted, (tally.comparisons, tally.products));
+        assert_eq!(plan.cycles, by_gates.cycles());
+        let cycle = |record: &Cycle| [record.first, record.second, record.third];
+        let cycles: Vec<[u16; 3]> = records[..plan.cycles].iter().map(cycle).collect();
+        assert_eq!(cycles, by_gates.records);
+        assert_eq!(plan.weight, u64::from(by_gates.weight));
+        let counted = Tally {
+            comparisons: plan.comparisons,
+            products: plan.products,
+            rounds: plan.rounds,
+        };
+        assert_eq!(counted, tally);
         runs += 1;
     }
     timed

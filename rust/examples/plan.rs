@@ -1,33 +1,39 @@
 //! Reads a pool sheet from the file that is named, or from standard input,
 //! and prints its plan or its refusal.
 //!
+//! Exit status: 0 where a plan is printed, 1 where the sheet is refused, 2
+//! where it cannot be read or the text cannot be written.
+//!
 //! `cargo run --release --example plan -- ../examples/two.sheet`
 
 use std::env;
 use std::fs::File;
-use std::io::{self, Read};
+use std::io::{self, Read, Write};
 use std::process::ExitCode;
 use vadivuzhen::{Pool, Refused, LONGEST_SHEET};
 
 fn main() -> ExitCode {
-    let sheet = match sheet() {
-        Ok(sheet) => sheet,
-        Err(error) => {
-            eprintln!("the sheet cannot be read: {error}");
-            return ExitCode::FAILURE;
-        }
-    };
-    match printed(&sheet) {
-        Ok(text) => {
-            print!("{text}");
-            ExitCode::SUCCESS
-        }
-        Err(refused) => {
-            print!("{}", refused.print());
-            eprintln!("{refused}");
-            ExitCode::FAILURE
+    match run() {
+        Ok(status) => status.into(),
+        Err(what) => {
+            eprintln!("{what}");
+            ExitCode::from(2)
         }
     }
+}
+
+/// The exit status, or what could not be read or written.
+fn run() -> Result<u8, String> {
+    let sheet = sheet().map_err(|error| format!("the sheet cannot be read: {error}"))?;
+    let (text, status) = match printed(&sheet) {
+        Ok(text) => (text, 0),
+        Err(refused) => {
+            eprintln!("{refused}");
+            (refused.print(), 1)
+        }
+    };
+    show(&text).map_err(|error| format!("the text cannot be written: {error}"))?;
+    Ok(status)
 }
 
 /// The bytes of the sheet, and no more than show that there are too many.
@@ -46,4 +52,11 @@ fn sheet() -> io::Result<Vec<u8>> {
 fn printed(sheet: &[u8]) -> Result<String, Refused> {
     let pool = Pool::read(sheet)?;
     pool.plan().print(pool.ids())
+}
+
+/// Writes the text. `print!` would panic where the output is closed.
+fn show(text: &str) -> io::Result<()> {
+    let mut output = io::stdout();
+    output.write_all(text.as_bytes())?;
+    output.flush()
 }

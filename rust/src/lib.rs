@@ -52,8 +52,22 @@
 //! The archive of the proved library is taken from the folder that the
 //! environment variable `VADIVUZHEN_LIB` names; without it, from where
 //! `rt staticlib vadivuzhen` leaves it in the repository, `target/staticlib`.
+//! It is for x86-64 Linux, and the crate does not compile for other targets.
 
 #![warn(missing_docs)]
+
+// There are x86-64 targets whose pointers have 32 bits.
+#[cfg(not(any(
+    doc,
+    all(
+        target_arch = "x86_64",
+        target_pointer_width = "64",
+        target_os = "linux"
+    )
+)))]
+compile_error!(
+    "libvadivuzhen.a, which this crate links, is for x86-64 Linux with 64-bit pointers: compile for such a target, like x86_64-unknown-linux-gnu"
+);
 
 mod plan;
 mod pool;

@@ -18,7 +18,7 @@ const fn sheet_length(n: usize) -> usize {
     (3 + 4) + n * (3 + 32) + (3 + 2 * n)
 }
 
-/// A blood group.
+/// A blood group. The discriminants are the sheet's bytes.
 #[derive(Clone, Copy, Debug, PartialEq, Eq, Hash)]
 #[repr(u8)]
 pub enum Blood {
@@ -36,7 +36,7 @@ impl Blood {
     const ALL: [Blood; 4] = [Blood::O, Blood::A, Blood::B, Blood::Ab];
 }
 
-/// An age group.
+/// An age group. The discriminants are the sheet's bytes.
 #[derive(Clone, Copy, Debug, PartialEq, Eq, Hash)]
 #[repr(u8)]
 pub enum Age {
@@ -50,10 +50,12 @@ impl Age {
     const ALL: [Age; 2] = [Age::Young, Age::Senior];
 }
 
-/// A patient and a donor who does not suit that patient.
+/// A patient and a donor who does not suit that patient. That is not checked;
+/// in no plan does a donor give to the patient of the same pair.
 #[derive(Clone, Copy, Debug, PartialEq, Eq, Hash)]
 pub struct Pair {
-    /// The pair's id, which no other pair of its pool has.
+    /// The pair's id, any number that no other pair of its pool has. Plans
+    /// speak of pairs by number; the id is for the printout.
     pub id: u32,
     /// The donor's blood.
     pub donor_blood: Blood,
@@ -65,15 +67,19 @@ pub struct Pair {
     pub patient_age: Age,
     /// The donor's antigens, one bit for each entry of the laboratory's list.
     pub donor_antigens: u64,
-    /// The patient's antigens.
+    /// The patient's antigens, by the same list.
     pub patient_antigens: u64,
-    /// The patient's antibodies.
+    /// The patient's antibodies: the antigens that a donor must not have.
     pub patient_antibodies: u64,
 }
 
 /// A pool of pairs and its shuffle, with none of the faults that document 01
 /// lists: there are at most [`MOST_PAIRS`] pairs, no two ids are alike, and
 /// the shuffle holds each pair's number once.
+///
+/// A pair's number is its index among the pairs, from 0. A place is an index
+/// into the shuffle. Equal pools have the same pairs in the same order and the
+/// same shuffle.
 #[derive(Clone, Debug, PartialEq, Eq, Hash)]
 pub struct Pool {
     // All of one length.
@@ -95,7 +101,7 @@ impl Pool {
     ///
     /// Refused are more than [`MOST_PAIRS`] pairs, then an id that is not the
     /// first of its kind, then a shuffle that has not each pair's number once
-    /// and no more.
+    /// and no more. The refusal does not say which pair is at fault.
     pub fn new(pairs: &[Pair], shuffle: &[u16]) -> Result<Pool, Refused> {
         let pool = Pool {
             ids: pairs.iter().map(|pair| pair.id).collect(),
@@ -180,7 +186,8 @@ impl Pool {
         self.ids.is_empty()
     }
 
-    /// The pairs, in order of their numbers.
+    /// The pairs, in order of their numbers. How many there are is
+    /// [`len`](Pool::len).
     pub fn pairs(&self) -> impl ExactSizeIterator<Item = Pair> + '_ {
         (0..self.len()).map(|i| Pair {
             id: self.ids[i],
@@ -227,12 +234,13 @@ impl Pool {
         sheet
     }
 
-    /// The pool's compatibilities and weights.
+    /// The pool's compatibilities and weights, built anew by each call.
     pub fn tables(&self) -> Tables {
         Tables::build(self)
     }
 
-    /// The pool's plan.
+    /// The pool's plan, made anew by each call, tables and all. A pool has no
+    /// fault, so planning does not refuse it.
     pub fn plan(&self) -> Plan {
         match self.tables().plan(&self.shuffle) {
             Ok(plan) => plan,

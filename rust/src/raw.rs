@@ -258,6 +258,10 @@ pub fn plan(n: usize, m: &[u8], w: &[u16], shuffle: &[u16], into: Planned<'_>) -
 
 /// Prints a plan of `n` pairs, whose numbers are in `answer`, into the lent
 /// buffer. A donor or recipient that is no pair's number is printed as none.
+///
+/// `answer.refusal` is not looked at: where [`plan`] refused, its answer would
+/// be printed as a plan, `PLAN n 0 0`. Look first, and print a refusal with
+/// [`print_refusal`].
 pub fn print_plan(
     n: usize,
     answer: PlanAnswer,

@@ -134,14 +134,29 @@ fn main() {
     let at = |edges: &[(usize, usize)], weight: u16| -> Vec<(usize, usize, u16)> {
         edges.iter().map(|&(i, j)| (i, j, weight)).collect()
     };
-    of_edges("k6", 3, &[at(&forward, 4), at(&backward, 4)].concat(), &identity[..3]);
-    of_edges("k7", 3, &[at(&forward, 1), at(&backward, 2)].concat(), &identity[..3]);
+    of_edges(
+        "k6",
+        3,
+        &[at(&forward, 4), at(&backward, 4)].concat(),
+        &identity[..3],
+    );
+    of_edges(
+        "k7",
+        3,
+        &[at(&forward, 1), at(&backward, 2)].concat(),
+        &identity[..3],
+    );
     let k10 = at(&[(0, 1), (1, 0), (0, 2), (2, 0)], 5);
     of_edges("k10", 3, &k10, &identity[..3]);
     of_edges("k10 with shuffle 2 0 1", 3, &k10, &[2, 0, 1]);
     let both = at(&[(0, 3), (3, 0), (1, 4), (4, 1), (2, 5), (5, 2)], 3);
     of_edges("k8", 6, &[at(&forward, 2), both].concat(), &identity);
-    of_edges("k9", 4, &at(&[(0, 1), (1, 0), (2, 3), (3, 2)], 3), &identity[..4]);
+    of_edges(
+        "k9",
+        4,
+        &at(&[(0, 1), (1, 0), (2, 3), (3, 2)], 3),
+        &identity[..4],
+    );
 
     of_edges("k11", 2, &[(0, 1, 5), (1, 0, 7)], &[0, 0]);
     small("k12", 2, &[0, 2, 1, 0], &[0, 5, 7, 0], &[0, 1]);

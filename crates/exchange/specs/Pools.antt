@@ -24,9 +24,9 @@ pub record Arrow : Type 0 where
 abbrev pub edge : ℕ → ℕ → ℕ → Arrow
 edge i j w = record { donor = i; patient = j; mark = 1; weight = w }
 
--- what comes out: choices, weights after round R, weight, number of cycles, recipients, donors, tally; or the refusal
+-- what comes out: choices, weights after round R, weight, number of cycles, recipients, donors, records, tally; or the refusal
 pub data Found : Type 0 where
-  made : List ℕ → List ℕ → ℕ → ℕ → List ℕ → List ℕ → Tally → Found
+  made : List ℕ → List ℕ → ℕ → ℕ → List ℕ → List ℕ → List Cycle → Tally → Found
   turned : ℕ → Found
 
 pub record Case : Type 0 where
@@ -46,14 +46,17 @@ read f (a ∷ es) i j = cond (cond (eqb i (a .donor)) (eqb j (a .patient)) false
 unfoldable pub tableOf : (Arrow → ℕ) → ℕ → List Arrow → List ℕ
 tableOf f n es = table (n * n) (λ k. read f es (k / n) (k % n))
 
--- lent tables of just the sizes due
+abbrev pub cycle : ℕ → ℕ → ℕ → Cycle
+cycle a b c = record { first = a; second = b; third = c }
+
+-- lent tables of just the sizes due, their entries 0
 unfoldable pub blank : ℕ → Lent
 blank n =
     lent (replicate (subsetCount n) 0) (replicate (roundCount n) 0) (replicate n 0) (replicate n 0)
-    (replicate (roundCount n) (record { first = 0; second = 0; third = 0 }))
+    (replicate (roundCount n) (cycle 0 0 0))
 
 unfoldable pub foundIn : Answer Plan → Lent → Found
-foundIn (finished p) t = made (t .choices) (t .weights) (p .weight) (p .cycles) (t .recipients) (t .donors) (p .tally)
+foundIn (finished p) t = made (t .choices) (t .weights) (p .weight) (p .cycles) (t .recipients) (t .donors) (t .records) (p .tally)
 foundIn (refused k o) t = turned k
 
 unfoldable pub found : Case → Found
@@ -77,31 +80,31 @@ k8rival = (0 ∷ 3 ∷ []) ∷ (1 ∷ 4 ∷ []) ∷ (2 ∷ 5 ∷ []) ∷ []
 abbrev pub cases : List Case
 cases =
     -- k1, k2
-    case 0 [] [] (made [] [] 0 0 [] [] (tally 0 0 0))
-    ∷ case 1 [] (0 ∷ []) (made [] [] 0 0 (1 ∷ []) (1 ∷ []) (tally 0 0 0))
+    case 0 [] [] (made [] [] 0 0 [] [] [] (tally 0 0 0))
+    ∷ case 1 [] (0 ∷ []) (made [] [] 0 0 (1 ∷ []) (1 ∷ []) [] (tally 0 0 0))
     -- k3
-    ∷ case 2 k3edges (0 ∷ 1 ∷ []) (made (0 ∷ []) (12 ∷ []) 12 1 (1 ∷ 0 ∷ []) (1 ∷ 0 ∷ []) (tally 1 6 1))
+    ∷ case 2 k3edges (0 ∷ 1 ∷ []) (made (0 ∷ []) (12 ∷ []) 12 1 (1 ∷ 0 ∷ []) (1 ∷ 0 ∷ []) (cycle 0 1 2 ∷ []) (tally 1 6 1))
     -- k4
-    ∷ case 2 (edge 0 1 5 ∷ []) (0 ∷ 1 ∷ []) (made (1 ∷ []) (0 ∷ []) 0 0 (2 ∷ 2 ∷ []) (2 ∷ 2 ∷ []) (tally 1 6 1))
+    ∷ case 2 (edge 0 1 5 ∷ []) (0 ∷ 1 ∷ []) (made (1 ∷ []) (0 ∷ []) 0 0 (2 ∷ 2 ∷ []) (2 ∷ 2 ∷ []) (cycle 0 0 0 ∷ []) (tally 1 6 1))
     -- k5
-    ∷ case 2 (edge 0 1 0 ∷ edge 1 0 0 ∷ []) (0 ∷ 1 ∷ []) (made (1 ∷ []) (0 ∷ []) 0 0 (2 ∷ 2 ∷ []) (2 ∷ 2 ∷ []) (tally 1 6 1))
+    ∷ case 2 (edge 0 1 0 ∷ edge 1 0 0 ∷ []) (0 ∷ 1 ∷ []) (made (1 ∷ []) (0 ∷ []) 0 0 (2 ∷ 2 ∷ []) (2 ∷ 2 ∷ []) (cycle 0 0 0 ∷ []) (tally 1 6 1))
     -- k6
     ∷ case 3 (edge 0 1 4 ∷ edge 1 2 4 ∷ edge 2 0 4 ∷ edge 1 0 4 ∷ edge 2 1 4 ∷ edge 0 2 4 ∷ []) (0 ∷ 1 ∷ 2 ∷ [])
-    (made (0 ∷ []) (12 ∷ 8 ∷ 8 ∷ 8 ∷ []) 12 1 (1 ∷ 2 ∷ 0 ∷ []) (2 ∷ 0 ∷ 1 ∷ []) (tally 5 32 1))
+    (made (0 ∷ []) (12 ∷ 8 ∷ 8 ∷ 8 ∷ []) 12 1 (1 ∷ 2 ∷ 0 ∷ []) (2 ∷ 0 ∷ 1 ∷ []) (cycle 0 1 2 ∷ []) (tally 5 32 1))
     -- k7
     ∷ case 3 (edge 0 1 1 ∷ edge 1 2 1 ∷ edge 2 0 1 ∷ edge 1 0 2 ∷ edge 2 1 2 ∷ edge 0 2 2 ∷ []) (0 ∷ 1 ∷ 2 ∷ [])
-    (made (0 ∷ []) (6 ∷ 3 ∷ 3 ∷ 3 ∷ []) 6 1 (2 ∷ 0 ∷ 1 ∷ []) (1 ∷ 2 ∷ 0 ∷ []) (tally 5 32 1))
+    (made (0 ∷ []) (6 ∷ 3 ∷ 3 ∷ 3 ∷ []) 6 1 (2 ∷ 0 ∷ 1 ∷ []) (1 ∷ 2 ∷ 0 ∷ []) (cycle 0 2 1 ∷ []) (tally 5 32 1))
     -- k8
     ∷ case 6 k8edges (0 ∷ 1 ∷ 2 ∷ 3 ∷ 4 ∷ 5 ∷ [])
-    (made (0 ∷ 35 ∷ 35 ∷ []) (replicate 35 0) 6 1 (1 ∷ 2 ∷ 0 ∷ 6 ∷ 6 ∷ 6 ∷ []) (2 ∷ 0 ∷ 1 ∷ 6 ∷ 6 ∷ 6 ∷ []) (tally 125 872 3))
+    (made (0 ∷ 35 ∷ 35 ∷ []) (replicate 35 0) 6 1 (1 ∷ 2 ∷ 0 ∷ 6 ∷ 6 ∷ 6 ∷ []) (2 ∷ 0 ∷ 1 ∷ 6 ∷ 6 ∷ 6 ∷ []) (cycle 0 1 2 ∷ cycle 0 0 0 ∷ cycle 0 0 0 ∷ []) (tally 125 872 3))
     -- k9
     ∷ case 4 (edge 0 1 3 ∷ edge 1 0 3 ∷ edge 2 3 3 ∷ edge 3 2 3 ∷ []) (0 ∷ 1 ∷ 2 ∷ 3 ∷ [])
-    (made (4 ∷ 9 ∷ []) (0 ∷ 0 ∷ 0 ∷ 0 ∷ 0 ∷ 0 ∷ 0 ∷ 0 ∷ 0 ∷ 6 ∷ []) 12 2 (1 ∷ 0 ∷ 3 ∷ 2 ∷ []) (1 ∷ 0 ∷ 3 ∷ 2 ∷ []) (tally 24 162 2))
+    (made (4 ∷ 9 ∷ []) (0 ∷ 0 ∷ 0 ∷ 0 ∷ 0 ∷ 0 ∷ 0 ∷ 0 ∷ 0 ∷ 6 ∷ []) 12 2 (1 ∷ 0 ∷ 3 ∷ 2 ∷ []) (1 ∷ 0 ∷ 3 ∷ 2 ∷ []) (cycle 0 1 4 ∷ cycle 2 3 4 ∷ []) (tally 24 162 2))
     -- k10, with the identity and with shuffle 2 0 1
     ∷ case 3 (edge 0 1 5 ∷ edge 1 0 5 ∷ edge 0 2 5 ∷ edge 2 0 5 ∷ []) (0 ∷ 1 ∷ 2 ∷ [])
-    (made (1 ∷ []) (0 ∷ 10 ∷ 10 ∷ 0 ∷ []) 10 1 (1 ∷ 0 ∷ 3 ∷ []) (1 ∷ 0 ∷ 3 ∷ []) (tally 5 32 1))
+    (made (1 ∷ []) (0 ∷ 10 ∷ 10 ∷ 0 ∷ []) 10 1 (1 ∷ 0 ∷ 3 ∷ []) (1 ∷ 0 ∷ 3 ∷ []) (cycle 0 1 3 ∷ []) (tally 5 32 1))
     ∷ case 3 (edge 0 1 5 ∷ edge 1 0 5 ∷ edge 0 2 5 ∷ edge 2 0 5 ∷ []) (2 ∷ 0 ∷ 1 ∷ [])
-    (made (1 ∷ []) (0 ∷ 10 ∷ 0 ∷ 10 ∷ []) 10 1 (2 ∷ 3 ∷ 0 ∷ []) (2 ∷ 3 ∷ 0 ∷ []) (tally 5 32 1))
+    (made (1 ∷ []) (0 ∷ 10 ∷ 0 ∷ 10 ∷ []) 10 1 (2 ∷ 3 ∷ 0 ∷ []) (2 ∷ 3 ∷ 0 ∷ []) (cycle 2 0 3 ∷ []) (tally 5 32 1))
     -- k11
     ∷ case 2 k3edges (0 ∷ 0 ∷ []) (turned 8)
     -- k12
@@ -124,9 +127,6 @@ abbrev pub FirstFaultTold : Type 0
 FirstFaultTold = map found twoFaults ≡ map (λ (c : Case). c .due) twoFaults
 
 -- k3 again, in tables longer than is due: "what lies past these, and past the last record, is unchanged"
-abbrev pub cycle : ℕ → ℕ → ℕ → Cycle
-cycle a b c = record { first = a; second = b; third = c }
-
 abbrev pub PastUnchanged : Type 0
 PastUnchanged =
     planning 2 (tableOf (λ a. a .mark) 2 k3edges) (tableOf (λ a. a .weight) 2 k3edges) (0 ∷ 1 ∷ 99 ∷ [])
