@@ -17,7 +17,8 @@ use Rattle.refusal.specs.declared.Verdict.{Verdict}
 use Rattle.refusal.specs.declared.Verdict.the-variants.{Sound, Faulty}
 use Rattle.refusal.proofs.Faults.{refuse-none, none-refuse, fault-refuse, then-none, none-then, fault-then, by-refuse, by-then, sound-none, faulty-fault, unless-none, unless-fault, finished-none, refused-fault}
 use Rattle.printout.specs.Printed.{Plan, planText, refusalText}
-use Rattle.printout.specs.Calls.{roomFault, planFault, printingPlan, printingRefusal}
+use Rattle.pool.specs.Turned.{roomFault}
+use Rattle.printout.specs.Calls.{planFault, printingPlan, printingRefusal}
 use Rattle.printout.specs.Said.{said}
 use Rattle.printout.specs.Steps.{Put, Hold}
 use Rattle.printout.specs.Promises.{Typed, Prints, PrintsPlan, PrintsRefused, PrintsRefusal}
@@ -32,19 +33,19 @@ Nine k o = (k ≡ 9) × (o ≡ 0)
 -- ## A text that fits the buffer, or not
 
 module _ (room : ℕ) (text : List ℕ) where
-  room-none : length text ≤ room → roomFault room text ≡ none
+  room-none : length text ≤ room → roomFault room (length text) ≡ none
   unfolding roomFault
   room-none l = none-refuse 9 0 _ (le-ltb room (length text) l)
 
-  room-fault : room < length text → roomFault room text ≡ fault 9 0
+  room-fault : room < length text → roomFault room (length text) ≡ fault 9 0
   unfolding roomFault
   room-fault l = fault-refuse 9 0 _ (lt-ltb room (length text) l)
 
-  none-room : roomFault room text ≡ none → length text ≤ room
+  none-room : roomFault room (length text) ≡ none → length text ≤ room
   unfolding roomFault
   none-room e = ltb-false room (length text) (refuse-none 9 0 _ e)
 
-  nine : (k o : ℕ) → roomFault room text ≡ fault k o → Nine k o
+  nine : (k o : ℕ) → roomFault room (length text) ≡ fault k o → Nine k o
   unfolding roomFault
   nine = by-refuse Nine 9 0 _ (λ _. (refl, refl))
 
@@ -57,16 +58,16 @@ put-filled {text} {old} p = ap₂ (λ (k : ℕ) (b : List ℕ). outcome (finishe
 
 module _ (room : ℕ) (p : Plan) where
   pub judged-ids : length (p .ids) < p .pairs → faultAt 0 (Faulty TooShort) ≡ planFault room p
-  unfolding planFault faultAt
+  unfolding planFault roomFault faultAt
   judged-ids l = sym (fault-then _ _ (fault-refuse 9 0 _ (lt-ltb _ _ l)))
 
   pub judged-donors : p .pairs ≤ length (p .ids) → length (p .donors) < p .pairs → faultAt 0 (Faulty TooShort) ≡ planFault room p
-  unfolding planFault faultAt
+  unfolding planFault roomFault faultAt
   judged-donors h l = sym (none-then _ _ (none-refuse 9 0 _ (le-ltb _ _ h)) ∙ fault-then _ _ (fault-refuse 9 0 _ (lt-ltb _ _ l)))
 
   pub judged-recipients : p .pairs ≤ length (p .ids) → p .pairs ≤ length (p .donors) → length (p .recipients) < p .pairs
       → faultAt 0 (Faulty TooShort) ≡ planFault room p
-  unfolding planFault faultAt
+  unfolding planFault roomFault faultAt
   judged-recipients h i l =
       sym
       (none-then _ _ (none-refuse 9 0 _ (le-ltb _ _ h))
@@ -74,8 +75,8 @@ module _ (room : ℕ) (p : Plan) where
       ∙ fault-then _ _ (fault-refuse 9 0 _ (lt-ltb _ _ l)))
 
   module _ (hold : Hold (p .pairs) (p .ids) (p .donors) (p .recipients)) where
-    tables-passed : planFault room p ≡ roomFault room (planText p)
-    unfolding planFault
+    tables-passed : planFault room p ≡ roomFault room (length (planText p))
+    unfolding planFault roomFault
     tables-passed =
         none-then _ _ (none-refuse 9 0 _ (le-ltb _ _ (hold .ids)))
         ∙ none-then _ _ (none-refuse 9 0 _ (le-ltb _ _ (hold .donors)))
@@ -91,7 +92,7 @@ module _ (room : ℕ) (p : Plan) where
 
   -- with no fault the tables hold the pairs, and the buffer the text
   passed : planFault room p ≡ none → Hold (p .pairs) (p .ids) (p .donors) (p .recipients) × (length (planText p) ≤ room)
-  unfolding planFault
+  unfolding planFault roomFault
   passed e =
       let a = then-none _ _ e in
       let b = then-none _ _ (a .1) in
@@ -105,7 +106,7 @@ module _ (room : ℕ) (p : Plan) where
       )
 
   plan-nine : (k o : ℕ) → planFault room p ≡ fault k o → Nine k o
-  unfolding planFault
+  unfolding planFault roomFault
   plan-nine =
       by-then Nine _ _ (by-refuse Nine 9 0 _ (λ _. (refl, refl)))
       (λ _.
@@ -168,7 +169,7 @@ module _ (number place : ℕ) (out : List ℕ) {new : List ℕ} {a : Answer ℕ}
   refusal-by : (sure : Type 0) → (sure → length (refusalText number place) ≤ length out) → Prints sure (refusalText number place) (length out) a
   unfolding printingRefusal
   refusal-by sure h =
-      prints-by (roomFault (length out) (refusalText number place)) (refusalText number place) out
+      prints-by (roomFault (length out) (length (refusalText number place))) (refusalText number place) out
       (λ s. room-none (length out) (refusalText number place) (h s)) (none-room (length out) (refusalText number place))
       (nine (length out) (refusalText number place)) e
 

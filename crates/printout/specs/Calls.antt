@@ -1,24 +1,20 @@
 -- What printing answers, and what it leaves in the lent buffer. Assumes nothing.
 use Prim.Native.Nat.{ℕ}
 use mathlib.Core.List.{List}
-use lib.Dec.{ltb}
 use lib.ListN.{length}
 use Rattle.laws.specs.Lent.{filled}
-use Rattle.refusal.specs.Fault.{Fault, refuse, _then_}
+use Rattle.refusal.specs.Fault.{Fault, _then_}
 use Rattle.refusal.specs.Answer.{Outcome, unless}
+use Rattle.pool.specs.Turned.{roomFault}
 use Rattle.printout.specs.Printed.{Plan, planText, refusalText}
 
--- "9 a lent buffer or table too short": a buffer of `room` bytes, for a text
-unfoldable pub roomFault : ℕ → List ℕ → Fault
-roomFault room text = refuse 9 0 (ltb room (length text))
-
--- a table of the plan that has fewer than N entries, or the buffer
+-- "9 a lent buffer or table too short": a table of the plan that has fewer than N entries, or a buffer of `room` bytes
 unfoldable pub planFault : ℕ → Plan → Fault
 planFault room p =
-    refuse 9 0 (ltb (length (p .ids)) (p .pairs))
-    then refuse 9 0 (ltb (length (p .donors)) (p .pairs))
-    then refuse 9 0 (ltb (length (p .recipients)) (p .pairs))
-    then roomFault room (planText p)
+    roomFault (length (p .ids)) (p .pairs)
+    then roomFault (length (p .donors)) (p .pairs)
+    then roomFault (length (p .recipients)) (p .pairs)
+    then roomFault room (length (planText p))
 
 -- the text fills the start of the lent buffer, and its length is the answer; past it nothing changes
 unfoldable pub printingPlan : Plan → List ℕ → Outcome ℕ (List ℕ)
@@ -26,4 +22,4 @@ printingPlan p out = unless (planFault (length out) p) (length (planText p)) (fi
 
 unfoldable pub printingRefusal : ℕ → ℕ → List ℕ → Outcome ℕ (List ℕ)
 printingRefusal number place out =
-    unless (roomFault (length out) (refusalText number place)) (length (refusalText number place)) (filled (refusalText number place) out) out
+    unless (roomFault (length out) (length (refusalText number place))) (length (refusalText number place)) (filled (refusalText number place) out) out
