@@ -1,6 +1,6 @@
 """docs/CLAIMS.md holds to the tree. Of what stands there in backquotes: a path under crates/ is there, and a name that follows a path directly is in that
 file; a must-fail edit, as `crate/label`, is there, and every edit of the tree is cited; any other single name is in some source, comments apart. A line
-count beside a module is that file's. The links of README.md lead to files, and in DECISIONS.md's table of forms the functions are in the files."""
+count beside a module is that file's. The rules of tests/secrets.py are cited, each once. The links of README.md lead to files, and in DECISIONS.md's table of forms the functions are in the files."""
 import pathlib
 import re
 
@@ -34,6 +34,10 @@ for token in sorted(set(re.findall(r'`([^`\n]+)`', text))):
 for path, name in re.findall(r'`(\w+/(?:specs|proofs|src)/[\w/.]+)` `([^`\s/]+)`', text):
     file = module(path)
     check(file and re.search(r'(?<![\w-])' + re.escape(name) + r'(?![\w-])', file.read_text()), f'`{path}` has no {name}')
+
+rules = re.search(r'^RULES = \[(.*)\]', (top / 'tests' / 'secrets.py').read_text(), re.M)[1].split(', ')
+stated = [name for names in re.findall(r'tests/secrets\.py \(([^)]*)\)', text) for name in re.findall(r'\*(\w+)\*', names)]
+check(sorted(rules) == sorted(stated), f'the rules of tests/secrets.py are {rules}, and {stated} are cited')
 
 check(edits, 'the tree has no must-fail edits')
 for edit in sorted(edits - cited):

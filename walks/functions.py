@@ -78,17 +78,18 @@ WALKS = [
         'use Rattle.rounds.proofs.Turns.{Turned, begins, ends, asks-choose, asks-clear, next}',
     ]),
 
-    Walk('planner', 'steps', 17, [
-        make(7, 'Tally', [0, 0, 0]),
-        relend(9, 10, 'weights'),
-        lend(11, 7),
-        call(8, 'evaluation::evaluate', ['n', 'm', 'w', 's', 10, 11], 'asks-evaluate _ _ _ _ _ _ pre'),
-        relend(12, 13, 'weights'),
-        relend(14, 15, 'choices'),
-        lend(16, 7),
-        call(8, 'rounds::all_rounds', ['n', 13, 15, 16], 'asks-rounds _ _ _ _ _ _ pre _ _ e1'),
+    Walk('planner', 'steps', 18, [
+        call(8, 'gates::nothing_done', []),
+        let(7, 8),
+        relend(10, 11, 'weights'),
+        lend(12, 7),
+        call(9, 'evaluation::evaluate', ['n', 'm', 'w', 's', 11, 12], 'asks-evaluate _ _ _ _ _ _ pre _ e1'),
+        relend(13, 14, 'weights'),
+        relend(15, 16, 'choices'),
+        lend(17, 7),
+        call(9, 'rounds::all_rounds', ['n', 14, 16, 17], 'asks-rounds _ _ _ _ _ _ pre _ e1 _ _ e2'),
         give(7),
-    ], 'stepped _ _ _ _ _ _ pre _ _ e1 _ e2', [
+    ], 'stepped _ _ _ _ _ _ pre _ e1 _ _ e2 _ e3', [
         'use Rattle.planner.proofs.Stepped.{asks-evaluate, asks-rounds, stepped}',
     ]),
 

@@ -51,7 +51,7 @@ fn plan_tables(
         Planning::Refused(_) => Planned {
             weight: 0,
             cycles: 0,
-            tally: gates::Tally {
+            tally: gates::Counts {
                 comparisons: 0,
                 products: 0,
                 rounds: 0,

@@ -46,32 +46,24 @@ halved i ws t h =
     ∙ sym (halves-join i l r t (omega (arith, length-left ws)) (omega (arith, length-right ws)))
     ∙ ap (λ (zs : List ℕ). won i zs t) (take-append-drop (length ws / 2) ws)
 
--- ## Its number is the part's, and its tally one join less than the part has weights
+-- ## Its tally: one join less than the part has weights
 
 record Within (i k : ℕ) (t : Tally) (w : Winner) : Type 0 where
-  number : w .number < i + k
   comparisons : w .tally .comparisons ≡ t .comparisons + (k - 1)
   products : w .tally .products ≡ t .products + 5 * (k - 1)
-  rounds : w .tally .rounds ≡ t .rounds
-
-cond-lt : (b : Bool) (x y k : ℕ) → x < k → y < k → cond b x y < k
-cond-lt true x y k h g = h
-cond-lt false x y k h g = g
 
 within-join : (i j k : ℕ) (t : Tally) (a b : Winner) → 0 < j → 0 < k → Within i j t a → Within (i + j) k (a .tally) b → Within i (j + k) t (join a b)
 unfolding join raise
 within-join i j k t a b hj hk p q = record {
-  number = cond-lt (ltb (a .weight) (b .weight)) (b .number) (a .number) (i + (j + k)) (omega (arith, q .number)) (omega (arith, p .number));
   comparisons = omega (arith, p .comparisons, q .comparisons);
   products = omega (arith, p .products, q .products);
-  rounds = q .rounds ∙ p .rounds;
 }
 
 within : (k i : ℕ) (ws : List ℕ) (t : Tally) → 0 < length ws → length ws ≤ k → Within i (length ws) t (byHalves k i ws t)
 unfolding byHalves
 within zero i ws t h g = absurd (omega arith)
 within (suc k) i [] t h g = absurd (not-suc-le-zero h)
-within (suc k) i (x ∷ []) t h g = record { number = omega arith; comparisons = omega arith; products = omega arith; rounds = refl }
+within (suc k) i (x ∷ []) t h g = record { comparisons = omega arith; products = omega arith }
 within (suc k) i (x ∷ y ∷ ws) t h g =
     let zs : List ℕ = x ∷ y ∷ ws in
     let l : List ℕ = take (length zs / 2) zs in
@@ -86,14 +78,8 @@ module _ (i : ℕ) (ws : List ℕ) (t : Tally) (h : 0 < length ws) where
   facts : Within i (length ws) t (won i ws t)
   facts = within (length ws) i ws t h (le-refl (length ws))
 
-  pub won-number : won i ws t .number < i + length ws
-  won-number = facts .number
-
   pub won-comparisons : won i ws t .tally .comparisons ≡ t .comparisons + (length ws - 1)
   won-comparisons = facts .comparisons
 
   pub won-products : won i ws t .tally .products ≡ t .products + 5 * (length ws - 1)
   won-products = facts .products
-
-  pub won-rounds : won i ws t .tally .rounds ≡ t .rounds
-  won-rounds = facts .rounds

@@ -1,22 +1,20 @@
 -- A round begins, and its choice is stored. Assumes nothing.
-use Prim.Native.Nat.{ℕ, _*_, _^_, _≤_, _<_}
+use Prim.Native.Nat.{ℕ}
 use mathlib.Core.List.{List}
 use mathlib.Core.Path.{_≡_, ap, _∙_}
-use native.Mathlib.Nat.{le-of-eq}
 use native.Mathlib.Omega.{arith}
-use lib.ListN.{length, set}
+use lib.ListN.{set}
 use Rattle.greedy.specs.Tally as Tallies
 use Rattle.greedy.specs.Tally.{nextRound}
 use Rattle.greedy.specs.Rounds as Rounds
 use Rattle.greedy.specs.Rounds.{choosing}
 use Rattle.exchange.specs.Subsets.{subsets}
 use Rattle.gates.specs.Counts.{counted}
+use Rattle.gates.specs.Secrets.{valueOf}
 use Rattle.gates.specs.declared.Tally.{Tally}
-use Rattle.cursor.specs.Cursor.{placesAt}
-use Rattle.cursor.proofs.Number.{count-le}
+use Rattle.cursor.specs.Cursor.{placesAt, shown}
 use Rattle.choosing.specs.Parts.{chosenBy, choiceOf, Whole, Turn}
 use Rattle.choosing.specs.declared.Chosen.{Chosen}
-use Rattle.choosing.proofs.Tested.{number-le}
 
 module _ (n : ℕ) (ws cs : List ℕ) (k : ℕ) (t : Tally) (asked : Turn n ws cs k t) (v : Tally) (ev : counted v ≡ nextRound (counted t)) where
   pub asks-choice : Whole n ws v
@@ -31,20 +29,13 @@ module _ (n : ℕ) (ws cs : List ℕ) (k : ℕ) (t : Tally) (asked : Turn n ws c
     };
   }
 
-  module _ (c : Chosen) (ec : (chosenBy c ≡ choosing 0 (subsets 3 n) ws (counted v)) × (c .at ≡ placesAt n (c .number))) where
+  module _ (c : Chosen) (ec : (chosenBy c ≡ choosing 0 (subsets 3 n) ws (counted v)) × (shown (c .at) ≡ placesAt n (valueOf (c .number)))) where
     chosen-is : chosenBy c ≡ choiceOf n ws t
     chosen-is = ec .0 ∙ ap (choosing 0 (subsets 3 n) ws) ev
 
-    number-is : c .number ≡ choiceOf n ws t .number
+    number-is : valueOf (c .number) ≡ choiceOf n ws t .number
     number-is = ap (λ (x : Rounds.Chosen). x .number) chosen-is
 
-    pub number-fits : c .number < 2 ^ 32
-    number-fits = omega (
-      arith,
-      ap (λ (x : Rounds.Chosen). x .number) (ec .0),
-      number-le (subsets 3 n) ws (counted v) (asked .all .some) (le-of-eq (asked .all .whole)),
-      count-le n (asked .all .few),
-    )
-
-    pub stored : (set cs k (c .number) ≡ set cs k (choiceOf n ws t .number)) × (counted (c .tally) ≡ choiceOf n ws t .tally) × (c .at ≡ placesAt n (choiceOf n ws t .number))
-    stored = (ap (set cs k) number-is, ap (λ (x : Rounds.Chosen). x .tally) chosen-is, ec .1 ∙ ap (placesAt n) number-is)
+    pub stored : (after : List ℕ) → after ≡ set cs k (valueOf (c .number))
+        → (after ≡ set cs k (choiceOf n ws t .number)) × (counted (c .tally) ≡ choiceOf n ws t .tally) × (shown (c .at) ≡ placesAt n (choiceOf n ws t .number))
+    stored after e = (e ∙ ap (set cs k) number-is, ap (λ (x : Rounds.Chosen). x .tally) chosen-is, ec .1 ∙ ap (placesAt n) number-is)

@@ -1,8 +1,8 @@
--- The final test, as `choice` makes it. Assumes nothing.
+-- The final test, and the choice. Assumes nothing.
 use Prim.Native.Nat.{ℕ, _≤_, _<_}
 use mathlib.Core.Bool.{Bool, true, false, cond}
 use mathlib.Core.List.{List}
-use mathlib.Core.Path.{_≡_, sym, ap, _∙_}
+use mathlib.Core.Path.{_≡_, refl, sym, ap, _∙_}
 use native.Mathlib.Omega.{arith}
 use lib.Dec.{eqb, ltb}
 use lib.ListN.{length}
@@ -13,18 +13,20 @@ use Rattle.greedy.specs.Rounds as Rounds
 use Rattle.greedy.specs.Rounds.{Winner, choosing}
 use Rattle.exchange.specs.Subsets.{subsets}
 use Rattle.gates.specs.Counts.{counted, Raised, Room}
+use Rattle.gates.specs.Secrets.{valueOf}
 use Rattle.gates.specs.declared.Tally.{Tally}
 use Rattle.gates.proofs.Gates.{pick-by, raised}
-use Rattle.cursor.specs.Cursor.{places, placesAt}
+use Rattle.cursor.specs.Cursor.{places, shown, placesAt}
 use Rattle.cursor.specs.declared.Places.{Places}
-use Rattle.cursor.proofs.Order.{past}
+use Rattle.cursor.proofs.Order.{past as none-past}
 use Rattle.choosing.specs.Parts.{chosenBy, Part, Whole}
+use Rattle.choosing.specs.declared.Best.{Best}
 use Rattle.choosing.specs.declared.Won.{Won}
 use Rattle.choosing.specs.declared.Chosen.{Chosen}
-use Rattle.choosing.proofs.Halves.{won, won-number, won-comparisons, won-products}
+use Rattle.choosing.proofs.Halves.{won-comparisons, won-products}
 use Rattle.choosing.proofs.Winners.{Ensured}
 
-places-are : {u u′ v v′ w w′ : ℕ} → u ≡ u′ → v ≡ v′ → w ≡ w′ → places u v w ≡ places u′ v′ w′
+pub places-are : {u u′ v v′ w w′ : ℕ} → u ≡ u′ → v ≡ v′ → w ≡ w′ → places u v w ≡ places u′ v′ w′
 places-are e f g = cc
 
 chosens : {i i′ : ℕ} {t t′ : Tallies.Tally} → i ≡ i′ → t ≡ t′ → _≡_ {A = Rounds.Chosen} (record { number = i; tally = t }) (record { number = i′; tally = t′ })
@@ -51,32 +53,44 @@ module _ (n : ℕ) (ws : List ℕ) (t : Tally) (asked : Whole n ws t) where
       );
     }
 
-    module _ (bit : ℕ) (eb : bit ≡ one (ltb 0 (r .best .weight))) where
-      by : (x y k : ℕ) → k ≡ cond (eqb bit 1) x y → k ≡ cond (ltb 0 (r .best .weight)) x y
-      by x y k e = pick-by (ltb 0 (r .best .weight)) bit x y k eb e
+    pub chosen : (c : Chosen) → valueOf (c .number) ≡ cond (ltb 0 (valueOf (r .best .weight))) (valueOf (r .best .number)) (length ws)
+        → shown (c .at) ≡ cond (ltb 0 (valueOf (r .best .weight))) (shown (r .best .at)) (places n n n) → Raised 1 4 (r .tally) (c .tally)
+        → (chosenBy c ≡ choosing 0 (subsets 3 n) ws (counted t)) × (shown (c .at) ≡ placesAt n (valueOf (c .number)))
+    unfolding choosing
+    chosen c ei ea es = (
+      chosens
+          (ei ∙ ap (λ (k : ℕ). cond (ltb 0 (valueOf (r .best .weight))) (valueOf (r .best .number)) k) (asked .whole)
+          ∙ ap (λ (x : Winner). cond (ltb 0 (x .weight)) (x .number) (length (subsets 3 n))) (er .0))
+          (raised 1 4 (r .tally) (c .tally) es ∙ ap (λ (x : Winner). raise 1 4 (x .tally)) (er .0)),
+      ea ∙ go (ltb 0 (valueOf (r .best .weight))) ei,
+    )
+      where
+        go : (b : Bool) → valueOf (c .number) ≡ cond b (valueOf (r .best .number)) (length ws)
+            → cond b (shown (r .best .at)) (places n n n) ≡ placesAt n (valueOf (c .number))
+        go true e = er .1 ∙ ap (placesAt n) (sym e)
+        go false e = sym (none-past n (valueOf (c .number)) (omega (arith, asked .whole)))
 
-      pub tested : (i u v w : ℕ) → i ≡ cond (eqb bit 1) (r .best .number) (length ws)
-          → u ≡ cond (eqb bit 1) (r .best .at .u) n → v ≡ cond (eqb bit 1) (r .best .at .v) n → w ≡ cond (eqb bit 1) (r .best .at .w) n
-          → (s : Tally) → Raised 1 4 (r .tally) s
-          → (chosenBy (record { number = i; at = places u v w; tally = s }) ≡ choosing 0 (subsets 3 n) ws (counted t)) × (places u v w ≡ placesAt n i)
-      unfolding choosing
-      tested i u v w ei eu ev ew s es = (
-        chosens
-            (by _ _ i ei ∙ ap (λ (k : ℕ). cond (ltb 0 (r .best .weight)) (r .best .number) k) (asked .whole)
-            ∙ ap (λ (x : Winner). cond (ltb 0 (x .weight)) (x .number) (length (subsets 3 n))) (er .0))
-            (raised 1 4 (r .tally) s es ∙ ap (λ (x : Winner). raise 1 4 (x .tally)) (er .0)),
-        places-are (by _ _ u eu) (by _ _ v ev) (by _ _ w ew) ∙ go (ltb 0 (r .best .weight)) (by _ _ i ei),
-      )
-        where
-          go : (b : Bool) → i ≡ cond b (r .best .number) (length ws) → places (cond b (r .best .at .u) n) (cond b (r .best .at .v) n) (cond b (r .best .at .w) n) ≡ placesAt n i
-          go true e = er .1 ∙ ap (placesAt n) (sym e)
-          go false e = sym (past n i (omega (arith, asked .whole)))
+-- ## The test by gates
 
--- a choice is a subset's number, or past the last
-pub number-le : (ss : List (List ℕ)) (ws : List ℕ) (t : Tallies.Tally) → 0 < length ws → length ws ≤ length ss → choosing 0 ss ws t .number ≤ length ss
-unfolding choosing
-number-le ss ws t h g = go (ltb 0 (won 0 ws t .weight))
-  where
-    go : (b : Bool) → cond b (won 0 ws t .number) (length ss) ≤ length ss
-    go true = omega (arith, won-number 0 ws t h)
-    go false = omega arith
+module _ (n none : ℕ) (best : Best) (zero′ bit : ℕ) (ez : zero′ ≡ 0) (eb : bit ≡ one (ltb zero′ (valueOf (best .weight)))) where
+  above : Bool
+  above = ltb 0 (valueOf (best .weight))
+
+  by : (x y y′ k : ℕ) → k ≡ cond (eqb bit 1) x y′ → y′ ≡ y → k ≡ cond above x y
+  unfolding above
+  by x y y′ k e ey =
+      pick-by above bit x y k (eb ∙ ap (λ (z : ℕ). one (ltb z (valueOf (best .weight)))) ez) (e ∙ ap (cond (eqb bit 1) x) ey)
+
+  pub number-is : (past i : ℕ) → past ≡ none → i ≡ cond (eqb bit 1) (valueOf (best .number)) past → i ≡ cond (ltb 0 (valueOf (best .weight))) (valueOf (best .number)) none
+  unfolding above
+  number-is past i ep ei = by _ _ _ i ei ep
+
+  pub places-are-tested : (nowhere u v w : ℕ) → nowhere ≡ n
+      → u ≡ cond (eqb bit 1) (valueOf (best .at .u)) nowhere → v ≡ cond (eqb bit 1) (valueOf (best .at .v)) nowhere → w ≡ cond (eqb bit 1) (valueOf (best .at .w)) nowhere
+      → places u v w ≡ cond (ltb 0 (valueOf (best .weight))) (shown (best .at)) (places n n n)
+  unfolding above
+  places-are-tested nowhere u v w en eu ev ew = places-are (by _ _ _ u eu en) (by _ _ _ v ev en) (by _ _ _ w ew en) ∙ go above
+    where
+      go : (b : Bool) → places (cond b (valueOf (best .at .u)) n) (cond b (valueOf (best .at .v)) n) (cond b (valueOf (best .at .w)) n) ≡ cond b (shown (best .at)) (places n n n)
+      go true = refl
+      go false = refl

@@ -10,13 +10,16 @@ use Rattle.greedy.specs.Rounds.{Winner, winner, join}
 use Rattle.greedy.specs.Tally.{raise}
 use Rattle.exchange.specs.Subsets.{subsets}
 use Rattle.gates.specs.Counts.{counted, Raised, Room}
+use Rattle.gates.specs.Secrets.{valueOf}
+use Rattle.gates.specs.declared.Secret.{Secret}
+use Rattle.gates.specs.declared.SecretPlaces.{SecretPlaces}
 use Rattle.gates.specs.declared.Tally.{Tally}
 use Rattle.gates.proofs.Gates.{raised}
-use Rattle.cursor.specs.Cursor.{InRange, placesAt}
+use Rattle.cursor.specs.Cursor.{InRange, placesAt, shown}
 use Rattle.cursor.specs.declared.Places.{Places}
 use Rattle.cursor.proofs.Number.{count-le}
 use Rattle.cursor.proofs.Order.{in-range}
-use Rattle.choosing.specs.Parts.{wonBy, Part}
+use Rattle.choosing.specs.Parts.{wonBy, Standing, Part}
 use Rattle.choosing.specs.declared.Best.{Best}
 use Rattle.choosing.specs.declared.Won.{Won}
 use Rattle.choosing.proofs.Halves.{won, one-left, halved, length-left, length-right, right-is, won-comparisons, won-products}
@@ -30,7 +33,23 @@ right-length ws = ap length (right-is ws) ∙ length-right ws
 
 -- what `choose_part` ensures of a part whose first number is i
 abbrev pub Ensured : ℕ → List ℕ → ℕ → Tally → Won → Type 0
-Ensured n ws i t r = (wonBy r ≡ won i ws (counted t)) × (r .best .at ≡ placesAt n (r .best .number)) × (r .next ≡ placesAt n (i + length ws))
+Ensured n ws i t r = (wonBy r ≡ won i ws (counted t)) × (shown (r .best .at) ≡ placesAt n (valueOf (r .best .number))) × (r .next ≡ placesAt n (i + length ws))
+
+-- ## One subset
+
+module _ (n i : ℕ) (p : Places) (asked : Standing n i p) where
+  pub ranged : InRange n p
+  ranged = in-range n i (asked .few) (asked .within) p (asked .there)
+
+  pub number-few : i < 1333333
+  number-few = omega (arith, asked .within, count-le n (asked .few))
+
+  pub is-single : (w k : Secret) (at : SecretPlaces) → valueOf k ≡ i → shown at ≡ p
+      → (next : Places) → ((k : ℕ) → k < length (subsets 3 n) → p ≡ placesAt n k → next ≡ placesAt n (k + 1)) → (t : Tally)
+      → (winner (valueOf w) (valueOf k) (counted t) ≡ winner (valueOf w) i (counted t)) × (shown at ≡ placesAt n i) × (next ≡ placesAt n (i + 1))
+  is-single w k at ek ea next e t = (ap (λ (x : ℕ). winner (valueOf w) x (counted t)) ek, ea ∙ asked .there, e i (asked .within) (asked .there))
+
+-- ## A part
 
 module _ (n : ℕ) (ws : List ℕ) (i : ℕ) (p : Places) (t : Tally) (asked : Part n ws i p t) where
   first-in : i < length (subsets 3 n)
@@ -39,15 +58,18 @@ module _ (n : ℕ) (ws : List ℕ) (i : ℕ) (p : Places) (t : Tally) (asked : P
   pub index-few : i + length ws ≤ 1333333
   index-few = omega (arith, asked .within, count-le n (asked .few))
 
-  pub ranged : InRange n p
-  ranged = in-range n i (asked .few) first-in p (asked .there)
+  pub asks-single : Standing n i p
+  asks-single = record { few = asked .few; within = first-in; there = asked .there }
 
   -- one weight
-  pub single : length ws ≤ 1 → (next : Places) → ((k : ℕ) → k < length (subsets 3 n) → p ≡ placesAt n k → next ≡ placesAt n (k + 1))
-      → Ensured n ws i t (record { best = record { weight = getD ws 0 0; number = i; at = p }; next = next; tally = t })
-  single h next e =
-      let l : 1 ≡ length ws = omega (arith, asked .some) in
-      (one-left i ws (counted t) (asked .some) h, asked .there, e i first-in (asked .there) ∙ ap (λ (k : ℕ). placesAt n (i + k)) l)
+  pub one-weight : length ws ≤ 1 → (w : Secret) → valueOf w ≡ getD ws 0 0
+      → (r : Won) → (wonBy r ≡ winner (valueOf w) i (counted t)) × (shown (r .best .at) ≡ placesAt n i) × (r .next ≡ placesAt n (i + 1)) → Ensured n ws i t r
+  one-weight h w ew r e =
+      let l : 1 ≡ length ws = omega (arith, asked .some) in (
+        e .0 ∙ ap (λ (x : ℕ). winner x i (counted t)) ew ∙ one-left i ws (counted t) (asked .some) h,
+        e .1 ∙ ap (placesAt n) (sym (ap (λ (x : Winner). x .number) (e .0))),
+        e .2 ∙ ap (λ (k : ℕ). placesAt n (i + k)) l,
+      )
 
   module _ (more : 1 < length ws) where
     pub asks-left : Part n (take (length ws / 2) ws) i p t
@@ -91,6 +113,12 @@ module _ (n : ℕ) (ws : List ℕ) (i : ℕ) (p : Places) (t : Tally) (asked : P
         right-products =
             ap (λ (w : Winner). w .tally .products) (er .0) ∙ won-products (i + length ws / 2) (rightOf ws) (counted (l .tally)) (asks-right .some)
 
+        pub left-room : Room 1 5 (l .tally)
+        left-room = record {
+          comparisons = omega (arith, asked .room .comparisons, left-comparisons);
+          products = omega (arith, asked .room .products, left-products);
+        }
+
         pub join-room : Room 1 5 (r .tally)
         join-room = record {
           comparisons = omega (arith, asked .room .comparisons, right-length ws, left-comparisons, right-comparisons);
@@ -105,20 +133,20 @@ module _ (n : ℕ) (ws : List ℕ) (i : ℕ) (p : Places) (t : Tally) (asked : P
             ∙ ap (λ (w : Winner). won (i + length ws / 2) (drop (length ws / 2) ws) (w .tally)) (el .0))
             ∙ halved i ws (counted t) more
 
-        pub both : (b : Best) → b ≡ cond (ltb (l .best .weight) (r .best .weight)) (r .best) (l .best) → (u : Tally) → Raised 1 5 (r .tally) u
+        pub both : (b : Best) → b ≡ cond (ltb (valueOf (l .best .weight)) (valueOf (r .best .weight))) (r .best) (l .best) → (u : Tally) → Raised 1 5 (r .tally) u
             → Ensured n ws i t (record { best = b; next = r .next; tally = u })
         unfolding join
         both b eb u eu = (
-          by-case (ltb (l .best .weight) (r .best .weight)) eb ∙ winners-are,
-          at-case (ltb (l .best .weight) (r .best .weight)) eb,
+          by-case (ltb (valueOf (l .best .weight)) (valueOf (r .best .weight))) eb ∙ winners-are,
+          at-case (ltb (valueOf (l .best .weight)) (valueOf (r .best .weight))) eb,
           er .2 ∙ ap (placesAt n) (omega (arith, right-length ws)),
         )
           where
             by-case : (z : Bool) → b ≡ cond z (r .best) (l .best)
-                → winner (b .weight) (b .number) (counted u) ≡ winner (cond z (r .best .weight) (l .best .weight)) (cond z (r .best .number) (l .best .number)) (raise 1 5 (counted (r .tally)))
-            by-case true e = ap (λ (x : Best). winner (x .weight) (x .number) (counted u)) e ∙ ap (winner (r .best .weight) (r .best .number)) (raised 1 5 (r .tally) u eu)
-            by-case false e = ap (λ (x : Best). winner (x .weight) (x .number) (counted u)) e ∙ ap (winner (l .best .weight) (l .best .number)) (raised 1 5 (r .tally) u eu)
+                → winner (valueOf (b .weight)) (valueOf (b .number)) (counted u) ≡ winner (cond z (valueOf (r .best .weight)) (valueOf (l .best .weight))) (cond z (valueOf (r .best .number)) (valueOf (l .best .number))) (raise 1 5 (counted (r .tally)))
+            by-case true e = ap (λ (x : Best). winner (valueOf (x .weight)) (valueOf (x .number)) (counted u)) e ∙ ap (winner (valueOf (r .best .weight)) (valueOf (r .best .number))) (raised 1 5 (r .tally) u eu)
+            by-case false e = ap (λ (x : Best). winner (valueOf (x .weight)) (valueOf (x .number)) (counted u)) e ∙ ap (winner (valueOf (l .best .weight)) (valueOf (l .best .number))) (raised 1 5 (r .tally) u eu)
 
-            at-case : (z : Bool) → b ≡ cond z (r .best) (l .best) → b .at ≡ placesAt n (b .number)
-            at-case true e = ap (λ (x : Best). x .at) e ∙ er .1 ∙ ap (λ (x : Best). placesAt n (x .number)) (sym e)
-            at-case false e = ap (λ (x : Best). x .at) e ∙ el .1 ∙ ap (λ (x : Best). placesAt n (x .number)) (sym e)
+            at-case : (z : Bool) → b ≡ cond z (r .best) (l .best) → shown (b .at) ≡ placesAt n (valueOf (b .number))
+            at-case true e = ap (λ (x : Best). shown (x .at)) e ∙ er .1 ∙ ap (λ (x : Best). placesAt n (valueOf (x .number))) (sym e)
+            at-case false e = ap (λ (x : Best). shown (x .at)) e ∙ el .1 ∙ ap (λ (x : Best). placesAt n (valueOf (x .number))) (sym e)

@@ -6,6 +6,7 @@ use lib.ListN.{length}
 use Rattle.greedy.specs.Rounds as Rounds
 use Rattle.exchange.specs.Subsets.{subsets}
 use Rattle.gates.specs.Counts.{counted, Room}
+use Rattle.gates.specs.Secrets.{valueOf}
 use Rattle.gates.specs.declared.Tally.{Tally}
 use Rattle.cursor.specs.Cursor.{placesAt}
 use Rattle.cursor.specs.declared.Places.{Places}
@@ -14,15 +15,21 @@ use Rattle.choosing.specs.declared.Chosen.{Chosen}
 
 -- the definitions' winner
 abbrev pub wonBy : Won → Rounds.Winner
-wonBy r = Rounds.winner (r .best .weight) (r .best .number) (counted (r .tally))
+wonBy r = Rounds.winner (valueOf (r .best .weight)) (valueOf (r .best .number)) (counted (r .tally))
 
 -- the definitions' choice
 abbrev pub chosenBy : Chosen → Rounds.Chosen
-chosenBy r = record { number = r .number; tally = counted (r .tally) }
+chosenBy r = record { number = valueOf (r .number); tally = counted (r .tally) }
 
 -- the choice of a round that begins with the tally t
 abbrev pub choiceOf : ℕ → List ℕ → Tally → Rounds.Chosen
 choiceOf n weights t = Rounds.chosenIn 0 (subsets 3 n) weights (counted t)
+
+-- the cursor stands at the subset of this number
+pub record Standing (n number : ℕ) (p : Places) : Type 0 where
+  pub few : n ≤ 200
+  pub within : number < length (subsets 3 n)
+  pub there : p ≡ placesAt n number
 
 -- a part of the weights, whose first number is `first`, where the cursor stands
 pub record Part (n : ℕ) (weights : List ℕ) (first : ℕ) (p : Places) (t : Tally) : Type 0 where

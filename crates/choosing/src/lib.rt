@@ -1,22 +1,26 @@
-// Choosing: the lowest-numbered subset of greatest weight, made by gates. What runs depends on n, the number of weights and the cursor alone.
+// Choosing: the lowest-numbered subset of greatest weight, made by gates. What runs depends on n, the number of weights and the cursor alone. Winners
+// come by value; only `choose_part` looks a weight up, and `chosen_in_round` stores a choice.
 use cursor::Places;
+use gates::Secret;
+use gates::SecretPlaces;
 use gates::Tally;
 ghost use mathlib.Core.Path.{_≡_};
 ghost use mathlib.Core.Bool.{cond};
-ghost use Prim.Native.Nat.{_+_};
+ghost use Prim.Native.Nat.{_+_, _≤_, _<_};
 ghost use lib.Dec.{ltb};
 ghost use lib.ListN.{length, set};
-ghost use Rattle.greedy.specs.Rounds.{byHalves, choosing};
+ghost use Rattle.greedy.specs.Rounds.{winner, byHalves, choosing};
 ghost use Rattle.exchange.specs.Subsets.{subsets};
 ghost use Rattle.gates.specs.Counts.{counted, Room, Raised};
-ghost use Rattle.cursor.specs.Cursor.{places, placesAt};
-ghost use Rattle.choosing.specs.Parts.{wonBy, chosenBy, choiceOf, Part, Whole, Turn};
+ghost use Rattle.gates.specs.Secrets.{valueOf};
+ghost use Rattle.cursor.specs.Cursor.{InRange, places, shown, placesAt};
+ghost use Rattle.choosing.specs.Parts.{wonBy, chosenBy, choiceOf, Standing, Part, Whole, Turn};
 
 // A winner: its weight, its number and its places.
 pub struct Best {
-    pub weight: usize,
-    pub number: usize,
-    pub at: Places,
+    pub weight: Secret,
+    pub number: Secret,
+    pub at: SecretPlaces,
 }
 
 // Two winners joined, and the tally.
@@ -34,21 +38,21 @@ pub struct Won {
 
 // A choice, its places, and the tally.
 pub struct Chosen {
-    pub number: usize,
-    pub at: Places,
+    pub number: Secret,
+    pub at: SecretPlaces,
     pub tally: Tally,
 }
 
 // The places of a choice that is stored, and the tally.
 pub struct Placed {
-    pub at: Places,
+    pub at: SecretPlaces,
     pub tally: Tally,
 }
 
 // The heavier of two winners, the left on a tie: 1 comparison and 5 products.
 fn join(a: Best, b: Best, t: Tally) -> Joined
     requires { ⌜ Room 1 5 t ⌝ }
-    ensures { λ r. ⌜ (r .best ≡ cond (ltb (a .weight) (b .weight)) b a) × Raised 1 5 t (r .tally) ⌝ }
+    ensures { λ r. ⌜ (r .best ≡ cond (ltb (valueOf (a .weight)) (valueOf (b .weight))) b a) × Raised 1 5 t (r .tally) ⌝ }
 {
     let right = gates::comparison(a.weight, b.weight, t);
     let weight = gates::pick(right.value, b.weight, a.weight, right.tally);
@@ -56,25 +60,58 @@ fn join(a: Best, b: Best, t: Tally) -> Joined
     let u = gates::pick(right.value, b.at.u, a.at.u, number.tally);
     let v = gates::pick(right.value, b.at.v, a.at.v, u.tally);
     let w = gates::pick(right.value, b.at.w, a.at.w, v.tally);
-    let at = Places {
-        u: u.value,
-        v: v.value,
-        w: w.value,
-    };
+    let tally = w.tally;
+    let weight = weight.value;
+    let number = number.value;
+    let u = u.value;
+    let v = v.value;
+    let w = w.value;
+    let at = SecretPlaces { u: u, v: v, w: w };
     let best = Best {
-        weight: weight.value,
-        number: number.value,
+        weight: weight,
+        number: number,
         at: at,
     };
-    let tally = w.tally;
     Joined {
         best: best,
         tally: tally,
     }
 }
 
-// The winner of the part of the weights whose first number is `first`, where the cursor stands at u, v, w. The part is halved until one is left.
-// The cursor comes as numbers, since a struct would go through memory at every call.
+// A subset's places, as secrets.
+fn hidden(n: usize, p: Places) -> SecretPlaces
+    requires { ⌜ InRange n p ⌝ }
+    ensures { λ r. ⌜ shown r ≡ p ⌝ }
+{
+    let u = gates::known(p.u);
+    let v = gates::known(p.v);
+    let w = gates::known(p.w);
+    SecretPlaces { u: u, v: v, w: w }
+}
+
+// The winner of a part that is one subset, of this weight and number, where the cursor stands at u, v, w.
+fn single(n: usize, weight: Secret, number: usize, u: usize, v: usize, w: usize, t: Tally) -> Won
+    requires { ⌜ Standing n number (places u v w) ⌝ }
+    ensures { λ r. ⌜ (wonBy r ≡ winner (valueOf weight) number (counted t)) × (shown (r .best .at) ≡ placesAt n number) × (r .next ≡ placesAt n (number + 1)) ⌝ }
+{
+    let p = Places { u: u, v: v, w: w };
+    let at = hidden(n, p);
+    let number = gates::known(number);
+    let best = Best {
+        weight: weight,
+        number: number,
+        at: at,
+    };
+    let next = cursor::next(n, p);
+    Won {
+        best: best,
+        next: next,
+        tally: t,
+    }
+}
+
+// The winner of the part of the weights whose first number is `first`, where the cursor stands at u, v, w: "halves the part of the table under study
+// until one subset is left". The cursor comes as numbers, since a struct would go through memory at every call.
 fn choose_part(
     n: usize,
     weights: &[u32],
@@ -85,22 +122,27 @@ fn choose_part(
     t: Tally,
 ) -> Won
     requires { ⌜ Part n (now weights) first (places u v w) t ⌝ }
-    ensures { λ r. ⌜ (wonBy r ≡ byHalves (length (now (weights .entry))) first (now (weights .entry)) (counted t)) × (r .best .at ≡ placesAt n (r .best .number)) × (r .next ≡ placesAt n (first + length (now (weights .entry)))) ⌝ }
+    ensures { λ r. ⌜ (wonBy r ≡ byHalves (length (now (weights .entry))) first (now (weights .entry)) (counted t)) × (shown (r .best .at) ≡ placesAt n (valueOf (r .best .number))) × (r .next ≡ placesAt n (first + length (now (weights .entry)))) ⌝ }
 {
     if weights.len() <= 1 {
-        let p = Places { u: u, v: v, w: w };
-        let best = Best {
-            weight: weights[0] as usize,
-            number: first,
-            at: p,
-        };
-        let next = cursor::next(n, p);
-        return Won {
-            best: best,
-            next: next,
-            tally: t,
-        };
+        return single(n, gates::load_u32(weights, 0), first, u, v, w, t);
     }
+    choose_halves(n, weights, first, u, v, w, t)
+}
+
+// "then joins the winners": of a part of two subsets or more.
+fn choose_halves(
+    n: usize,
+    weights: &[u32],
+    first: usize,
+    u: usize,
+    v: usize,
+    w: usize,
+    t: Tally,
+) -> Won
+    requires { ⌜ Part n (now weights) first (places u v w) t × (1 < length (now weights)) ⌝ }
+    ensures { λ r. ⌜ (wonBy r ≡ byHalves (length (now (weights .entry))) first (now (weights .entry)) (counted t)) × (shown (r .best .at) ≡ placesAt n (valueOf (r .best .number))) × (r .next ≡ placesAt n (first + length (now (weights .entry)))) ⌝ }
+{
     let half = weights.len() / 2;
     let left = choose_part(n, &weights[..half], first, u, v, w, t);
     let right = choose_part(
@@ -123,39 +165,50 @@ fn choose_part(
     }
 }
 
-// The choice: the winner, or none where it weighs 0. The final test is 1 comparison and 4 products.
-fn choice(n: usize, weights: &[u32], t: Tally) -> Chosen
-    requires { ⌜ Whole n (now weights) t ⌝ }
-    ensures { λ r. ⌜ (chosenBy r ≡ choosing 0 (subsets 3 n) (now (weights .entry)) (counted t)) × (r .at ≡ placesAt n (r .number)) ⌝ }
+// The final test: the winner, or none where it weighs 0. 1 comparison and 4 products; `none` is the number of all subsets.
+fn final_test(n: usize, none: usize, best: Best, t: Tally) -> Chosen
+    requires { ⌜ (n ≤ 200) × (none ≤ 1333333) × Room 1 4 t ⌝ }
+    ensures { λ r. ⌜ (valueOf (r .number) ≡ cond (ltb 0 (valueOf (best .weight))) (valueOf (best .number)) none) × (shown (r .at) ≡ cond (ltb 0 (valueOf (best .weight))) (shown (best .at)) (places n n n)) × Raised 1 4 t (r .tally) ⌝ }
 {
-    let start = cursor::first(n);
-    let won = choose_part(n, weights, 0, start.u, start.v, start.w, t);
-    let best = won.best;
-    let some = gates::comparison(0, best.weight, won.tally);
-    let number = gates::pick(some.value, best.number, weights.len(), some.tally);
-    let u = gates::pick(some.value, best.at.u, n, number.tally);
-    let v = gates::pick(some.value, best.at.v, n, u.tally);
-    let w = gates::pick(some.value, best.at.w, n, v.tally);
-    let at = Places {
-        u: u.value,
-        v: v.value,
-        w: w.value,
-    };
+    let zero = gates::known(0);
+    let none = gates::known(none);
+    let nowhere = gates::known(n);
+    let some = gates::comparison(zero, best.weight, t);
+    let number = gates::pick(some.value, best.number, none, some.tally);
+    let u = gates::pick(some.value, best.at.u, nowhere, number.tally);
+    let v = gates::pick(some.value, best.at.v, nowhere, u.tally);
+    let w = gates::pick(some.value, best.at.w, nowhere, v.tally);
     let tally = w.tally;
+    let number = number.value;
+    let u = u.value;
+    let v = v.value;
+    let w = w.value;
+    let at = SecretPlaces { u: u, v: v, w: w };
     Chosen {
-        number: number.value,
+        number: number,
         at: at,
         tally: tally,
     }
 }
 
+// The choice: "the lowest-numbered subset of greatest weight; if that weight is 0 the choice is n, meaning none".
+fn choice(n: usize, weights: &[u32], t: Tally) -> Chosen
+    requires { ⌜ Whole n (now weights) t ⌝ }
+    ensures { λ r. ⌜ (chosenBy r ≡ choosing 0 (subsets 3 n) (now (weights .entry)) (counted t)) × (shown (r .at) ≡ placesAt n (valueOf (r .number))) ⌝ }
+{
+    let start = cursor::first(n);
+    let won = choose_part(n, weights, 0, start.u, start.v, start.w, t);
+    let best = won.best;
+    final_test(n, weights.len(), best, won.tally)
+}
+
 // Round k begins, and its choice is stored.
 fn chosen_in_round(n: usize, weights: &[u32], choices: &mut [u32], k: usize, t: Tally) -> Placed
     requires { ⌜ Turn n (now weights) (now choices) k t ⌝ }
-    ensures { λ r. ⌜ (now (choices .exit) ≡ set (now (choices .entry)) k (choiceOf n (now (weights .entry)) t .number)) × (counted (r .tally) ≡ choiceOf n (now (weights .entry)) t .tally) × (r .at ≡ placesAt n (choiceOf n (now (weights .entry)) t .number)) ⌝ }
+    ensures { λ r. ⌜ (now (choices .exit) ≡ set (now (choices .entry)) k (choiceOf n (now (weights .entry)) t .number)) × (counted (r .tally) ≡ choiceOf n (now (weights .entry)) t .tally) × (shown (r .at) ≡ placesAt n (choiceOf n (now (weights .entry)) t .number)) ⌝ }
 {
     let chosen = choice(n, weights, gates::begin_round(t));
-    choices[k] = chosen.number as u32;
+    gates::store_u32(choices, k, chosen.number);
     let at = chosen.at;
     let tally = chosen.tally;
     Placed {
@@ -165,9 +218,15 @@ fn chosen_in_round(n: usize, weights: &[u32], choices: &mut [u32], k: usize, t: 
 }
 
 // The step: it raises the lent tally, and gives the places of the choice.
-pub fn choose(n: usize, weights: &[u32], choices: &mut [u32], k: usize, tally: &mut Tally) -> Places
+pub fn choose(
+    n: usize,
+    weights: &[u32],
+    choices: &mut [u32],
+    k: usize,
+    tally: &mut Tally,
+) -> SecretPlaces
     requires { ⌜ Turn n (now weights) (now choices) k (now tally) ⌝ }
-    ensures { λ r. ⌜ (now (choices .exit) ≡ set (now (choices .entry)) k (choiceOf n (now (weights .entry)) (now (tally .entry)) .number)) × (counted (now (tally .exit)) ≡ choiceOf n (now (weights .entry)) (now (tally .entry)) .tally) × (r ≡ placesAt n (choiceOf n (now (weights .entry)) (now (tally .entry)) .number)) ⌝ }
+    ensures { λ r. ⌜ (now (choices .exit) ≡ set (now (choices .entry)) k (choiceOf n (now (weights .entry)) (now (tally .entry)) .number)) × (counted (now (tally .exit)) ≡ choiceOf n (now (weights .entry)) (now (tally .entry)) .tally) × (shown r ≡ placesAt n (choiceOf n (now (weights .entry)) (now (tally .entry)) .number)) ⌝ }
 {
     let old = *tally;
     let made = chosen_in_round(n, weights, choices, k, old);

@@ -1,8 +1,8 @@
 -- All subsets after the choice, one after another. Assumes nothing.
-use Prim.Native.Nat.{ℕ, zero, suc, _+_, _*_, _^_, _≤_, _<_}
+use Prim.Native.Nat.{ℕ, zero, suc, _+_, _*_, _≤_, _<_}
 use mathlib.Core.Bool.{Bool, true, false, cond}
 use mathlib.Core.List.{List, [], _∷_}
-use mathlib.Core.Path.{_≡_, refl, sym, ap, ap₂, _∙_}
+use mathlib.Core.Path.{_≡_, refl, sym, ap, ap₂, subst, _∙_}
 use native.Mathlib.Nat.{not-suc-le-zero, le-of-suc-le-suc}
 use native.Mathlib.Numerals.{add-one}
 use native.Mathlib.Omega.{arith}
@@ -19,8 +19,9 @@ use Rattle.greedy.specs.Rounds.{clear, clearing, clearBefore, clearingBefore}
 use Rattle.greedy.proofs.Tallied.{clear-length, clearing-append}
 use Rattle.exchange.specs.Subsets.{subsets}
 use Rattle.gates.specs.Counts.{counted, Room}
+use Rattle.gates.specs.declared.SecretPlaces.{SecretPlaces}
 use Rattle.gates.specs.declared.Tally.{Tally}
-use Rattle.cursor.specs.Cursor.{InRange, placesAt, subsetAt}
+use Rattle.cursor.specs.Cursor.{InRange, placesAt, shown, subsetAt}
 use Rattle.cursor.specs.declared.Places.{Places}
 use Rattle.cursor.proofs.Order.{Subset, two, three, is-subset, in-range}
 use Rattle.cursor.proofs.Number.{count-le}
@@ -74,21 +75,17 @@ clear-all : (c : List ℕ) (ss : List (List ℕ)) (old : List ℕ) → length ol
 clear-all c ss old e =
     table-getD 0 (clear c ss old) (length ss) (clearedAt c ss old) (clear-length c ss old ∙ e) (λ i h. clear-at c ss old i h (omega arith))
 
-cond-le : (b : Bool) (x : ℕ) → cond b 0 x ≤ x
-cond-le true x = omega arith
-cond-le false x = omega arith
-
 -- ## The loop of `all_cleared`, before the subset of number i
 
-pub record Cleared (n : ℕ) (old : List ℕ) (choice : Places) (t : Tally) (weights : List ℕ) (p : Places) (u : Tally) (i : ℕ) : Type 0 where
+pub record Cleared (n : ℕ) (old : List ℕ) (choice : SecretPlaces) (t : Tally) (weights : List ℕ) (p : Places) (u : Tally) (i : ℕ) : Type 0 where
   pub upto : i ≤ length (subsets 3 n)
   pub there : p ≡ placesAt n i
-  pub filling : Filling i (clearedAt (subsetAt n choice) (subsets 3 n) old) old weights
+  pub filling : Filling i (clearedAt (subsetAt n (shown choice)) (subsets 3 n) old) old weights
   pub tally : counted u ≡ clearing (take i (subsets 3 n)) (counted t)
 
-module _ (n : ℕ) (old : List ℕ) (choice : Places) (t : Tally) (asked : Clearing n old t) where
+module _ (n : ℕ) (old : List ℕ) (choice : SecretPlaces) (t : Tally) (asked : Clearing n old t) where
   f : ℕ → ℕ
-  f = clearedAt (subsetAt n choice) (subsets 3 n) old
+  f = clearedAt (subsetAt n (shown choice)) (subsets 3 n) old
 
   pub begins : (p : Places) → p ≡ placesAt n 0 → Cleared n old choice t old p t 0
   unfolding clearing
@@ -98,13 +95,13 @@ module _ (n : ℕ) (old : List ℕ) (choice : Places) (t : Tally) (asked : Clear
     pub kept : length weights ≡ length old
     kept = inv .filling .kept
 
-    pub ends : length weights ≤ i → (weights ≡ clear (subsetAt n choice) (subsets 3 n) old) × (counted u ≡ clearing (subsets 3 n) (counted t))
+    pub ends : length weights ≤ i → (weights ≡ clear (subsetAt n (shown choice)) (subsets 3 n) old) × (counted u ≡ clearing (subsets 3 n) (counted t))
     unfolding f
     ends h =
         let e : i ≡ length (subsets 3 n) = omega (arith, kept, asked .whole, inv .upto) in (
           filling-all i (length (subsets 3 n)) f old weights (inv .filling) e
               ∙ filled-whole (table (length (subsets 3 n)) f) old (omega (arith, length-table (length (subsets 3 n)) f, asked .whole))
-              ∙ clear-all (subsetAt n choice) (subsets 3 n) old (asked .whole),
+              ∙ clear-all (subsetAt n (shown choice)) (subsets 3 n) old (asked .whole),
           inv .tally ∙ ap (λ (ss : List (List ℕ)). clearing ss (counted t)) (take-all i (subsets 3 n) (omega arith)),
         )
 
@@ -129,18 +126,18 @@ module _ (n : ℕ) (old : List ℕ) (choice : Places) (t : Tally) (asked : Clear
       subset-is : subsetAt n p ≡ getD (subsets 3 n) i []
       subset-is = stands-at n i (asked .few) below p (inv .there)
 
-      module _ (x : ℕ) (ex : x ≡ cond (meets (subsetAt n p) (subsetAt n choice)) 0 (getD weights i 0)) where
-        pub fits : getD weights i 0 < 2 ^ 32 → x < 2 ^ 32
-        fits small = omega (arith, cond-le (meets (subsetAt n p) (subsetAt n choice)) (getD weights i 0))
+      module _ (y : ℕ) (ey : y ≡ getD weights i 0) (x : ℕ) (eyx : x ≡ cond (meets (subsetAt n p) (subsetAt n (shown choice))) 0 y) where
+        ex : x ≡ cond (meets (subsetAt n p) (subsetAt n (shown choice))) 0 (getD weights i 0)
+        ex = eyx ∙ ap (cond (meets (subsetAt n p) (subsetAt n (shown choice))) 0) ey
 
-        pub again : (v : Tally) → counted v ≡ clearing (subsetAt n p ∷ []) (counted u) → (q : Places) → q ≡ placesAt n (i + 1)
-            → Cleared n old choice t (set weights i x) q v (i + 1)
+        pub again : (ws : List ℕ) → ws ≡ set weights i x → (v : Tally) → counted v ≡ clearing (subsetAt n p ∷ []) (counted u) → (q : Places) → q ≡ placesAt n (i + 1)
+            → Cleared n old choice t ws q v (i + 1)
         unfolding f
-        again v ev q eq = record {
+        again ws ews v ev q eq = subst (λ (z : List ℕ). Cleared n old choice t z q v (i + 1)) (sym ews) record {
           upto = omega (arith, below);
           there = eq;
           filling = filling-more i f old weights x (inv .filling)
-              (ex ∙ ap₂ (λ (s : List ℕ) (y : ℕ). cond (meets s (subsetAt n choice)) 0 y) subset-is (filling-next i f old weights (inv .filling)))
+              (ex ∙ ap₂ (λ (s : List ℕ) (y : ℕ). cond (meets s (subsetAt n (shown choice))) 0 y) subset-is (filling-next i f old weights (inv .filling)))
               (omega (arith, kept));
           tally = ev
               ∙ ap (λ (c : List ℕ). clearing (c ∷ []) (counted u)) subset-is

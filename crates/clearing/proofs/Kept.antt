@@ -1,12 +1,11 @@
 -- One subset after the choice. Assumes nothing.
 use Prim.Native.Nat.{ℕ, _-_, _*_, _^_, _≤_, _<_}
-use mathlib.Core.Bool.{Bool, true, false, cond, _||_}
+use mathlib.Core.Bool.{Bool, true, false, cond}
 use mathlib.Core.List.{List, [], _∷_}
 use mathlib.Core.Path.{_≡_, refl, sym, ap, _∙_}
 use native.Mathlib.Nat.{mul-zero, mul-one}
 use native.Mathlib.Omega.{arith}
 use borrow.Author.Tests.{ne-eqb, ltb-false}
-use mir.Val.{boolByte}
 use lib.Dec.{eqb, ltb}
 use lib.ListN.{length}
 use Rattle.laws.specs.Below.{either, one}
@@ -30,29 +29,10 @@ unfolding among below
 among-below n p [] h = refl
 among-below n p (q ∷ s) h = among-on n p q s (below n s) h (ltb q n) refl (among-below n p s h)
 
-by-or : (a b c : Bool) → boolByte (a || b || c) ≡ one (either a (either b (either c false)))
-unfolding either one
-by-or true true true = refl
-by-or true true false = refl
-by-or true false true = refl
-by-or true false false = refl
-by-or false true true = refl
-by-or false true false = refl
-by-or false false true = refl
-by-or false false false = refl
-
-byte-le : (b : Bool) → boolByte b ≤ 1
-byte-le true = omega arith
-byte-le false = omega arith
-
-pub in-le : (p : ℕ) (c : Places) → boolByte (eqb p (c .u) || eqb p (c .v) || eqb p (c .w)) ≤ 1
-in-le p c = byte-le (eqb p (c .u) || eqb p (c .v) || eqb p (c .w))
-
-pub kept : (p : ℕ) (c : Places) (n : ℕ) → p < n → 1 - boolByte (eqb p (c .u) || eqb p (c .v) || eqb p (c .w)) ≡ 1 - one (among p (subsetAt n c))
-unfolding subsetAt among
-kept p c n h =
-    ap (λ (k : ℕ). 1 - k) (by-or (eqb p (c .u)) (eqb p (c .v)) (eqb p (c .w)))
-    ∙ ap (λ (b : Bool). 1 - one b) (sym (among-below n p (c .u ∷ c .v ∷ c .w ∷ []) h))
+-- what the readout at a place below n keeps
+kept : (n p : ℕ) (c : Places) (k : ℕ) → p < n → k ≡ 1 - one (among p (c .u ∷ c .v ∷ c .w ∷ [])) → k ≡ 1 - one (among p (subsetAt n c))
+unfolding subsetAt
+kept n p c k h e = e ∙ ap (λ (b : Bool). 1 - one b) (sym (among-below n p (c .u ∷ c .v ∷ c .w ∷ []) h))
 
 -- ## A weight times what each place keeps
 
@@ -90,27 +70,27 @@ module _ (n x : ℕ) (p c : Places) (range : InRange n p) (small : x < 2 ^ 32) w
   in-v : p .v < n
   in-v = omega (arith, range .vw, range .wn)
 
-  module _ (k₁ : ℕ) (e₁ : (n : ℕ) → p .u < n → k₁ ≡ 1 - one (among (p .u) (subsetAt n c))) where
+  module _ (k₁ : ℕ) (e₁ : k₁ ≡ 1 - one (among (p .u) (c .u ∷ c .v ∷ c .w ∷ []))) where
     a : Bool
     a = among (p .u) (subsetAt n c)
 
     first-is : x * k₁ ≡ cond a 0 x
     unfolding a
-    first-is = ap (λ (k : ℕ). x * k) (e₁ n in-u) ∙ times x a
+    first-is = ap (λ (k : ℕ). x * k) (kept n (p .u) c k₁ in-u e₁) ∙ times x a
 
-    pub first-fits : x * k₁ < 2 ^ 64
+    pub first-fits : x * k₁ < 2 ^ 32
     first-fits = omega (arith, first-is, cond-le a x)
 
-    module _ (y : ℕ) (ey : y ≡ x * k₁) (k₂ : ℕ) (e₂ : (n : ℕ) → p .v < n → k₂ ≡ 1 - one (among (p .v) (subsetAt n c))) where
+    module _ (y : ℕ) (ey : y ≡ x * k₁) (k₂ : ℕ) (e₂ : k₂ ≡ 1 - one (among (p .v) (c .u ∷ c .v ∷ c .w ∷ []))) where
       b : Bool
       b = among (p .v) (subsetAt n c)
 
       second-is : y * k₂ ≡ cond (either a b) 0 x
       unfolding b
       second-is =
-          ap (λ (k : ℕ). k * k₂) (ey ∙ first-is) ∙ ap (λ (k : ℕ). cond a 0 x * k) (e₂ n in-v) ∙ times (cond a 0 x) b ∙ then-times x a b
+          ap (λ (k : ℕ). k * k₂) (ey ∙ first-is) ∙ ap (λ (k : ℕ). cond a 0 x * k) (kept n (p .v) c k₂ in-v e₂) ∙ times (cond a 0 x) b ∙ then-times x a b
 
-      pub second-fits : y * k₂ < 2 ^ 64
+      pub second-fits : y * k₂ < 2 ^ 32
       second-fits = omega (arith, second-is, cond-le (either a b) x)
 
       pub two-cleared : p .w ≡ n → (r : ℕ) → r ≡ y * k₂ → r ≡ cond (meets (subsetAt n p) (subsetAt n c)) 0 x
@@ -119,17 +99,17 @@ module _ (n x : ℕ) (p c : Places) (range : InRange n p) (small : x < 2 ^ 32) w
           er ∙ second-is
           ∙ sym (ap (λ (s : List ℕ). cond (meets s (subsetAt n c)) 0 x) (range-two n p range e) ∙ ap (λ (t : Bool). cond (either a t) 0 x) (either-none b))
 
-      module _ (z : ℕ) (ez : z ≡ y * k₂) (k₃ : ℕ) (e₃ : (n : ℕ) → p .w < n → k₃ ≡ 1 - one (among (p .w) (subsetAt n c))) (e : p .w ≡ n → ⊥) where
+      module _ (z : ℕ) (ez : z ≡ y * k₂) (k₃ : ℕ) (e₃ : k₃ ≡ 1 - one (among (p .w) (c .u ∷ c .v ∷ c .w ∷ []))) (e : p .w ≡ n → ⊥) where
         d : Bool
         d = among (p .w) (subsetAt n c)
 
         third-is : z * k₃ ≡ cond (either (either a b) d) 0 x
         unfolding d
         third-is =
-            ap (λ (k : ℕ). k * k₃) (ez ∙ second-is) ∙ ap (λ (k : ℕ). cond (either a b) 0 x * k) (e₃ n (omega (arith, range .wn)))
+            ap (λ (k : ℕ). k * k₃) (ez ∙ second-is) ∙ ap (λ (k : ℕ). cond (either a b) 0 x * k) (kept n (p .w) c k₃ (omega (arith, range .wn)) e₃)
             ∙ times (cond (either a b) 0 x) d ∙ then-times x (either a b) d
 
-        pub third-fits : z * k₃ < 2 ^ 64
+        pub third-fits : z * k₃ < 2 ^ 32
         third-fits = omega (arith, third-is, cond-le (either (either a b) d) x)
 
         pub triple-cleared : (r : ℕ) → r ≡ z * k₃ → r ≡ cond (meets (subsetAt n p) (subsetAt n c)) 0 x

@@ -2,50 +2,49 @@
 // cursor and the rounds that are left alone: after a choice of none it runs as well.
 use cursor::Places;
 use gates::Gated;
+use gates::Secret;
+use gates::SecretPlaces;
 use gates::Tally;
 ghost use mathlib.Core.Path.{_≡_};
 ghost use mathlib.Core.Bool.{cond};
 ghost use mathlib.Core.List.{[], _∷_};
-ghost use Prim.Native.Nat.{ℕ, _-_, _^_, _<_};
-ghost use Rattle.laws.specs.Below.{one};
-ghost use Rattle.greedy.specs.Places.{among, meets};
+ghost use Rattle.greedy.specs.Places.{meets};
 ghost use Rattle.greedy.specs.Rounds as Rounds;
 ghost use Rattle.exchange.specs.Subsets.{subsets};
 ghost use Rattle.gates.specs.Counts.{counted, Room};
-ghost use Rattle.cursor.specs.Cursor.{InRange, subsetAt};
+ghost use Rattle.gates.specs.Secrets.{valueOf};
+ghost use Rattle.cursor.specs.Cursor.{InRange, shown, subsetAt};
 ghost use Rattle.clearing.specs.Clearing.{Clearing};
 
-// 1 − (place p is in the choice).
-fn keep(p: usize, choice: Places) -> usize
-    ensures { λ r. ⌜ ((n : ℕ) → p < n → r ≡ 1 - one (among p (subsetAt n choice))) ⌝ }
-{
-    1 - ((p == choice.u) | (p == choice.v) | (p == choice.w)) as usize
-}
-
 // The weight x of the subset at the cursor after the choice: 2 products for a two, 3 for a triple.
-fn weight_after(n: usize, x: usize, p: Places, choice: Places, t: Tally) -> Gated
-    requires { ⌜ InRange n p × (x < 2 ^ 32) × Room 0 3 t ⌝ }
-    ensures { λ r. ⌜ (r .value ≡ cond (meets (subsetAt n p) (subsetAt n choice)) 0 x) × (counted (r .tally) ≡ Rounds.clearing (subsetAt n p ∷ []) (counted t)) ⌝ }
+fn weight_after(n: usize, x: Secret, p: Places, choice: SecretPlaces, t: Tally) -> Gated
+    requires { ⌜ InRange n p × Room 0 3 t ⌝ }
+    ensures { λ r. ⌜ (valueOf (r .value) ≡ cond (meets (subsetAt n p) (subsetAt n (shown choice))) 0 (valueOf x)) × (counted (r .tally) ≡ Rounds.clearing (subsetAt n p ∷ []) (counted t)) ⌝ }
 {
-    let first = gates::product(x, keep(p.u, choice), t);
-    let second = gates::product(first.value, keep(p.v, choice), first.tally);
+    let first = gates::product(x, gates::demux_readout(p.u, choice), t);
+    let second = gates::product(first.value, gates::demux_readout(p.v, choice), first.tally);
     if p.w == n {
         return second;
     }
-    gates::product(second.value, keep(p.w, choice), second.tally)
+    gates::product(
+        second.value,
+        gates::demux_readout(p.w, choice),
+        second.tally,
+    )
 }
 
 // Every subset sharing a place with the choice gets weight 0.
-fn all_cleared(n: usize, weights: &mut [u32], choice: Places, t: Tally) -> Tally
+fn all_cleared(n: usize, weights: &mut [u32], choice: SecretPlaces, t: Tally) -> Tally
     requires { ⌜ Clearing n (now weights) t ⌝ }
-    ensures { λ r. ⌜ (now (weights .exit) ≡ Rounds.clear (subsetAt n choice) (subsets 3 n) (now (weights .entry))) × (counted r ≡ Rounds.clearing (subsets 3 n) (counted t)) ⌝ }
+    ensures { λ r. ⌜ (now (weights .exit) ≡ Rounds.clear (subsetAt n (shown choice)) (subsets 3 n) (now (weights .entry))) × (counted r ≡ Rounds.clearing (subsets 3 n) (counted t)) ⌝ }
 {
     let mut p = cursor::first(n);
     let mut tally = t;
     let mut i: usize = 0;
     while i < weights.len() {
-        let after = weight_after(n, weights[i] as usize, p, choice, tally);
-        weights[i] = after.value as u32;
+        let before = gates::load_u32(weights, i);
+        let after = weight_after(n, before, p, choice, tally);
+        gates::store_u32(weights, i, after.value);
         tally = after.tally;
         p = cursor::next(n, p);
         i += 1;
@@ -54,9 +53,9 @@ fn all_cleared(n: usize, weights: &mut [u32], choice: Places, t: Tally) -> Tally
 }
 
 // The same where rounds are left; after the last, nothing.
-fn cleared(n: usize, weights: &mut [u32], choice: Places, left: usize, t: Tally) -> Tally
+fn cleared(n: usize, weights: &mut [u32], choice: SecretPlaces, left: usize, t: Tally) -> Tally
     requires { ⌜ Clearing n (now weights) t ⌝ }
-    ensures { λ r. ⌜ (now (weights .exit) ≡ Rounds.clearBefore left (subsetAt n choice) (subsets 3 n) (now (weights .entry))) × (counted r ≡ Rounds.clearingBefore left (subsets 3 n) (counted t)) ⌝ }
+    ensures { λ r. ⌜ (now (weights .exit) ≡ Rounds.clearBefore left (subsetAt n (shown choice)) (subsets 3 n) (now (weights .entry))) × (counted r ≡ Rounds.clearingBefore left (subsets 3 n) (counted t)) ⌝ }
 {
     if left < 1 {
         return t;
@@ -65,9 +64,9 @@ fn cleared(n: usize, weights: &mut [u32], choice: Places, left: usize, t: Tally)
 }
 
 // The step: it raises the lent tally.
-pub fn clear(n: usize, weights: &mut [u32], choice: Places, left: usize, tally: &mut Tally)
+pub fn clear(n: usize, weights: &mut [u32], choice: SecretPlaces, left: usize, tally: &mut Tally)
     requires { ⌜ Clearing n (now weights) (now tally) ⌝ }
-    ensures { λ _. ⌜ (now (weights .exit) ≡ Rounds.clearBefore left (subsetAt n choice) (subsets 3 n) (now (weights .entry))) × (counted (now (tally .exit)) ≡ Rounds.clearingBefore left (subsets 3 n) (counted (now (tally .entry)))) ⌝ }
+    ensures { λ _. ⌜ (now (weights .exit) ≡ Rounds.clearBefore left (subsetAt n (shown choice)) (subsets 3 n) (now (weights .entry))) × (counted (now (tally .exit)) ≡ Rounds.clearingBefore left (subsets 3 n) (counted (now (tally .entry)))) ⌝ }
 {
     let old = *tally;
     *tally = cleared(n, weights, choice, left, old);

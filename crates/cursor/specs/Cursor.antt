@@ -5,10 +5,16 @@ use mathlib.Core.List.{List, [], _∷_}
 use lib.Dec.{ltb}
 use lib.ListN.{getD}
 use Rattle.exchange.specs.Subsets.{subsets}
+use Rattle.gates.specs.Secrets.{valueOf}
+use Rattle.gates.specs.declared.SecretPlaces.{SecretPlaces}
 use Rattle.cursor.specs.declared.Places.{Places}
 
 abbrev pub places : ℕ → ℕ → ℕ → Places
 places a b c = record { u = a; v = b; w = c }
+
+-- a choice's places, as a cursor has them
+abbrev pub shown : SecretPlaces → Places
+shown p = places (valueOf (p .u)) (valueOf (p .v)) (valueOf (p .w))
 
 -- the cursor at a subset of n places: n where there is no place
 unfoldable pub placesOf : ℕ → List ℕ → Places

@@ -43,7 +43,7 @@ unfolding evaluating
 evaluating-le [] t = (omega arith, omega arith, refl)
 evaluating-le (s ∷ ss) t = one-at-most (eqb (length s) 2) (length ss) t _ (evaluating-le ss (cond (eqb (length s) 2) (raise 0 2 t) (raise 1 7 t)))
 
--- ## A weight fits 32 bits
+-- ## What a weight is at most
 
 module _ (n : ℕ) (M W s : List ℕ) (readable : Readable n M W) (shuffled : Shuffled n s) (typed : (i : ℕ) → getD W i 0 < 2 ^ 16) where
   pairs : (a b c : ℕ) → a < n → b < n → c < n → Pairs n M W (getD s a 0) (getD s b 0) (getD s c 0)
@@ -126,12 +126,9 @@ module _ (n : ℕ) (M W s old : List ℕ) (t : Tally) (asked : Evaluating n M W 
         weight-is : x ≡ weightAt n M W s i
         weight-is = ex ∙ ap (subsetWeight (entry M n) (entry W n) s) subset-is
 
-        pub fits : ((k : ℕ) → getD W k 0 < 2 ^ 16) → x < 2 ^ 32
-        fits typed = omega (arith, weight-is, weight-le n M W s (asked .readable) (asked .shuffled) typed _ (is-subset n i (asked .readable .few) below))
-
-        pub again : (v : Tally) → counted v ≡ evaluating (subsetAt n p ∷ []) (counted u) → (q : Places) → q ≡ placesAt n (i + 1)
-            → Evaluated n M W s old t (set weights i x) q v (i + 1)
-        again v ev q eq = record {
+        pub again : (ws : List ℕ) → ws ≡ set weights i x → (v : Tally) → counted v ≡ evaluating (subsetAt n p ∷ []) (counted u) → (q : Places) → q ≡ placesAt n (i + 1)
+            → Evaluated n M W s old t ws q v (i + 1)
+        again ws ews v ev q eq = subst (λ (z : List ℕ). Evaluated n M W s old t z q v (i + 1)) (sym ews) record {
           upto = omega (arith, below);
           there = eq;
           filling = filling-more i (weightAt n M W s) old weights x (inv .filling) weight-is (omega (arith, kept));

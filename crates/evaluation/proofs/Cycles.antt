@@ -2,23 +2,34 @@
 use Prim.Native.Nat.{ℕ, _+_, _*_, _^_, _≤_, _<_}
 use mathlib.Core.List.{List, [], _∷_}
 use mathlib.Core.Path.{_≡_, sym, _∙_}
-use native.Mathlib.Nat.{mul-le-mul-right, suc-mul}
+use native.Mathlib.Nat.{mul-le-mul-right, suc-mul, mul-one, mul-assoc}
 use native.Mathlib.Omega.{arith}
 use lib.ListN.{getD}
 use Rattle.exchange.specs.Subsets.{entry, weigh}
 use Rattle.exchange.proofs.Evaluated.{weigh-two, weigh-three}
+use Rattle.gates.specs.Secrets.{valueOf}
+use Rattle.cursor.proofs.Number.{square-le}
 use Rattle.gates.proofs.Gates.{bit-times}
 use Rattle.evaluation.specs.Readable.{Pairs}
+use Rattle.evaluation.specs.Entries.{Between, compatibilities, weights, cycleWeight}
+use Rattle.evaluation.specs.declared.EdgeEntries.{EdgeEntries}
 
 -- ## An entry of a table of n rows of n
 
 pub row : (n i j : ℕ) → i < n → j < n → i * n + j < n * n
 row n i j h k = omega (arith, mul-le-mul-right n h, suc-mul i n)
 
+-- where it stands, and where that of the other way round does
+pub cell : (n i j : ℕ) → i < n → j < n → n ≤ 200 → (i * n + j < n * n) × (j * n + i < n * n) × (n * n ≤ 40000)
+cell n i j h k few = (row n i j h k, row n j i k h, square-le n few)
+
 -- ## What its numbers are at most
 
 pub ones-le : (a b : ℕ) → a ≤ 1 → b ≤ 1 → a * b ≤ 1
 ones-le a b h k = omega (arith, bit-times a b h)
+
+pub product-le : (p s : ℕ) → p ≤ 1 → p * s ≤ s
+product-le = bit-times
 
 module _ (n : ℕ) (M W : List ℕ) (typed : (i : ℕ) → getD W i 0 < 2 ^ 16) where
   pub points-le : (i j : ℕ) → entry W n i j ≤ 65535
@@ -53,58 +64,38 @@ module _ (n : ℕ) (M W : List ℕ) (typed : (i : ℕ) → getD W i 0 < 2 ^ 16) 
           points-le c a,
         )
 
--- ## What `two` and `three` need, with what they have of the tables
+-- ## What `two` and `three` make of their edges' entries
 
-module _ (n : ℕ) (M W : List ℕ) (typed : (i : ℕ) → getD W i 0 < 2 ^ 16) (a b c : ℕ) (asked : Pairs n M W a b c) where
-  one-of : (i j : ℕ) → i < n → j < n → (x : ℕ) → x ≡ entry M n i j → x ≤ 1
-  one-of i j h k x e = omega (arith, asked .readable .zeroOrOne i j h k)
+pub both-fit : (x y : ℕ) → x ≤ 1 → y ≤ 1 → x * y < 2 ^ 32
+both-fit x y h k = omega (arith, ones-le x y h k)
 
-  pub points-of : (i j x : ℕ) → x ≡ entry W n i j → x ≤ 65535
-  points-of i j x e = omega (arith, points-le n M W typed i j)
+pub ones-is : (x y p : ℕ) → x ≤ 1 → y ≤ 1 → p ≡ x * y → p ≤ 1
+ones-is x y p h k e = omega (arith, ones-le x y h k)
 
-  module _ (x y : ℕ) (ex : x ≡ entry M n a b) where
-    x-le : x ≤ 1
-    x-le = one-of a b (asked .first) (asked .second) x ex
+pub product-fits : (p s : ℕ) → p ≤ 1 → s ≤ 196605 → p * s < 2 ^ 32
+product-fits p s h k = omega (arith, product-le p s h)
 
-    -- a two
-    module _ (ey : y ≡ entry M n b a) where
-      both-le : x * y ≤ 1
-      both-le = ones-le x y x-le (one-of b a (asked .second) (asked .first) y ey)
+module _ (ab ba : EdgeEntries) where
+  pub two-is : cycleWeight (ab ∷ ba ∷ []) ≡ valueOf (ab .m) * valueOf (ba .m) * (valueOf (ab .w) + valueOf (ba .w))
+  unfolding cycleWeight compatibilities weights
+  two-is = let e : valueOf (ab .w) + (valueOf (ba .w) + 0) ≡ valueOf (ab .w) + valueOf (ba .w) = omega arith in rw (e, mul-one)
 
-      pub two-fits : x * y < 2 ^ 64
-      two-fits = omega (arith, both-le)
+module _ (ab bc ca : EdgeEntries) where
+  pub three-is : cycleWeight (ab ∷ bc ∷ ca ∷ []) ≡ valueOf (ab .m) * valueOf (bc .m) * valueOf (ca .m) * (valueOf (ab .w) + valueOf (bc .w) + valueOf (ca .w))
+  unfolding cycleWeight compatibilities weights
+  three-is =
+      let e : valueOf (ab .w) + (valueOf (bc .w) + (valueOf (ca .w) + 0)) ≡ valueOf (ab .w) + valueOf (bc .w) + valueOf (ca .w) = omega arith in
+      let d : valueOf (ab .m) * (valueOf (bc .m) * (valueOf (ca .m) * 1)) ≡ valueOf (ab .m) * valueOf (bc .m) * valueOf (ca .m) = rw (mul-one, mul-assoc) in
+      rw (e, d)
 
-      module _ (p : ℕ) (ep : p ≡ x * y) (v w : ℕ) (ev : v ≡ entry W n a b) (ew : w ≡ entry W n b a) where
-        pub two-sum : v + w < 2 ^ 64
-        two-sum = omega (arith, points-of a b v ev, points-of b a w ew)
+-- ## They are the weights of the cycles of pairs
 
-        pub two-product : p * (v + w) < 2 ^ 64
-        two-product = omega (arith, bit-times p (v + w) (omega (arith, both-le)), points-of a b v ev, points-of b a w ew)
+module _ (n : ℕ) (M W : List ℕ) where
+  pub weighs-two : (a b : ℕ) (ab ba : EdgeEntries) → Between n M W a b ab → Between n M W b a ba
+      → cycleWeight (ab ∷ ba ∷ []) ≡ weigh (entry M n) (entry W n) (a ∷ b ∷ [])
+  weighs-two a b ab ba p q = two-is ab ba ∙ (rw (p .m, q .m, p .w, q .w) (sym (weigh-two (entry M n) (entry W n) a b)))
 
-        pub two-is : (r : ℕ) → r ≡ p * (v + w) → r ≡ weigh (entry M n) (entry W n) (a ∷ b ∷ [])
-        two-is r er = er ∙ (rw (ep, ex, ey, ev, ew) (sym (weigh-two (entry M n) (entry W n) a b)))
-
-    -- a triple
-    module _ (ey : y ≡ entry M n b c) where
-      ab-le : x * y ≤ 1
-      ab-le = ones-le x y x-le (one-of b c (asked .second) (asked .third) y ey)
-
-      pub three-fits : x * y < 2 ^ 64
-      three-fits = omega (arith, ab-le)
-
-      module _ (p : ℕ) (ep : p ≡ x * y) (z : ℕ) (ez : z ≡ entry M n c a) where
-        all-le : p * z ≤ 1
-        all-le = ones-le p z (omega (arith, ab-le)) (one-of c a (asked .third) (asked .first) z ez)
-
-        pub three-fits-all : p * z < 2 ^ 64
-        three-fits-all = omega (arith, all-le)
-
-        module _ (q : ℕ) (eq : q ≡ p * z) (u v w : ℕ) (eu : u ≡ entry W n a b) (ev : v ≡ entry W n b c) (ew : w ≡ entry W n c a) where
-          pub three-sum : u + v + w ≤ 196605
-          three-sum = omega (arith, points-of a b u eu, points-of b c v ev, points-of c a w ew)
-
-          pub three-product : q * (u + v + w) < 2 ^ 64
-          three-product = omega (arith, bit-times q (u + v + w) (omega (arith, all-le)), three-sum)
-
-          pub three-is : (r : ℕ) → r ≡ q * (u + v + w) → r ≡ weigh (entry M n) (entry W n) (a ∷ b ∷ c ∷ [])
-          three-is r er = er ∙ (rw (eq, ep, ex, ey, ez, eu, ev, ew) (sym (weigh-three (entry M n) (entry W n) a b c)))
+  pub weighs-three : (a b c : ℕ) (ab bc ca : EdgeEntries) → Between n M W a b ab → Between n M W b c bc → Between n M W c a ca
+      → cycleWeight (ab ∷ bc ∷ ca ∷ []) ≡ weigh (entry M n) (entry W n) (a ∷ b ∷ c ∷ [])
+  weighs-three a b c ab bc ca p q r =
+      three-is ab bc ca ∙ (rw (p .m, q .m, r .m, p .w, q .w, r .w) (sym (weigh-three (entry M n) (entry W n) a b c)))

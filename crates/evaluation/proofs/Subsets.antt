@@ -2,18 +2,21 @@
 use Prim.Native.Nat.{ℕ, _≤_}
 use mathlib.Core.Bool.{Bool, true, false, cond}
 use mathlib.Core.List.{List, [], _∷_, map}
-use mathlib.Core.Path.{_≡_, refl, sym, ap, subst, _∙_}
+use mathlib.Core.Path.{_≡_, refl, sym, ap, ap₂, subst, _∙_}
 use native.Mathlib.Omega.{arith}
 use lib.Dec.{ltb, eqb}
 use lib.ListN.{getD}
 use Rattle.exchange.specs.Subsets.{entry, weigh, eachFirst, orders, cycles, firstOf, heaviest, pairsAt, bestCycle, subsetWeight, evaluating}
 use Rattle.laws.specs.Below.{one}
 use Rattle.greedy.specs.Tally.{Tally, raise}
-use Rattle.gates.proofs.Gates.{bit-le, pick-by}
+use Rattle.gates.proofs.Gates.{pick-by}
 use Rattle.cursor.specs.Cursor.{InRange, subsetAt}
 use Rattle.cursor.specs.declared.Places.{Places}
 use Rattle.cursor.proofs.Standing.{range-two, range-triple}
 use Rattle.evaluation.specs.Readable.{Readable, Shuffled, Pairs}
+use Rattle.evaluation.specs.Entries.{Between, cycleWeight, larger}
+use Rattle.evaluation.specs.declared.EdgeEntries.{EdgeEntries}
+use Rattle.evaluation.proofs.Cycles.{weighs-two, weighs-three}
 
 -- of two cycles the first, where the second does not weigh more
 pub heavier : (weight : List ℕ → ℕ) (x y : List ℕ) → heaviest weight (x ∷ y ∷ []) ≡ cond (ltb (weight x) (weight y)) y x
@@ -65,10 +68,12 @@ module _ (n : ℕ) (M W s : List ℕ) (p : Places) (readable : Readable n M W) (
     third = shuffled .pairs (p .v) (omega (arith, range .vw, range .wn));
   }
 
-  pub is-two : p .w ≡ n → weigh (entry M n) (entry W n) (getD s (p .u) 0 ∷ getD s (p .v) 0 ∷ []) ≡ subsetWeight (entry M n) (entry W n) s (subsetAt n p)
+  pub is-two : p .w ≡ n → (ab ba : EdgeEntries) → Between n M W (getD s (p .u) 0) (getD s (p .v) 0) ab → Between n M W (getD s (p .v) 0) (getD s (p .u) 0) ba
+      → cycleWeight (ab ∷ ba ∷ []) ≡ subsetWeight (entry M n) (entry W n) s (subsetAt n p)
   unfolding subsetWeight
-  is-two e =
-      sym (ap (λ (t : List ℕ). subsetWeight (entry M n) (entry W n) s t) (range-two n p range e) ∙ ap (weigh (entry M n) (entry W n)) (paired-two (entry M n) (entry W n) s (p .u) (p .v)))
+  is-two e ab ba hab hba =
+      weighs-two n M W _ _ ab ba hab hba
+      ∙ sym (ap (λ (t : List ℕ). subsetWeight (entry M n) (entry W n) s t) (range-two n p range e) ∙ ap (weigh (entry M n) (entry W n)) (paired-two (entry M n) (entry W n) s (p .u) (p .v)))
 
   module _ (e : p .w ≡ n → ⊥) where
     pub asks-triple : Pairs n M W (getD s (p .u) 0) (getD s (p .v) 0) (getD s (p .w) 0)
@@ -79,11 +84,19 @@ module _ (n : ℕ) (M W s : List ℕ) (p : Places) (readable : Readable n M W) (
       third = shuffled .pairs (p .w) (omega (arith, range .wn));
     }
 
-    pub is-triple : weigh (entry M n) (entry W n) (heaviest (weigh (entry M n) (entry W n)) ((getD s (p .u) 0 ∷ getD s (p .v) 0 ∷ getD s (p .w) 0 ∷ []) ∷ (getD s (p .u) 0 ∷ getD s (p .w) 0 ∷ getD s (p .v) 0 ∷ []) ∷ []))
+    is-heaviest : weigh (entry M n) (entry W n) (heaviest (weigh (entry M n) (entry W n)) ((getD s (p .u) 0 ∷ getD s (p .v) 0 ∷ getD s (p .w) 0 ∷ []) ∷ (getD s (p .u) 0 ∷ getD s (p .w) 0 ∷ getD s (p .v) 0 ∷ []) ∷ []))
         ≡ subsetWeight (entry M n) (entry W n) s (subsetAt n p)
     unfolding subsetWeight
-    is-triple =
+    is-heaviest =
         sym (ap (λ (t : List ℕ). subsetWeight (entry M n) (entry W n) s t) (range-triple n p range e) ∙ ap (weigh (entry M n) (entry W n)) (paired-triple (entry M n) (entry W n) s (p .u) (p .v) (p .w)))
+
+    pub is-triple : (ab bc ca ac cb ba : EdgeEntries)
+        → Between n M W (getD s (p .u) 0) (getD s (p .v) 0) ab → Between n M W (getD s (p .v) 0) (getD s (p .w) 0) bc → Between n M W (getD s (p .w) 0) (getD s (p .u) 0) ca
+        → Between n M W (getD s (p .u) 0) (getD s (p .w) 0) ac → Between n M W (getD s (p .w) 0) (getD s (p .v) 0) cb → Between n M W (getD s (p .v) 0) (getD s (p .u) 0) ba
+        → larger (cycleWeight (ab ∷ bc ∷ ca ∷ [])) (cycleWeight (ac ∷ cb ∷ ba ∷ [])) ≡ subsetWeight (entry M n) (entry W n) s (subsetAt n p)
+    is-triple ab bc ca ac cb ba hab hbc hca hac hcb hba =
+        ap₂ larger (weighs-three n M W _ _ _ ab bc ca hab hbc hca) (weighs-three n M W _ _ _ ac cb ba hac hcb hba)
+        ∙ sym (heavier-weight (weigh (entry M n) (entry W n)) _ _) ∙ is-heaviest
 
 -- ## The tally of one subset
 
@@ -104,12 +117,6 @@ module _ (n : ℕ) (p : Places) (range : InRange n p) (t : Tally) where
 
 -- ## What `triple` has of the two cycles
 
-module _ (weight : List ℕ → ℕ) (a b : List ℕ) (x y bit r : ℕ) (ex : x ≡ weight a) (ey : y ≡ weight b) (eb : bit ≡ one (ltb x y)) where
-  pub bit-small : bit ≤ 1
-  bit-small = bit-le (ltb x y) bit eb
-
-  pub larger : r ≡ cond (eqb bit 1) y x → r ≡ weight (heaviest weight (a ∷ b ∷ []))
-  larger er =
-      pick-by (ltb x y) bit y x r eb er
-      ∙ ap (λ (k : ℕ). cond (ltb k y) y k) ex ∙ ap (λ (k : ℕ). cond (ltb (weight a) k) k (weight a)) ey
-      ∙ sym (heavier-weight weight a b)
+pub larger-is : (v w x y bit r : ℕ) → x ≡ v → y ≡ w → bit ≡ one (ltb x y) → r ≡ cond (eqb bit 1) y x → r ≡ larger v w
+larger-is v w x y bit r ex ey eb er =
+    pick-by (ltb x y) bit y x r eb er ∙ ap (λ (k : ℕ). cond (ltb k y) y k) ex ∙ ap (λ (k : ℕ). cond (ltb v k) k v) ey

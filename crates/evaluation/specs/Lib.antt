@@ -1,2 +1,3 @@
--- What evaluation asks of its arguments.
+-- What evaluation asks of its arguments; a cycle's weight by its edges' entries.
 pub mod Readable
+pub mod Entries

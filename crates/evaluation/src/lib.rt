@@ -1,60 +1,74 @@
-// Evaluation: the weight of each subset, made by gates. What runs depends on n and the cursor alone.
+// Evaluation: the weight of each subset, made by gates. What runs depends on n and the cursor alone. Weights are made of entries that come by value;
+// only `edge` looks a place up in the lent tables, and `evaluated` stores.
 use cursor::Places;
 use gates::Gated;
+use gates::Secret;
 use gates::Tally;
 ghost use mathlib.Core.Path.{_≡_};
 ghost use mathlib.Core.List.{[], _∷_, map};
-ghost use Prim.Native.Nat.{_*_, _<_, _≤_};
-ghost use lib.ListN.{length};
-ghost use Rattle.exchange.specs.Subsets.{subsets, entry, heaviest, subsetWeight, evaluating};
+ghost use Prim.Native.Nat.{_<_};
+ghost use Rattle.exchange.specs.Subsets.{subsets, entry, subsetWeight, evaluating};
 ghost use Rattle.gates.specs.Counts.{counted, Room, Raised};
+ghost use Rattle.gates.specs.Secrets.{valueOf};
 ghost use Rattle.cursor.specs.Cursor.{InRange, subsetAt};
-ghost use Rattle.evaluation.specs.Readable.{weightOf, Readable, Shuffled, Pairs, Evaluating};
+ghost use Rattle.evaluation.specs.Readable.{Readable, Shuffled, Evaluating};
+ghost use Rattle.evaluation.specs.Entries.{Typed, Between, cycleWeight, larger};
 
-// M(i, j).
-pub fn compatible(m: &[u8], n: usize, i: usize, j: usize) -> usize
-    requires { ⌜ (i < n) × (j < n) × (n ≤ 200) × (n * n ≤ length (now m)) ⌝ }
-    ensures { λ r. ⌜ r ≡ entry (now (m .entry)) n i j ⌝ }
-{
-    m[i * n + j] as usize
+// An edge's entries of M and W.
+pub struct EdgeEntries {
+    pub m: Secret,
+    pub w: Secret,
 }
 
-// W(i, j).
-pub fn points(w: &[u16], n: usize, i: usize, j: usize) -> usize
-    requires { ⌜ (i < n) × (j < n) × (n ≤ 200) × (n * n ≤ length (now w)) ⌝ }
-    ensures { λ r. ⌜ r ≡ entry (now (w .entry)) n i j ⌝ }
+// The entries of the edge from donor i to patient j.
+fn edge(n: usize, m: &[u8], w: &[u16], i: usize, j: usize) -> EdgeEntries
+    requires { ⌜ Readable n (now m) (now w) × (i < n) × (j < n) ⌝ }
+    ensures { λ r. ⌜ Between n (now (m .entry)) (now (w .entry)) i j r × Typed r ⌝ }
 {
-    w[i * n + j] as usize
+    let there = gates::load_u8(m, i * n + j);
+    let weight = gates::load_u16(w, i * n + j);
+    EdgeEntries {
+        m: there,
+        w: weight,
+    }
 }
 
-// The weight of a two's cycle: 2 products.
-fn two(m: &[u8], w: &[u16], n: usize, a: usize, b: usize, t: Tally) -> Gated
-    requires { ⌜ Pairs n (now m) (now w) a b b × Room 0 2 t ⌝ }
-    ensures { λ r. ⌜ (r .value ≡ weightOf n (now (m .entry)) (now (w .entry)) (a ∷ b ∷ [])) × Raised 0 2 t (r .tally) ⌝ }
+// The weight of the cycle a → b → a: 2 products.
+fn two(ab: EdgeEntries, ba: EdgeEntries, t: Tally) -> Gated
+    requires { ⌜ Typed ab × Typed ba × Room 0 2 t ⌝ }
+    ensures { λ r. ⌜ (valueOf (r .value) ≡ cycleWeight (ab ∷ ba ∷ [])) × Raised 0 2 t (r .tally) ⌝ }
 {
-    let there = gates::product(compatible(m, n, a, b), compatible(m, n, b, a), t);
-    let sum = points(w, n, a, b) + points(w, n, b, a);
+    let there = gates::product(ab.m, ba.m, t);
+    let sum = gates::sum(ab.w, ba.w);
     gates::product(there.value, sum, there.tally)
 }
 
 // The weight of the cycle a → b → c → a: 3 products.
-fn three(m: &[u8], w: &[u16], n: usize, a: usize, b: usize, c: usize, t: Tally) -> Gated
-    requires { ⌜ Pairs n (now m) (now w) a b c × Room 0 3 t ⌝ }
-    ensures { λ r. ⌜ (r .value ≡ weightOf n (now (m .entry)) (now (w .entry)) (a ∷ b ∷ c ∷ [])) × Raised 0 3 t (r .tally) ⌝ }
+fn three(ab: EdgeEntries, bc: EdgeEntries, ca: EdgeEntries, t: Tally) -> Gated
+    requires { ⌜ Typed ab × Typed bc × Typed ca × Room 0 3 t ⌝ }
+    ensures { λ r. ⌜ (valueOf (r .value) ≡ cycleWeight (ab ∷ bc ∷ ca ∷ [])) × Raised 0 3 t (r .tally) ⌝ }
 {
-    let there = gates::product(compatible(m, n, a, b), compatible(m, n, b, c), t);
-    let all = gates::product(there.value, compatible(m, n, c, a), there.tally);
-    let sum = points(w, n, a, b) + points(w, n, b, c) + points(w, n, c, a);
-    gates::product(all.value, sum, all.tally)
+    let two = gates::product(ab.m, bc.m, t);
+    let there = gates::product(two.value, ca.m, two.tally);
+    let sum = gates::sum(gates::sum(ab.w, bc.w), ca.w);
+    gates::product(there.value, sum, there.tally)
 }
 
-// The larger weight of a triple's two cycles, the first's on a tie: 1 comparison and 7 products.
-fn triple(m: &[u8], w: &[u16], n: usize, a: usize, b: usize, c: usize, t: Tally) -> Gated
-    requires { ⌜ Pairs n (now m) (now w) a b c × Room 1 7 t ⌝ }
-    ensures { λ r. ⌜ (r .value ≡ weightOf n (now (m .entry)) (now (w .entry)) (heaviest (weightOf n (now (m .entry)) (now (w .entry))) ((a ∷ b ∷ c ∷ []) ∷ (a ∷ c ∷ b ∷ []) ∷ []))) × Raised 1 7 t (r .tally) ⌝ }
+// The larger weight of a triple's two cycles, a → b → c → a and a → c → b → a: 1 comparison and 7 products.
+fn triple(
+    ab: EdgeEntries,
+    bc: EdgeEntries,
+    ca: EdgeEntries,
+    ac: EdgeEntries,
+    cb: EdgeEntries,
+    ba: EdgeEntries,
+    t: Tally,
+) -> Gated
+    requires { ⌜ (Typed ab × Typed bc × Typed ca) × (Typed ac × Typed cb × Typed ba) × Room 1 7 t ⌝ }
+    ensures { λ r. ⌜ (valueOf (r .value) ≡ larger (cycleWeight (ab ∷ bc ∷ ca ∷ [])) (cycleWeight (ac ∷ cb ∷ ba ∷ []))) × Raised 1 7 t (r .tally) ⌝ }
 {
-    let first = three(m, w, n, a, b, c, t);
-    let second = three(m, w, n, a, c, b, first.tally);
+    let first = three(ab, bc, ca, t);
+    let second = three(ac, cb, ba, first.tally);
     let later = gates::comparison(first.value, second.value, second.tally);
     gates::pick(later.value, second.value, first.value, later.tally)
 }
@@ -62,18 +76,24 @@ fn triple(m: &[u8], w: &[u16], n: usize, a: usize, b: usize, c: usize, t: Tally)
 // The weight of the subset at the cursor. Place p holds pair s(p).
 fn weight_at(n: usize, m: &[u8], w: &[u16], s: &[u16], p: Places, t: Tally) -> Gated
     requires { ⌜ Readable n (now m) (now w) × Shuffled n (now s) × InRange n p × Room 1 7 t ⌝ }
-    ensures { λ r. ⌜ (r .value ≡ subsetWeight (entry (now (m .entry)) n) (entry (now (w .entry)) n) (now (s .entry)) (subsetAt n p)) × (counted (r .tally) ≡ evaluating (subsetAt n p ∷ []) (counted t)) ⌝ }
+    ensures { λ r. ⌜ (valueOf (r .value) ≡ subsetWeight (entry (now (m .entry)) n) (entry (now (w .entry)) n) (now (s .entry)) (subsetAt n p)) × (counted (r .tally) ≡ evaluating (subsetAt n p ∷ []) (counted t)) ⌝ }
 {
     let u = p.u;
     let v = p.v;
     let x = p.w;
     let a = s[u] as usize;
     let b = s[v] as usize;
+    let ab = edge(n, m, w, a, b);
+    let ba = edge(n, m, w, b, a);
     if x == n {
-        return two(m, w, n, a, b, t);
+        return two(ab, ba, t);
     }
     let c = s[x] as usize;
-    triple(m, w, n, a, b, c, t)
+    let bc = edge(n, m, w, b, c);
+    let ca = edge(n, m, w, c, a);
+    let ac = edge(n, m, w, a, c);
+    let cb = edge(n, m, w, c, b);
+    triple(ab, bc, ca, ac, cb, ba, t)
 }
 
 // The weight of each subset, in the published order.
@@ -86,7 +106,7 @@ fn evaluated(n: usize, m: &[u8], w: &[u16], s: &[u16], weights: &mut [u32], t: T
     let mut i: usize = 0;
     while i < weights.len() {
         let weighed = weight_at(n, m, w, s, p, tally);
-        weights[i] = weighed.value as u32;
+        gates::store_u32(weights, i, weighed.value);
         tally = weighed.tally;
         p = cursor::next(n, p);
         i += 1;

@@ -1,5 +1,5 @@
 -- The laws of the gates. Assumes nothing.
-use Prim.Native.Nat.{ℕ, zero, suc, _+_, _*_, _%_, _^_, _≤_, _<_}
+use Prim.Native.Nat.{ℕ, zero, suc, _+_, _*_, _≤_}
 use mathlib.Core.Bool.{Bool, true, false, cond}
 use mathlib.Core.Path.{_≡_, ap, _∙_}
 use native.Mathlib.Nat.{not-suc-le-zero, le-of-suc-le-suc, one-mul, zero-mul}
@@ -9,6 +9,8 @@ use Rattle.laws.specs.Below.{one}
 use Rattle.greedy.specs.Tally as Tallies
 use Rattle.greedy.specs.Tally.{raise}
 use Rattle.gates.specs.Counts.{counted, Raised, Room}
+use Rattle.gates.specs.Secrets.{valueOf}
+use Rattle.gates.specs.declared.Secret.{Secret}
 use Rattle.gates.specs.declared.Tally.{Tally}
 
 -- ## A bit times a number
@@ -17,12 +19,6 @@ pub bit-times : (bit x : ℕ) → bit ≤ 1 → bit * x ≤ x
 bit-times zero x h = omega (arith, zero-mul x)
 bit-times (suc zero) x h = omega (arith, one-mul x)
 bit-times (suc (suc k)) x h = absurd (not-suc-le-zero (le-of-suc-le-suc h))
-
--- b + bit × (a − b), modulo 2^64, where d is a − b so
-pub picked : (bit a b d : ℕ) → bit ≤ 1 → a < 2 ^ 64 → b < 2 ^ 64 → (d + b) % 2 ^ 64 ≡ a → (b + bit * d) % 2 ^ 64 ≡ cond (eqb bit 1) a b
-picked zero a b d h p q e = omega (arith, zero-mul d)
-picked (suc zero) a b d h p q e = omega (arith, one-mul d)
-picked (suc (suc k)) a b d h p q e = absurd (not-suc-le-zero (le-of-suc-le-suc h))
 
 -- a bit that is a test
 pub bit-le : (t : Bool) (bit : ℕ) → bit ≡ one t → bit ≤ 1
@@ -34,6 +30,19 @@ pub pick-by : (t : Bool) (bit a b x : ℕ) → bit ≡ one t → x ≡ cond (eqb
 unfolding one
 pick-by true bit a b x e f = f ∙ ap (λ (k : ℕ). cond (eqb k 1) a b) e
 pick-by false bit a b x e f = f ∙ ap (λ (k : ℕ). cond (eqb k 1) a b) e
+
+-- ## Secrets
+
+-- a secret is its value
+pub same : (a b : Secret) → valueOf a ≡ valueOf b → a ≡ b
+same a b e = ap made e
+  where
+    made : ℕ → Secret
+    made k = record { value = k }
+
+pub same-cond : (t : Bool) (x a b : Secret) → valueOf x ≡ cond t (valueOf a) (valueOf b) → x ≡ cond t a b
+same-cond true x a b e = same x a e
+same-cond false x a b e = same x b e
 
 -- ## The tally
 
@@ -52,7 +61,3 @@ raised-then h k = record { comparisons = omega arith; products = omega arith; ro
 
 pub room-left : (c p d q : ℕ) (t u : Tally) → Room (c + d) (p + q) t → Raised c p t u → Room d q u
 room-left c p d q t u room h = record { comparisons = omega arith; products = omega arith }
-
--- there is room for less
-pub room-less : (c p d q : ℕ) (t : Tally) → c ≤ d → p ≤ q → Room d q t → Room c p t
-room-less c p d q t h k room = record { comparisons = omega arith; products = omega arith }

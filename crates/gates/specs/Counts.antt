@@ -2,11 +2,15 @@
 use Prim.Native.Nat.{ℕ, _+_, _^_, _<_}
 use mathlib.Core.Path.{_≡_}
 use Rattle.greedy.specs.Tally as Tallies
+use Rattle.gates.specs.declared.Counts.{Counts}
 use Rattle.gates.specs.declared.Tally.{Tally}
 
 -- the definitions' record
 abbrev pub counted : Tally → Tallies.Tally
 counted t = Tallies.tally (t .comparisons) (t .products) (t .rounds)
+
+abbrev pub tallyOf : Counts → Tallies.Tally
+tallyOf c = Tallies.tally (c .comparisons) (c .products) (c .rounds)
 
 -- u is t raised by c comparisons and p products, count by count
 pub record Raised (c p : ℕ) (t u : Tally) : Type 0 where

@@ -17,7 +17,8 @@ use Rattle.exchange.specs.Subsets.{subsets, subsetCount, entry, subsetWeight}
 use Rattle.exchange.specs.Resolution.{recordOf, donorTable, recipientTable}
 use Rattle.exchange.specs.Planning.{lent, plan, roundCount, leftBy, plannedBy, filledLent}
 use Rattle.exchange.proofs.Guaranteed.{resolved-few}
-use Rattle.gates.specs.Counts.{counted}
+use Rattle.gates.specs.Counts.{counted, tallyOf}
+use Rattle.gates.specs.declared.Counts.{Counts}
 use Rattle.gates.specs.declared.Tally.{Tally}
 use Rattle.resolution.specs.Records.{chosenBy, noRecords, resultOf}
 use Rattle.resolution.specs.Asked.{Resolving}
@@ -110,9 +111,9 @@ module _ (n : ℕ) (M W s weights choices donors recipients : List ℕ) (asked :
       plans : {a a′ b b′ : ℕ} {c c′ : Tallies.Tally} → a ≡ a′ → b ≡ b′ → c ≡ c′ → plan a b c ≡ plan a′ b′ c′
       plans a b c = cc
 
-      pub plan-is : answerOf (Made (record { weight = found .weight; cycles = found .cycles; tally = u })) ≡ finished (planOf n M W s)
+      pub plan-is : (v : Counts) → tallyOf v ≡ counted u → answerOf (Made (record { weight = found .weight; cycles = found .cycles; tally = v })) ≡ finished (planOf n M W s)
       unfolding planOf answerOf
-      plan-is = ap finished (plans (ap (λ (x : Resolved). x .weight) found-is) number-is (ap (λ (x : Left). x .tally) e))
+      plan-is v ev = ap finished (plans (ap (λ (x : Resolved). x .weight) found-is) number-is (ev ∙ ap (λ (x : Left). x .tally) e))
 
       pub cycles-few : found .cycles ≤ n / 2
       cycles-few = omega (arith, number-is, planned-few n (entry M n) (entry W n) s)

@@ -17,11 +17,7 @@ use Rattle.evaluation.proofs.AllWeights.{evaluating-le}
 use Rattle.rounds.specs.Rounding.{Rounding}
 use Rattle.planner.specs.Checks.{Stepping}
 
--- the tally begins at 0
-abbrev pub zeros : Tally
-zeros = record { comparisons = 0; products = 0; rounds = 0 }
-
-module _ (n : ℕ) (M W s weights choices : List ℕ) (asked : Stepping n M W s weights choices) where
+module _ (n : ℕ) (M W s weights choices : List ℕ) (asked : Stepping n M W s weights choices) (zeros : Tally) (none : counted zeros ≡ Tallies.tally 0 0 0) where
   few : length (subsets 3 n) ≤ 1333333
   few = count-le n (asked .readable .few)
 
@@ -30,7 +26,10 @@ module _ (n : ℕ) (M W s weights choices : List ℕ) (asked : Stepping n M W s 
     readable = asked .readable;
     shuffled = asked .shuffled;
     whole = asked .whole;
-    room = record { comparisons = omega (arith, few, asked .whole); products = omega (arith, few, asked .whole) };
+    room = record {
+      comparisons = omega (arith, few, asked .whole, ap (λ (x : Tallies.Tally). x .comparisons) none);
+      products = omega (arith, few, asked .whole, ap (λ (x : Tallies.Tally). x .products) none);
+    };
   }
 
   module _ (evaluated : List ℕ) (t : Tally)
@@ -51,9 +50,9 @@ module _ (n : ℕ) (M W s weights choices : List ℕ) (asked : Stepping n M W s 
           whole = long;
           all = asked .all;
           room = record {
-            comparisons = omega (arith, ap (λ (x : Tallies.Tally). x .comparisons) (e .1), le .0, few);
-            products = omega (arith, ap (λ (x : Tallies.Tally). x .products) (e .1), le .1, few);
-            rounds = omega (arith, ap (λ (x : Tallies.Tally). x .rounds) (e .1), le .2);
+            comparisons = omega (arith, ap (λ (x : Tallies.Tally). x .comparisons) none, ap (λ (x : Tallies.Tally). x .comparisons) (e .1), le .0, few);
+            products = omega (arith, ap (λ (x : Tallies.Tally). x .products) none, ap (λ (x : Tallies.Tally). x .products) (e .1), le .1, few);
+            rounds = omega (arith, ap (λ (x : Tallies.Tally). x .rounds) none, ap (λ (x : Tallies.Tally). x .rounds) (e .1), le .2);
           };
         }
 
@@ -61,4 +60,4 @@ module _ (n : ℕ) (M W s weights choices : List ℕ) (asked : Stepping n M W s 
     unfolding leftBy
     stepped l el =
         el ∙ ap (λ (k : ℕ). rounds 0 k (subsets 3 n) evaluated (counted t)) (asked .all)
-        ∙ ap₂ (λ (ws : List ℕ) (u : Tallies.Tally). rounds 0 (roundCount n) (subsets 3 n) ws u) (e .0) (e .1)
+        ∙ ap₂ (λ (ws : List ℕ) (u : Tallies.Tally). rounds 0 (roundCount n) (subsets 3 n) ws u) (e .0) (e .1 ∙ ap (evaluating (subsets 3 n)) none)

@@ -6,7 +6,7 @@ use Rattle.refusal.specs.Answer.{Answer, finished, refused}
 use Rattle.refusal.specs.Number.{numberOf}
 use Rattle.records.specs.declared.Cycle.{Cycle}
 use Rattle.exchange.specs.Planning.{Plan, plan}
-use Rattle.gates.specs.Counts.{counted}
+use Rattle.gates.specs.Counts.{tallyOf}
 use Rattle.planner.specs.declared.Planned.{Planned}
 use Rattle.planner.specs.declared.Planning.{Planning}
 use Rattle.planner.specs.declared.Planning.the-variants.{Made, Refused}
@@ -14,7 +14,7 @@ use Rattle.planner.specs.declared.Work.{Work}
 
 -- the result, as the definitions have it
 abbrev pub planIn : Planned → Plan
-planIn p = plan (p .weight) (p .cycles) (counted (p .tally))
+planIn p = plan (p .weight) (p .cycles) (tallyOf (p .tally))
 
 -- the answer, "planning gives the number"; the place is 0
 unfoldable pub answerOf : Planning → Answer Plan

@@ -1,4 +1,5 @@
 // The planning call.
+use gates::Counts;
 use gates::Tally;
 use records::Cycle;
 use refusal::Refusal;
@@ -24,7 +25,7 @@ ghost use Rattle.planner.specs.Checks.{shortToRead, shortToFill, faultsI
 pub struct Planned {
     pub weight: u64,
     pub cycles: usize,
-    pub tally: Tally,
+    pub tally: Counts,
 }
 
 pub enum Planning {
@@ -95,7 +96,7 @@ fn above_one(n: usize, m: &[u8], i: usize) -> bool
 {
     let mut j: usize = 0;
     while j < n {
-        if evaluation::compatible(m, n, i, j) > 1 {
+        if resolution::compatible(m, n, i, j) > 1 {
             return true;
         }
         j += 1;
@@ -113,7 +114,7 @@ fn compatibility(n: usize, m: &[u8]) -> Verdict
         if above_one(n, m, i) {
             return Verdict::Faulty(Refusal::NotCompatibility);
         }
-        if evaluation::compatible(m, n, i, i) != 0 {
+        if resolution::compatible(m, n, i, i) != 0 {
             return Verdict::Faulty(Refusal::NotCompatibility);
         }
         i += 1;
@@ -168,11 +169,7 @@ fn steps(
     requires { ⌜ Stepping n (now m) (now w) (now s) (now weights) (now choices) ⌝ }
     ensures { λ r. ⌜ left (now (weights .exit)) (now (choices .exit)) (counted r) ≡ leftBy 0 3 n (entry (now (m .entry)) n) (entry (now (w .entry)) n) (now (s .entry)) ⌝ }
 {
-    let mut tally = Tally {
-        comparisons: 0,
-        products: 0,
-        rounds: 0,
-    };
+    let mut tally = gates::nothing_done();
     evaluation::evaluate(n, m, w, s, weights, &mut tally);
     rounds::all_rounds(n, weights, choices, &mut tally);
     tally
@@ -206,10 +203,11 @@ fn make(
     );
     let cycles = resolved.cycles;
     let records = resolved.records;
+    let counts = gates::counts_of(tally);
     let plan = Planned {
         weight: resolved.weight as u64,
         cycles: cycles,
-        tally: tally,
+        tally: counts,
     };
     Work {
         planning: Planning::Made(plan),

@@ -15,8 +15,8 @@ use Rattle.greedy.proofs.Tallied.{clear-length}
 use Rattle.exchange.specs.Subsets.{subsets}
 use Rattle.gates.specs.Counts.{counted}
 use Rattle.gates.specs.declared.Tally.{Tally}
-use Rattle.cursor.specs.Cursor.{placesAt, subsetAt}
-use Rattle.cursor.specs.declared.Places.{Places}
+use Rattle.cursor.specs.Cursor.{placesAt, shown, subsetAt}
+use Rattle.gates.specs.declared.SecretPlaces.{SecretPlaces}
 use Rattle.cursor.proofs.Order.{some-subset}
 use Rattle.cursor.proofs.Standing.{stands-all}
 use Rattle.choosing.specs.Parts.{choiceOf, Turn}
@@ -109,8 +109,8 @@ module _ (n : ℕ) (old first : List ℕ) (t : Tally) (asked : Rounding n old fi
         rounds = omega (arith, inv .room .rounds);
       }
 
-      module _ (cs : List ℕ) (v : Tally) (at : Places)
-          (ec : (cs ≡ set choices k (choiceOf n weights u .number)) × (counted v ≡ choiceOf n weights u .tally) × (at ≡ placesAt n (choiceOf n weights u .number))) where
+      module _ (cs : List ℕ) (v : Tally) (at : SecretPlaces)
+          (ec : (cs ≡ set choices k (choiceOf n weights u .number)) × (counted v ≡ choiceOf n weights u .tally) × (shown at ≡ placesAt n (choiceOf n weights u .number))) where
         raised : (v .comparisons ≡ u .comparisons + length weights) × (v .products ≡ u .products + (5 * length weights - 1)) × (v .rounds ≡ u .rounds + 1)
         unfolding raise nextRound
         raised =
@@ -128,18 +128,18 @@ module _ (n : ℕ) (old first : List ℕ) (t : Tally) (asked : Rounding n old fi
         }
 
         module _ (ws : List ℕ) (w : Tally)
-            (ew : (ws ≡ clearBefore (length first - k - 1) (subsetAt n at) (subsets 3 n) weights) × (counted w ≡ clearingBefore (length first - k - 1) (subsets 3 n) (counted v))) where
+            (ew : (ws ≡ clearBefore (length first - k - 1) (subsetAt n (shown at)) (subsets 3 n) weights) × (counted w ≡ clearingBefore (length first - k - 1) (subsets 3 n) (counted v))) where
           m-left : length first - k - 1 ≡ m
           m-left = omega arith
 
           weights-are : ws ≡ clearBefore m (getD (subsets 3 n) (choiceOf n weights u .number) []) (subsets 3 n) weights
-          weights-are = ew .0 ∙ ap₂ (λ (j : ℕ) (c : List ℕ). clearBefore j c (subsets 3 n) weights) m-left (stands-all n (choiceOf n weights u .number) (asked .few) at (ec .2))
+          weights-are = ew .0 ∙ ap₂ (λ (j : ℕ) (c : List ℕ). clearBefore j c (subsets 3 n) weights) m-left (stands-all n (choiceOf n weights u .number) (asked .few) (shown at) (ec .2))
 
           tally-is : counted w ≡ clearingBefore m (subsets 3 n) (choiceOf n weights u .tally)
           tally-is = ew .1 ∙ ap₂ (λ (j : ℕ) (x : Tallies.Tally). clearingBefore j (subsets 3 n) x) m-left (ec .1)
 
           weights-long : length ws ≡ length weights
-          weights-long = ap length (ew .0) ∙ before-length (length first - k - 1) (subsetAt n at) (subsets 3 n) weights
+          weights-long = ap length (ew .0) ∙ before-length (length first - k - 1) (subsetAt n (shown at)) (subsets 3 n) weights
 
           tally-le : (w .comparisons ≡ v .comparisons) × (w .products ≤ v .products + 3 * length weights) × (w .rounds ≡ v .rounds)
           tally-le =

@@ -3,13 +3,13 @@ use Rattle.lending.proofs.Walking.{_≡_, refl, ap, subst, [], _∷_, List, ℕ
 use denote.Struct.Laws as LL
 use Rattle.choosing.specs.Parts.{Turn, choiceOf}
 use Rattle.gates.specs.Counts.{counted}
-use Rattle.cursor.specs.Cursor.{placesAt}
+use Rattle.cursor.specs.Cursor.{shown, placesAt}
 use Rattle.gates.specs.declared.Tally.{Tally}
 use Rattle.gates.proofs.Tally as Tally-row
 use Rattle.gates.proofs.Tally.Laws as Tally-laws
-use Rattle.cursor.specs.declared.Places.{Places}
-use Rattle.cursor.proofs.Places as Places-row
-use Rattle.cursor.proofs.Places.Laws as Places-laws
+use Rattle.gates.specs.declared.SecretPlaces.{SecretPlaces}
+use Rattle.gates.proofs.SecretPlaces as SecretPlaces-row
+use Rattle.gates.proofs.SecretPlaces.Laws as SecretPlaces-laws
 use Rattle.choosing.specs.declared.Placed.{Placed}
 use Rattle.choosing.proofs.Placed as Placed-row
 use Rattle.choosing.proofs.Placed.Laws as Placed-laws
@@ -25,8 +25,8 @@ use Rattle.choosing.proofs.choose.Code as code
 abbrev R-Tally : RattleType
 R-Tally = Tally-row.the-row
 
-abbrev R-Places : RattleType
-R-Places = Places-row.the-row
+abbrev R-SecretPlaces : RattleType
+R-SecretPlaces = SecretPlaces-row.the-row
 
 abbrev R-Placed : RattleType
 R-Placed = Placed-row.the-row
@@ -47,12 +47,12 @@ module _ {M : Type 1} (𝓤 : URA M) (H : Heap 𝓤) (A : Atoms 𝓤) (W : Given
   abbrev Post : Val → SProp 𝓤
   Post = walkOf 𝓤 H A me.ended stayed (me.clauses 𝓤 H A at-mem run) .post (((κ0, (κ1, (κ2, tt))), (q0, (q1, (q2, tt))), bounds, x, at), tt)
 
-  exits : (r : Places) (r-fits : Is R-Places r ((Places-laws.lowered r) ∷ [])) (choices′ : List ℕ) (tally′ : Tally) → (choices′ ≡ set (choices .now) k (choiceOf n (weights .now) (tally .now) .number)) × (counted tally′ ≡ choiceOf n (weights .now) (tally .now) .tally) × (r ≡ placesAt n (choiceOf n (weights .now) (tally .now) .number)) → (length choices′) ≡ (length (choices .now))
-      → ent 𝓤 (⋆ 𝓤 H A (‵ (flft κ0 q0) ∷ ‵ (flft κ1 q1) ∷ ‵ (flft κ2 q2) ∷ ‵ (MutSlice (named 1) κ1 u32 .own (renamed choices (choices .name) choices′) ((sliceVal (choices .ptr) (length (choices .now))) ∷ [])) ∷ ‵ (MutRef (named 2) κ2 R-Tally .own (renamed tally (tally .name) tally′) ((vptr (tally .ptr .0) (tally .ptr .1)) ∷ [])) ∷ [])) (Post (Places-laws.lowered r))
+  exits : (r : SecretPlaces) (r-fits : Is R-SecretPlaces r ((SecretPlaces-laws.lowered r) ∷ [])) (choices′ : List ℕ) (tally′ : Tally) → (choices′ ≡ set (choices .now) k (choiceOf n (weights .now) (tally .now) .number)) × (counted tally′ ≡ choiceOf n (weights .now) (tally .now) .tally) × (shown r ≡ placesAt n (choiceOf n (weights .now) (tally .now) .number)) → (length choices′) ≡ (length (choices .now))
+      → ent 𝓤 (⋆ 𝓤 H A (‵ (flft κ0 q0) ∷ ‵ (flft κ1 q1) ∷ ‵ (flft κ2 q2) ∷ ‵ (MutSlice (named 1) κ1 u32 .own (renamed choices (choices .name) choices′) ((sliceVal (choices .ptr) (length (choices .now))) ∷ [])) ∷ ‵ (MutRef (named 2) κ2 R-Tally .own (renamed tally (tally .name) tally′) ((vptr (tally .ptr .0) (tally .ptr .1)) ∷ [])) ∷ [])) (Post (SecretPlaces-laws.lowered r))
   exits r r-fits choices′ tally′ e long-choices =
       qed W (‵ (flft κ0 q0) ∷ ‵ (flft κ1 q1) ∷ ‵ (flft κ2 q2) ∷ ‵ (MutSlice (named 1) κ1 u32 .own (renamed choices (choices .name) choices′) ((sliceVal (choices .ptr) (length (choices .now))) ∷ [])) ∷ ‵ (MutRef (named 2) κ2 R-Tally .own (renamed tally (tally .name) tally′) ((vptr (tally .ptr .0) (tally .ptr .1)) ∷ [])) ∷ []) ∵
-      suffices ! _ (ends-at 𝓤 H A me.ended stayed (me.clauses 𝓤 H A at-mem run) W (((κ0, (κ1, (κ2, tt))), (q0, (q1, (q2, tt))), bounds, x, at), tt) (Places-laws.lowered r) r (tt, (tt, (choices′, (tt, (tally′, tt))))) (tt, (tt, (long-choices, (tt, (tt, tt)))))) $ says ! e $
-      nothing ! $ move ! (3 ∷ 0 ∷ []) $ join ! $ move ! (2 ∷ 0 ∷ []) $ join ! $ move ! (1 ∷ 0 ∷ []) $ join ! $ frame ! $ nothing ! $ move ! (2 ∷ 0 ∷ []) $ fjoin ! $ nothing ! $ fjoin ! $ move ! (1 ∷ 0 ∷ []) $ fjoin ! $ nothing ! $ fjoin ! $ nothing ! $ fjoin ! $ owned ! R-Places (Is R-Places) (LL.makes Places-row.the-type Places-laws.the-plain 𝓤 H A) r _ r-fits $ move ! (1 ∷ 0 ∷ []) $ done !
+      suffices ! _ (ends-at 𝓤 H A me.ended stayed (me.clauses 𝓤 H A at-mem run) W (((κ0, (κ1, (κ2, tt))), (q0, (q1, (q2, tt))), bounds, x, at), tt) (SecretPlaces-laws.lowered r) r (tt, (tt, (choices′, (tt, (tally′, tt))))) (tt, (tt, (long-choices, (tt, (tt, tt)))))) $ says ! e $
+      nothing ! $ move ! (3 ∷ 0 ∷ []) $ join ! $ move ! (2 ∷ 0 ∷ []) $ join ! $ move ! (1 ∷ 0 ∷ []) $ join ! $ frame ! $ nothing ! $ move ! (2 ∷ 0 ∷ []) $ fjoin ! $ nothing ! $ fjoin ! $ move ! (1 ∷ 0 ∷ []) $ fjoin ! $ nothing ! $ fjoin ! $ nothing ! $ fjoin ! $ owned ! R-SecretPlaces (Is R-SecretPlaces) (LL.makes SecretPlaces-row.the-type SecretPlaces-laws.the-plain 𝓤 H A) r _ r-fits $ move ! (1 ∷ 0 ∷ []) $ done !
 
   -- `chosen_in_round`: what its contract binds, what it asks, and that this is had
   module _ (a0 : ℕ) (fits0 : a0 < 2 ^ 64) (ν2 : ℕ) (δ2 : GName) (a2 : List ℕ) (a3 : ℕ) (fits3 : a3 < 2 ^ 64) (a4 : Tally) (fits4 : Is R-Tally a4 ((Tally-laws.lowered a4) ∷ [])) where
@@ -97,8 +97,8 @@ module _ {M : Type 1} (𝓤 : URA M) (H : Heap 𝓤) (A : Atoms 𝓤) (W : Given
         move ! (7 ∷ 2 ∷ 3 ∷ 0 ∷ []) $ cut (asked-1 n n-fits ν1-2 δ1-2 (choices .now) k k-fits (tally .now) is1) (raw (F1 𝓤 H A at-mem run .pre (to-1 n n-fits ν1-2 δ1-2 (choices .now) k k-fits (tally .now) is1)) ∷ []) _ (goes-1 n n-fits ν1-2 δ1-2 (choices .now) k k-fits (tally .now) is1 (pre)) $
         calls-at ! fm (F1 𝓤 H A at-mem run) known-f1 (to-1 n n-fits ν1-2 δ1-2 (choices .now) k k-fits (tally .now) is1) (and-then ! (load ! (from ! (stop !)) (look ! 21 refl)) (and-then ! (load ! (from ! (stop !)) (look ! 19 refl)) (and-then ! (load ! (from ! (stop !)) (look ! 5 refl)) (and-then ! (load ! (from ! (stop !)) (look ! 15 refl)) (and-then ! (load ! (from ! (stop !)) (look ! 11 refl)) (no-more !)))))) (λ v1.
         use1 W (later (some (λ (r : Placed). ((‵ (flft κ0 q0) ⊛ ‵ (flft (ν1-2 ∷ []) fullShare) ⊛ ‵ ftrue) ⊛ ‵ (R-Placed .own r (v1 ∷ []))) ⊛ raw (ensured 𝓤 H A f1.ended (f1.clauses 𝓤 H A at-mem run) (κ0, ((ν1-2 ∷ []), tt)) (n, (weights, ((renamed choices δ1-2 (choices .now)), (k, ((tally .now), tt))))) tt r)))) (id⊢ 𝓤 _) $ await ! tt $ pick ! (λ r1.
-        split ! $ move ! (1 ∷ []) $ use1 W (some (λ (zs : (Unit {0} × (Unit {0} × (List ℕ × (Unit {0} × (Unit {0} × Unit {0})))))). ‵ (lasts f1.ended (κ0, ((ν1-2 ∷ []), tt)) (n, (weights, ((renamed choices δ1-2 (choices .now)), (k, ((tally .now), tt))))) zs) ⊛ raw (fact 𝓤 (((zs .1 .1 .0) ≡ set (choices .now) k (choiceOf n (weights .now) (tally .now) .number)) × (counted (r1 .tally) ≡ choiceOf n (weights .now) (tally .now) .tally) × (r1 .at ≡ placesAt n (choiceOf n (weights .now) (tally .now) .number)))))) (id⊢ 𝓤 _) $ pick ! (λ zs1.
-        split ! $ move ! (1 ∷ []) $ heard ! (((zs1 .1 .1 .0) ≡ set (choices .now) k (choiceOf n (weights .now) (tally .now) .number)) × (counted (r1 .tally) ≡ choiceOf n (weights .now) (tally .now) .tally) × (r1 .at ≡ placesAt n (choiceOf n (weights .now) (tally .now) .number))) (λ e1. fsplit ! $ drop ! $ fsplit ! $ drop ! $ fsplit ! $ fsplit ! $ move ! (1 ∷ []) $ feqL ! (λ long1-2. move ! (1 ∷ []) $ drop ! $
+        split ! $ move ! (1 ∷ []) $ use1 W (some (λ (zs : (Unit {0} × (Unit {0} × (List ℕ × (Unit {0} × (Unit {0} × Unit {0})))))). ‵ (lasts f1.ended (κ0, ((ν1-2 ∷ []), tt)) (n, (weights, ((renamed choices δ1-2 (choices .now)), (k, ((tally .now), tt))))) zs) ⊛ raw (fact 𝓤 (((zs .1 .1 .0) ≡ set (choices .now) k (choiceOf n (weights .now) (tally .now) .number)) × (counted (r1 .tally) ≡ choiceOf n (weights .now) (tally .now) .tally) × (shown (r1 .at) ≡ placesAt n (choiceOf n (weights .now) (tally .now) .number)))))) (id⊢ 𝓤 _) $ pick ! (λ zs1.
+        split ! $ move ! (1 ∷ []) $ heard ! (((zs1 .1 .1 .0) ≡ set (choices .now) k (choiceOf n (weights .now) (tally .now) .number)) × (counted (r1 .tally) ≡ choiceOf n (weights .now) (tally .now) .tally) × (shown (r1 .at) ≡ placesAt n (choiceOf n (weights .now) (tally .now) .number))) (λ e1. fsplit ! $ drop ! $ fsplit ! $ drop ! $ fsplit ! $ fsplit ! $ move ! (1 ∷ []) $ feqL ! (λ long1-2. move ! (1 ∷ []) $ drop ! $
         move ! (1 ∷ []) $ split ! $ move ! (1 ∷ []) $ facts ! R-Placed (Is R-Placed) (shows 𝓤 H A R-Placed) r1 (v1 ∷ []) (λ got1. split ! $ move ! (1 ∷ []) $ split ! $ move ! (1 ∷ []) $ drop ! $
         land ! (from ! (stop !)) (init ! 11 refl (LL.lawful Placed-row.the-type Placed-laws.the-laws 𝓤 H A W .typed r1 _ got1 .0)) $ rewrite ! 11 (λ (u : Val). ‵ (fat fullShare Placed-laws.mir l7 0 u)) (ap only (LL.tells Placed-row.the-type Placed-laws.the-laws r1 _ got1)) refl $
         lft-end ! tt $ move ! (0 ∷ 3 ∷ 2 ∷ []) $ use3 W (later (‵ (MutSlice (named 1) κ1 u32 .own (renamed choices (choices .name) (zs1 .1 .1 .0)) ((sliceVal (choices .ptr) (length (choices .now))) ∷ [])) ⊛ ‵ (flft κ1 q1))) (again-back u32 κ1 (ν1-2 ∷ []) q1 (choices .name) (choices .ptr .0) (choices .ptr .1) 𝓤 H A W (named 1) (named 1) ((sliceVal (choices .ptr) (length (choices .now))) ∷ []) (choices .now) δ1-2 (zs1 .1 .1 .0) refl choices-room long1-2) $ await ! tt $ split ! $
@@ -107,7 +107,7 @@ module _ {M : Type 1} (𝓤 : URA M) (H : Heap 𝓤) (A : Atoms 𝓤) (W : Given
         move ! (1 ∷ []) $ facts ! R-Tally (Is R-Tally) (shows 𝓤 H A R-Tally) (tally .now) ((Tally-laws.lowered (tally .now)) ∷ []) (λ is2.
         assigns ! (of-opd ! (load ! (from ! (fld ! refl (stop !))) (look-in ! 12 (sub ! 1 refl (whole !))))) (from ! (hop ! (look ! 16 refl) (stop !))) (store ! 0 refl (LL.lawful Tally-row.the-type Tally-laws.the-laws 𝓤 H A W .typed (r1 .tally) _ (LL.owed Placed-row.the-type Placed-laws.the-laws r1 _ (subst (Is R-Placed r1) (LL.tells Placed-row.the-type Placed-laws.the-laws r1 _ got1) got1) .1 .0) .0)) $
         owned ! R-Tally (Is R-Tally) (LL.makes Tally-row.the-type Tally-laws.the-plain 𝓤 H A) (r1 .tally) _ (LL.owed Placed-row.the-type Placed-laws.the-laws r1 _ (subst (Is R-Placed r1) (LL.tells Placed-row.the-type Placed-laws.the-laws r1 _ got1) got1) .1 .0) $ move ! (1 ∷ 0 ∷ 2 ∷ 3 ∷ 4 ∷ []) $ use1 W (‵ (cellAt fullShare (R-Tally .mir) ((Tally-laws.lowered (r1 .tally)) ∷ []) (tally .ptr .0) (tally .ptr .1))) (W .laws .at-raw fullShare Tally-laws.mir (tally .ptr .0) (tally .ptr .1) (Tally-laws.lowered (r1 .tally))) $ closes ! tt R-Tally (r1 .tally) ((Tally-laws.lowered (r1 .tally)) ∷ []) (tally .ptr .0) (tally .ptr .1) $
-        feqI ! (List Val) (vptr (tally .ptr .0) (tally .ptr .1) ∷ []) (vptr (tally .ptr .0) (tally .ptr .1) ∷ []) refl $ fjoin3 ! $ assigns ! (of-opd ! (load ! (from ! (fld ! refl (stop !))) (look-in ! 10 (sub ! 0 refl (whole !))))) (from ! (stop !)) (init ! 24 refl (LL.lawful Places-row.the-type Places-laws.the-laws 𝓤 H A W .typed (r1 .at) _ (LL.owed Placed-row.the-type Placed-laws.the-laws r1 _ (subst (Is R-Placed r1) (LL.tells Placed-row.the-type Placed-laws.the-laws r1 _ got1) got1) .0) .0)) $
+        feqI ! (List Val) (vptr (tally .ptr .0) (tally .ptr .1) ∷ []) (vptr (tally .ptr .0) (tally .ptr .1) ∷ []) refl $ fjoin3 ! $ assigns ! (of-opd ! (load ! (from ! (fld ! refl (stop !))) (look-in ! 10 (sub ! 0 refl (whole !))))) (from ! (stop !)) (init ! 24 refl (LL.lawful SecretPlaces-row.the-type SecretPlaces-laws.the-laws 𝓤 H A W .typed (r1 .at) _ (LL.owed Placed-row.the-type Placed-laws.the-laws r1 _ (subst (Is R-Placed r1) (LL.tells Placed-row.the-type Placed-laws.the-laws r1 _ got1) got1) .0) .0)) $
         returns ! (look ! 24 refl) $ forget ! 6 refl $ forget ! 8 refl $ forget ! 10 refl $ forget ! 12 refl $ forget ! 14 refl $ forget ! 16 refl $ forget ! 18 refl $ forget ! 20 refl $ forget ! 22 refl $ forget ! 24 refl $
         move ! (24 ∷ 25 ∷ []) $ free1 ! $ move ! (22 ∷ 23 ∷ []) $ free1 ! $ move ! (20 ∷ 21 ∷ []) $ free1 ! $ move ! (18 ∷ 19 ∷ []) $ free1 ! $ move ! (16 ∷ 17 ∷ []) $ free1 ! $ move ! (14 ∷ 15 ∷ []) $ free1 ! $ move ! (12 ∷ 13 ∷ []) $ free1 ! $ move ! (10 ∷ 11 ∷ []) $ free1 ! $ move ! (8 ∷ 9 ∷ []) $ free1 ! $ move ! (6 ∷ 7 ∷ []) $ free1 ! $ free0 ! $
         keep ! (4 ∷ 3 ∷ 1 ∷ 2 ∷ 0 ∷ []) $ by ! (exits (r1 .at) (LL.owed Placed-row.the-type Placed-laws.the-laws r1 _ (subst (Is R-Placed r1) (LL.tells Placed-row.the-type Placed-laws.the-laws r1 _ got1) got1) .0) (zs1 .1 .1 .0) (r1 .tally) (e1) long1-2)))))))))))))))))))))))

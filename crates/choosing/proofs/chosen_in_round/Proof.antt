@@ -1,6 +1,6 @@
 -- `choosing::chosen_in_round` meets its contract. Assumes nothing.
 use borrow.Author.Needs.{needs}
-use Rattle.choosing.proofs.InRound.{asks-choice, number-fits, stored}
+use Rattle.choosing.proofs.InRound.{asks-choice, stored}
 use Rattle.choosing.proofs.chosen_in_round.Statement.{statement}
 use Rattle.choosing.proofs.chosen_in_round.Tie as tie
 
@@ -10,29 +10,16 @@ begin-round-requires c κs = search needs
 choice-requires : tie.Need-choice-requires
 choice-requires c κs = asks-choice _ _ _ _ _ (c .before .before .before .pre) _ (c .begin-round .ensures)
 
-cast-choices : tie.Need-cast-choices
-cast-choices c = record { fits = number-fits _ _ _ _ _ (c .before .before .before .before .before .pre) _ (c .before .before .begin-round .ensures) _ (c .before .choice .ensures) }
-
-mul-choices : tie.Need-mul-choices
-mul-choices c = search needs
-
-slice-write-choices : tie.Need-slice-write-choices
-slice-write-choices c = search needs
+store-u32-requires : tie.Need-store-u32-requires
+store-u32-requires c κs = c .before .before .before .before .before .pre .within
 
 same-length : tie.Need-same-length
 same-length c = search needs
 
 returns : tie.Need-returns
-returns c = stored _ _ _ _ _ (c .before .before .before .before .before .before .before .pre) _ (c .before .before .before .before .begin-round .ensures) _ (c .before .before .before .choice .ensures)
+returns c = stored _ _ _ _ _ (c .before .before .before .before .before .before .before .before .before .before .pre) _ (c .before .before .before .before .before .before .before .begin-round .ensures) _ (c .before .before .before .before .before .before .choice .ensures) _ (c .before .before .before .before .store-u32 .ensures)
 
 pub chosen-in-round-spec : {M : Type 1} → statement M
 chosen-in-round-spec =
     tie.close
-    (tie.spec
-    begin-round-requires
-    choice-requires
-    cast-choices
-    mul-choices
-    slice-write-choices
-    same-length
-    returns)
+    (tie.spec begin-round-requires choice-requires store-u32-requires same-length returns)

@@ -3,7 +3,7 @@ use Prim.Native.Nat.{_-_}
 use native.Mathlib.Omega.{arith}
 use borrow.Author.Needs.{needs}
 use lib.ListN.{length}
-use Rattle.clearing.proofs.AllCleared.{Cleared, begins, kept, ends, below, below-few, ranged, room, fits, again}
+use Rattle.clearing.proofs.AllCleared.{Cleared, begins, kept, ends, below, below-few, ranged, room, again}
 use Rattle.clearing.proofs.all_cleared.Statement.{statement}
 use Rattle.clearing.proofs.all_cleared.Tie as tie
 
@@ -19,38 +19,26 @@ first-requires c κs = search needs
 loop-holds : tie.Need-loop-holds Inv-loop μ-loop
 loop-holds c = begins _ _ _ _ (c .before .before .pre) _ (c .first .ensures)
 
-mul-weight-after : tie.Need-mul-weight-after Inv-loop μ-loop
-mul-weight-after c = record { fits = omega (arith, below-few _ _ _ _ (c .before .before .before .before .pre) _ _ _ _ (c .before .loop .inv) (c .loop-test .taken)) }
-
-slice-read-weight-after : tie.Need-slice-read-weight-after Inv-loop μ-loop
-slice-read-weight-after c = search needs
-
-cast-weight-after : tie.Need-cast-weight-after Inv-loop μ-loop
-cast-weight-after c = record { fits = omega (arith, c .slice-known2 .given (c .before .before .loop .i)) }
+load-u32-requires : tie.Need-load-u32-requires Inv-loop μ-loop
+load-u32-requires c κs = c .before .loop-test .taken
 
 weight-after-requires : tie.Need-weight-after-requires Inv-loop μ-loop
-weight-after-requires c κs = (ranged _ _ _ _ (c .before .before .before .before .before .pre) _ _ _ _ (c .before .before .loop .inv) (c .before .loop-test .taken), omega (arith, c .slice-known2 .given (c .before .before .loop .i)), room _ _ _ _ (c .before .before .before .before .before .pre) _ _ _ _ (c .before .before .loop .inv) (c .before .loop-test .taken))
+weight-after-requires c κs = (ranged _ _ _ _ (c .before .before .before .before .before .before .pre) _ _ _ _ (c .before .before .before .loop .inv) (c .before .before .loop-test .taken), room _ _ _ _ (c .before .before .before .before .before .before .pre) _ _ _ _ (c .before .before .before .loop .inv) (c .before .before .loop-test .taken))
 
-cast-weights : tie.Need-cast-weights Inv-loop μ-loop
-cast-weights c = record { fits = fits _ _ _ _ (c .before .before .before .before .before .before .before .pre) _ _ _ _ (c .before .before .before .before .loop .inv) (c .before .before .before .loop-test .taken) _ (c .before .weight-after .ensures .0) (omega (arith, c .before .before .slice-known2 .given (c .before .before .before .before .loop .i))) }
-
-mul-weights : tie.Need-mul-weights Inv-loop μ-loop
-mul-weights c = record { fits = omega (arith, below-few _ _ _ _ (c .before .before .before .before .before .before .before .pre) _ _ _ _ (c .before .before .before .before .loop .inv) (c .before .before .before .loop-test .taken)) }
-
-slice-write-weights : tie.Need-slice-write-weights Inv-loop μ-loop
-slice-write-weights c = search needs
+store-u32-requires : tie.Need-store-u32-requires Inv-loop μ-loop
+store-u32-requires c κs = c .before .before .before .before .loop-test .taken
 
 next-requires : tie.Need-next-requires Inv-loop μ-loop
-next-requires c κs = ranged _ _ _ _ (c .before .before .before .before .before .before .before .before .pre) _ _ _ _ (c .before .before .before .before .before .loop .inv) (c .before .before .before .before .loop-test .taken)
+next-requires c κs = ranged _ _ _ _ (c .before .before .before .before .before .before .before .before .before .before .before .before .pre) _ _ _ _ (c .before .before .before .before .before .before .before .before .before .loop .inv) (c .before .before .before .before .before .before .before .before .loop-test .taken)
 
 add-i : tie.Need-add-i Inv-loop μ-loop
-add-i c = record { fits = omega (arith, below-few _ _ _ _ (c .before .before .before .before .before .before .before .before .before .pre) _ _ _ _ (c .before .before .before .before .before .before .loop .inv) (c .before .before .before .before .before .loop-test .taken)) }
+add-i c = record { fits = omega (arith, below-few _ _ _ _ (c .before .before .before .before .before .before .before .before .before .before .before .before .before .pre) _ _ _ _ (c .before .before .before .before .before .before .before .before .before .before .loop .inv) (c .before .before .before .before .before .before .before .before .before .loop-test .taken)) }
 
 loop-less : tie.Need-loop-less Inv-loop μ-loop
-loop-less c = omega (arith, kept _ _ _ _ (c .before .before .before .before .before .before .before .before .before .pre) _ _ _ _ (c .before .before .before .before .before .before .loop .inv), c .before .before .before .before .before .loop-test .taken)
+loop-less c = omega (arith, kept _ _ _ _ (c .before .before .before .before .before .before .before .before .before .before .before .before .before .pre) _ _ _ _ (c .before .before .before .before .before .before .before .before .before .before .loop .inv), c .before .before .before .before .before .before .before .before .before .loop-test .taken)
 
 loop-again : tie.Need-loop-again Inv-loop μ-loop
-loop-again c = again _ _ _ _ (c .before .before .before .before .before .before .before .before .before .pre) _ _ _ _ (c .before .before .before .before .before .before .loop .inv) (c .before .before .before .before .before .loop-test .taken) _ (c .before .before .before .weight-after .ensures .0) _ (c .before .before .before .weight-after .ensures .1) _ (c .next .ensures _ (below _ _ _ _ (c .before .before .before .before .before .before .before .before .before .pre) _ _ _ _ (c .before .before .before .before .before .before .loop .inv) (c .before .before .before .before .before .loop-test .taken)) (c .before .before .before .before .before .before .loop .inv .there))
+loop-again c = again _ _ _ _ (c .before .before .before .before .before .before .before .before .before .before .before .before .before .pre) _ _ _ _ (c .before .before .before .before .before .before .before .before .before .before .loop .inv) (c .before .before .before .before .before .before .before .before .before .loop-test .taken) _ (c .before .before .before .before .before .before .before .load-u32 .ensures) _ (c .before .before .before .before .before .before .weight-after .ensures .0) _ (c .before .before .before .before .store-u32 .ensures) _ (c .before .before .before .before .before .before .weight-after .ensures .1) _ (c .next .ensures _ (below _ _ _ _ (c .before .before .before .before .before .before .before .before .before .before .before .before .before .pre) _ _ _ _ (c .before .before .before .before .before .before .before .before .before .before .loop .inv) (c .before .before .before .before .before .before .before .before .before .loop-test .taken)) (c .before .before .before .before .before .before .before .before .before .before .loop .inv .there))
 
 same-length : tie.Need-same-length Inv-loop μ-loop
 same-length c = kept _ _ _ _ (c .before .before .before .before .pre) _ _ _ _ (c .before .loop .inv)
@@ -66,13 +54,9 @@ all-cleared-spec =
     μ-loop
     first-requires
     loop-holds
-    mul-weight-after
-    slice-read-weight-after
-    cast-weight-after
+    load-u32-requires
     weight-after-requires
-    cast-weights
-    mul-weights
-    slice-write-weights
+    store-u32-requires
     next-requires
     add-i
     loop-less

@@ -3,12 +3,12 @@ use Rattle.lending.proofs.Walking.{_≡_, refl, ap, subst, [], _∷_, List, ℕ
 use denote.Struct.Laws as LL
 use Rattle.clearing.specs.Clearing.{Clearing}
 use Rattle.greedy.specs.Rounds as Rounds
-use Rattle.cursor.specs.Cursor.{subsetAt}
+use Rattle.cursor.specs.Cursor.{subsetAt, shown}
 use Rattle.exchange.specs.Subsets.{subsets}
 use Rattle.gates.specs.Counts.{counted}
-use Rattle.cursor.specs.declared.Places.{Places}
-use Rattle.cursor.proofs.Places as Places-row
-use Rattle.cursor.proofs.Places.Laws as Places-laws
+use Rattle.gates.specs.declared.SecretPlaces.{SecretPlaces}
+use Rattle.gates.proofs.SecretPlaces as SecretPlaces-row
+use Rattle.gates.proofs.SecretPlaces.Laws as SecretPlaces-laws
 use Rattle.gates.specs.declared.Tally.{Tally}
 use Rattle.gates.proofs.Tally as Tally-row
 use Rattle.gates.proofs.Tally.Laws as Tally-laws
@@ -21,29 +21,29 @@ use Rattle.clearing.proofs.clear as me
 use Rattle.clearing.proofs.clear.Statement as stated
 use Rattle.clearing.proofs.clear.Code as code
 
-abbrev R-Places : RattleType
-R-Places = Places-row.the-row
+abbrev R-SecretPlaces : RattleType
+R-SecretPlaces = SecretPlaces-row.the-row
 
 abbrev R-Tally : RattleType
 R-Tally = Tally-row.the-row
 
 abbrev stayed : Stays (me.ended .signature .params) (me.ended .kept)
-stayed = (stay-dropped (plain (λ _. usize)) yes, (stay-slice (0 ∷ []) tt (plain (λ _. u32)), (stay-dropped (plain (λ _. R-Places)) yes, (stay-dropped (plain (λ _. usize)) yes, (stay-ref (1 ∷ []) tt (plain (λ _. R-Tally)), tt)))))
+stayed = (stay-dropped (plain (λ _. usize)) yes, (stay-slice (0 ∷ []) tt (plain (λ _. u32)), (stay-dropped (plain (λ _. R-SecretPlaces)) yes, (stay-dropped (plain (λ _. usize)) yes, (stay-ref (1 ∷ []) tt (plain (λ _. R-Tally)), tt)))))
 
 abbrev F1 : {M : Type 1} (𝓤 : URA M) (H : Heap 𝓤) (A : Atoms 𝓤) (at-mem : Memory → SProp 𝓤) (run : Routine → Fun 𝓤) → Contract 𝓤
 F1 𝓤 H A at-mem run = tripleOf 𝓤 H A f1.signature (f1.spec 𝓤 H A at-mem run)
 
-module _ {M : Type 1} (𝓤 : URA M) (H : Heap 𝓤) (A : Atoms 𝓤) (W : Given 𝓤 H A) (at-mem : Memory → SProp 𝓤) (run : Routine → Fun 𝓤) (κ0 κ1 : Lft) (bounds : AllOutlive 2 (me.signature .outlives) (κ0, (κ1, tt))) (q0 q1 : Share) (n : ℕ) (weights : RefT (List ℕ)) (choice : Places) (left : ℕ) (tally : RefT Tally) (n-fits : n < 2 ^ 64) (weights-room : Room u32 (length (weights .now))) (choice-fits : Is R-Places choice ((Places-laws.lowered choice) ∷ [])) (left-fits : left < 2 ^ 64) where
-  abbrev x : (ℕ × (RefT (List ℕ) × (Places × (ℕ × (RefT Tally × Unit {0})))))
+module _ {M : Type 1} (𝓤 : URA M) (H : Heap 𝓤) (A : Atoms 𝓤) (W : Given 𝓤 H A) (at-mem : Memory → SProp 𝓤) (run : Routine → Fun 𝓤) (κ0 κ1 : Lft) (bounds : AllOutlive 2 (me.signature .outlives) (κ0, (κ1, tt))) (q0 q1 : Share) (n : ℕ) (weights : RefT (List ℕ)) (choice : SecretPlaces) (left : ℕ) (tally : RefT Tally) (n-fits : n < 2 ^ 64) (weights-room : Room u32 (length (weights .now))) (choice-fits : Is R-SecretPlaces choice ((SecretPlaces-laws.lowered choice) ∷ [])) (left-fits : left < 2 ^ 64) where
+  abbrev x : (ℕ × (RefT (List ℕ) × (SecretPlaces × (ℕ × (RefT Tally × Unit {0})))))
   x = (n, (weights, (choice, (left, (tally, tt)))))
 
   abbrev at : (List Val × (List Val × (List Val × (List Val × (List Val × Unit {0})))))
-  at = ((vint w64 n) ∷ [], ((sliceVal (weights .ptr) (length (weights .now))) ∷ [], ((Places-laws.lowered choice) ∷ [], ((vint w64 left) ∷ [], ((vptr (tally .ptr .0) (tally .ptr .1)) ∷ [], tt)))))
+  at = ((vint w64 n) ∷ [], ((sliceVal (weights .ptr) (length (weights .now))) ∷ [], ((SecretPlaces-laws.lowered choice) ∷ [], ((vint w64 left) ∷ [], ((vptr (tally .ptr .0) (tally .ptr .1)) ∷ [], tt)))))
 
   abbrev Post : Val → SProp 𝓤
   Post = walkOf 𝓤 H A me.ended stayed (me.clauses 𝓤 H A at-mem run) .post (((κ0, (κ1, tt)), (q0, (q1, tt)), bounds, x, at), tt)
 
-  exits : (weights′ : List ℕ) (tally′ : Tally) → (weights′ ≡ Rounds.clearBefore left (subsetAt n choice) (subsets 3 n) (weights .now)) × (counted tally′ ≡ Rounds.clearingBefore left (subsets 3 n) (counted (tally .now))) → (length weights′) ≡ (length (weights .now))
+  exits : (weights′ : List ℕ) (tally′ : Tally) → (weights′ ≡ Rounds.clearBefore left (subsetAt n (shown choice)) (subsets 3 n) (weights .now)) × (counted tally′ ≡ Rounds.clearingBefore left (subsets 3 n) (counted (tally .now))) → (length weights′) ≡ (length (weights .now))
       → ent 𝓤 (⋆ 𝓤 H A (‵ (flft κ0 q0) ∷ ‵ (flft κ1 q1) ∷ ‵ (MutSlice (named 0) κ0 u32 .own (renamed weights (weights .name) weights′) ((sliceVal (weights .ptr) (length (weights .now))) ∷ [])) ∷ ‵ (MutRef (named 1) κ1 R-Tally .own (renamed tally (tally .name) tally′) ((vptr (tally .ptr .0) (tally .ptr .1)) ∷ [])) ∷ [])) (Post vunit)
   exits weights′ tally′ e long-weights =
       qed W (‵ (flft κ0 q0) ∷ ‵ (flft κ1 q1) ∷ ‵ (MutSlice (named 0) κ0 u32 .own (renamed weights (weights .name) weights′) ((sliceVal (weights .ptr) (length (weights .now))) ∷ [])) ∷ ‵ (MutRef (named 1) κ1 R-Tally .own (renamed tally (tally .name) tally′) ((vptr (tally .ptr .0) (tally .ptr .1)) ∷ [])) ∷ []) ∵
@@ -51,15 +51,15 @@ module _ {M : Type 1} (𝓤 : URA M) (H : Heap 𝓤) (A : Atoms 𝓤) (W : Given
       nothing ! $ move ! (2 ∷ 0 ∷ []) $ join ! $ move ! (1 ∷ 0 ∷ []) $ join ! $ frame ! $ nothing ! $ move ! (2 ∷ 0 ∷ []) $ fjoin ! $ nothing ! $ fjoin ! $ nothing ! $ fjoin ! $ move ! (1 ∷ 0 ∷ []) $ fjoin ! $ nothing ! $ fjoin ! $ feqI ! (List Val) (vunit ∷ []) (vunit ∷ []) refl $ move ! (1 ∷ 0 ∷ []) $ done !
 
   -- `cleared`: what its contract binds, what it asks, and that this is had
-  module _ (a0 : ℕ) (fits0 : a0 < 2 ^ 64) (ν1 : ℕ) (δ1 : GName) (a1 : List ℕ) (a2 : Places) (fits2 : Is R-Places a2 ((Places-laws.lowered a2) ∷ [])) (a3 : ℕ) (fits3 : a3 < 2 ^ 64) (a4 : Tally) (fits4 : Is R-Tally a4 ((Tally-laws.lowered a4) ∷ [])) where
+  module _ (a0 : ℕ) (fits0 : a0 < 2 ^ 64) (ν1 : ℕ) (δ1 : GName) (a1 : List ℕ) (a2 : SecretPlaces) (fits2 : Is R-SecretPlaces a2 ((SecretPlaces-laws.lowered a2) ∷ [])) (a3 : ℕ) (fits3 : a3 < 2 ^ 64) (a4 : Tally) (fits4 : Is R-Tally a4 ((Tally-laws.lowered a4) ∷ [])) where
     abbrev to-1 : F1 𝓤 H A at-mem run .Ghost
-    to-1 = ((((ν1 ∷ []), tt), (fullShare, tt), tt, (a0, ((renamed weights δ1 a1), (a2, (a3, (a4, tt))))), ((vint w64 a0) ∷ [], ((sliceVal (weights .ptr) (length (weights .now))) ∷ [], ((Places-laws.lowered a2) ∷ [], ((vint w64 a3) ∷ [], ((Tally-laws.lowered a4) ∷ [], tt)))))), tt)
+    to-1 = ((((ν1 ∷ []), tt), (fullShare, tt), tt, (a0, ((renamed weights δ1 a1), (a2, (a3, (a4, tt))))), ((vint w64 a0) ∷ [], ((sliceVal (weights .ptr) (length (weights .now))) ∷ [], ((SecretPlaces-laws.lowered a2) ∷ [], ((vint w64 a3) ∷ [], ((Tally-laws.lowered a4) ∷ [], tt)))))), tt)
 
     abbrev asked-1 : List (Item 𝓤)
     asked-1 = ‵ (flft (ν1 ∷ []) fullShare) ∷ ‵ (MutSlice (named 0) (ν1 ∷ []) u32 .own (renamed weights δ1 a1) ((sliceVal (weights .ptr) (length (weights .now))) ∷ [])) ∷ []
 
     goes-1 : Clearing a0 a1 a4 → ent 𝓤 (⋆ 𝓤 H A asked-1) (F1 𝓤 H A at-mem run .pre to-1)
-    goes-1 needs-these = qed W asked-1 ∵ says ! needs-these $ nothing ! $ move ! (1 ∷ 0 ∷ []) $ join ! $ frame ! $ nothing ! $ owned ! R-Tally (Is R-Tally) (LL.makes Tally-row.the-type Tally-laws.the-plain 𝓤 H A) a4 _ fits4 $ fjoin ! $ owned ! usize (Is usize) (uint-makes 𝓤 H A W w64) a3 _ (refl, fits3) $ fjoin ! $ owned ! R-Places (Is R-Places) (LL.makes Places-row.the-type Places-laws.the-plain 𝓤 H A) a2 _ fits2 $ fjoin ! $ move ! (1 ∷ 0 ∷ []) $ fjoin ! $ owned ! usize (Is usize) (uint-makes 𝓤 H A W w64) a0 _ (refl, fits0) $ fjoin ! $ done !
+    goes-1 needs-these = qed W asked-1 ∵ says ! needs-these $ nothing ! $ move ! (1 ∷ 0 ∷ []) $ join ! $ frame ! $ nothing ! $ owned ! R-Tally (Is R-Tally) (LL.makes Tally-row.the-type Tally-laws.the-plain 𝓤 H A) a4 _ fits4 $ fjoin ! $ owned ! usize (Is usize) (uint-makes 𝓤 H A W w64) a3 _ (refl, fits3) $ fjoin ! $ owned ! R-SecretPlaces (Is R-SecretPlaces) (LL.makes SecretPlaces-row.the-type SecretPlaces-laws.the-plain 𝓤 H A) a2 _ fits2 $ fjoin ! $ move ! (1 ∷ 0 ∷ []) $ fjoin ! $ owned ! usize (Is usize) (uint-makes 𝓤 H A W w64) a0 _ (refl, fits0) $ fjoin ! $ done !
 
   module _ (𝓣 : Tables 𝓤 H) (known-f1 : Triple 𝓤 (𝓣 .C #f1) (F1 𝓤 H A at-mem run)) (pre : Clearing n (weights .now) (tally .now)) where
     abbrev C : Calls 𝓤 H
@@ -71,11 +71,11 @@ module _ {M : Type 1} (𝓤 : URA M) (H : Heap 𝓤) (A : Atoms 𝓤) (W : Given
     fm : FmC 𝓤 H (W .laws) C
     fm = fmOf 𝓤 H (W .laws) 𝓣
 
-    walk : ent 𝓤 (onEntry 𝓤 H A me.signature (κ0, (κ1, tt)) (q0, (q1, tt)) x at) (WpFn 𝓤 H C Λ code.function ((vint w64 n) ∷ (sliceVal (weights .ptr) (length (weights .now))) ∷ (Places-laws.lowered choice) ∷ (vint w64 left) ∷ (vptr (tally .ptr .0) (tally .ptr .1)) ∷ []) Post)
+    walk : ent 𝓤 (onEntry 𝓤 H A me.signature (κ0, (κ1, tt)) (q0, (q1, tt)) x at) (WpFn 𝓤 H C Λ code.function ((vint w64 n) ∷ (sliceVal (weights .ptr) (length (weights .now))) ∷ (SecretPlaces-laws.lowered choice) ∷ (vint w64 left) ∷ (vptr (tally .ptr .0) (tally .ptr .1)) ∷ []) Post)
     walk =
-        qed W ((‵ (flft κ0 q0) ⊛ ‵ (flft κ1 q1) ⊛ ‵ ftrue) ∷ ‵ (owns (usize ∷ MutSlice (named 0) κ0 u32 ∷ R-Places ∷ usize ∷ MutRef (named 1) κ1 R-Tally ∷ []) x at) ∷ []) ∵ enter ! C Λ code.function ((vint w64 n) ∷ (sliceVal (weights .ptr) (length (weights .now))) ∷ (Places-laws.lowered choice) ∷ (vint w64 left) ∷ (vptr (tally .ptr .0) (tally .ptr .1)) ∷ []) _ $
+        qed W ((‵ (flft κ0 q0) ⊛ ‵ (flft κ1 q1) ⊛ ‵ ftrue) ∷ ‵ (owns (usize ∷ MutSlice (named 0) κ0 u32 ∷ R-SecretPlaces ∷ usize ∷ MutRef (named 1) κ1 R-Tally ∷ []) x at) ∷ []) ∵ enter ! C Λ code.function ((vint w64 n) ∷ (sliceVal (weights .ptr) (length (weights .now))) ∷ (SecretPlaces-laws.lowered choice) ∷ (vint w64 left) ∷ (vptr (tally .ptr .0) (tally .ptr .1)) ∷ []) _ $
         alloc1 ! (λ l0. alloc1 ! (λ l1. alloc1 ! (λ l2. alloc1 ! (λ l3. alloc1 ! (λ l4. alloc1 ! (λ l5. alloc1 ! (λ l6. alloc1 ! (λ l7. alloc1 ! (λ l8. alloc1 ! (λ l9. alloc0 ! $ params1 ! $
-        pass1 ! (init ! 16 refl (tt, record { fits = n-fits })) $ pass1 ! (init ! 14 refl (tt, (tt, (record { fits = weights-room .0 }, tt)))) $ pass1 ! (init ! 12 refl (LL.lawful Places-row.the-type Places-laws.the-laws 𝓤 H A W .typed choice _ choice-fits .0)) $ pass1 ! (init ! 10 refl (tt, record { fits = left-fits })) $ pass1 ! (init ! 8 refl (tt, tt)) $ pass0 ! $
+        pass1 ! (init ! 16 refl (tt, record { fits = n-fits })) $ pass1 ! (init ! 14 refl (tt, (tt, (record { fits = weights-room .0 }, tt)))) $ pass1 ! (init ! 12 refl (LL.lawful SecretPlaces-row.the-type SecretPlaces-laws.the-laws 𝓤 H A W .typed choice _ choice-fits .0)) $ pass1 ! (init ! 10 refl (tt, record { fits = left-fits })) $ pass1 ! (init ! 8 refl (tt, tt)) $ pass0 ! $
         -- what the parameters own, and the tokens of their lifetimes
         move ! (21 ∷ []) $ fsplit ! $ move ! (1 ∷ []) $ fsplit ! $ move ! (1 ∷ []) $ fsplit ! $ move ! (1 ∷ []) $ fsplit ! $ move ! (1 ∷ []) $ fsplit ! $ move ! (26 ∷ []) $ split ! $ move ! (1 ∷ []) $ split ! $ move ! (1 ∷ []) $ drop ! $ move ! (3 ∷ []) $ drop ! $ move ! (6 ∷ []) $ drop ! $ move ! (4 ∷ []) $ drop ! $ move ! (3 ∷ []) $ drop ! $
         -- _6 = *tally
@@ -92,8 +92,8 @@ module _ {M : Type 1} (𝓤 : URA M) (H : Heap 𝓤) (A : Atoms 𝓤) (W : Given
         move ! (2 ∷ 0 ∷ []) $ cut (asked-1 n n-fits ν1-1 δ1-1 (weights .now) choice choice-fits left left-fits (tally .now) is1) (raw (F1 𝓤 H A at-mem run .pre (to-1 n n-fits ν1-1 δ1-1 (weights .now) choice choice-fits left left-fits (tally .now) is1)) ∷ []) _ (goes-1 n n-fits ν1-1 δ1-1 (weights .now) choice choice-fits left left-fits (tally .now) is1 (pre)) $
         calls-at ! fm (F1 𝓤 H A at-mem run) known-f1 (to-1 n n-fits ν1-1 δ1-1 (weights .now) choice choice-fits left left-fits (tally .now) is1) (and-then ! (load ! (from ! (stop !)) (look ! 20 refl)) (and-then ! (load ! (from ! (stop !)) (look ! 4 refl)) (and-then ! (load ! (from ! (stop !)) (look ! 16 refl)) (and-then ! (load ! (from ! (stop !)) (look ! 14 refl)) (and-then ! (load ! (from ! (stop !)) (look ! 10 refl)) (no-more !)))))) (λ v1.
         use1 W (later (some (λ (r : Tally). ((‵ (flft (ν1-1 ∷ []) fullShare) ⊛ ‵ ftrue) ⊛ ‵ (R-Tally .own r (v1 ∷ []))) ⊛ raw (ensured 𝓤 H A f1.ended (f1.clauses 𝓤 H A at-mem run) ((ν1-1 ∷ []), tt) (n, ((renamed weights δ1-1 (weights .now)), (choice, (left, ((tally .now), tt))))) tt r)))) (id⊢ 𝓤 _) $ await ! tt $ pick ! (λ r1.
-        split ! $ move ! (1 ∷ []) $ use1 W (some (λ (zs : (Unit {0} × (List ℕ × (Unit {0} × (Unit {0} × (Unit {0} × Unit {0})))))). ‵ (lasts f1.ended ((ν1-1 ∷ []), tt) (n, ((renamed weights δ1-1 (weights .now)), (choice, (left, ((tally .now), tt))))) zs) ⊛ raw (fact 𝓤 (((zs .1 .0) ≡ Rounds.clearBefore left (subsetAt n choice) (subsets 3 n) (weights .now)) × (counted r1 ≡ Rounds.clearingBefore left (subsets 3 n) (counted (tally .now))))))) (id⊢ 𝓤 _) $ pick ! (λ zs1.
-        split ! $ move ! (1 ∷ []) $ heard ! (((zs1 .1 .0) ≡ Rounds.clearBefore left (subsetAt n choice) (subsets 3 n) (weights .now)) × (counted r1 ≡ Rounds.clearingBefore left (subsets 3 n) (counted (tally .now)))) (λ e1. fsplit ! $ drop ! $ fsplit ! $ fsplit ! $ move ! (1 ∷ []) $ feqL ! (λ long1-1. move ! (1 ∷ []) $ drop ! $
+        split ! $ move ! (1 ∷ []) $ use1 W (some (λ (zs : (Unit {0} × (List ℕ × (Unit {0} × (Unit {0} × (Unit {0} × Unit {0})))))). ‵ (lasts f1.ended ((ν1-1 ∷ []), tt) (n, ((renamed weights δ1-1 (weights .now)), (choice, (left, ((tally .now), tt))))) zs) ⊛ raw (fact 𝓤 (((zs .1 .0) ≡ Rounds.clearBefore left (subsetAt n (shown choice)) (subsets 3 n) (weights .now)) × (counted r1 ≡ Rounds.clearingBefore left (subsets 3 n) (counted (tally .now))))))) (id⊢ 𝓤 _) $ pick ! (λ zs1.
+        split ! $ move ! (1 ∷ []) $ heard ! (((zs1 .1 .0) ≡ Rounds.clearBefore left (subsetAt n (shown choice)) (subsets 3 n) (weights .now)) × (counted r1 ≡ Rounds.clearingBefore left (subsets 3 n) (counted (tally .now)))) (λ e1. fsplit ! $ drop ! $ fsplit ! $ fsplit ! $ move ! (1 ∷ []) $ feqL ! (λ long1-1. move ! (1 ∷ []) $ drop ! $
         move ! (1 ∷ []) $ split ! $ move ! (1 ∷ []) $ facts ! R-Tally (Is R-Tally) (shows 𝓤 H A R-Tally) r1 (v1 ∷ []) (λ got1. split ! $ move ! (1 ∷ []) $ drop ! $
         land ! (from ! (stop !)) (init ! 9 refl (LL.lawful Tally-row.the-type Tally-laws.the-laws 𝓤 H A W .typed r1 _ got1 .0)) $ rewrite ! 9 (λ (u : Val). ‵ (fat fullShare Tally-laws.mir l7 0 u)) (ap only (LL.tells Tally-row.the-type Tally-laws.the-laws r1 _ got1)) refl $
         lft-end ! tt $ move ! (0 ∷ 2 ∷ 1 ∷ []) $ use3 W (later (‵ (MutSlice (named 0) κ0 u32 .own (renamed weights (weights .name) (zs1 .1 .0)) ((sliceVal (weights .ptr) (length (weights .now))) ∷ [])) ⊛ ‵ (flft κ0 q0))) (again-back u32 κ0 (ν1-1 ∷ []) q0 (weights .name) (weights .ptr .0) (weights .ptr .1) 𝓤 H A W (named 0) (named 0) ((sliceVal (weights .ptr) (length (weights .now))) ∷ []) (weights .now) δ1-1 (zs1 .1 .0) refl weights-room long1-1) $ await ! tt $ split ! $
@@ -109,12 +109,12 @@ module _ {M : Type 1} (𝓤 : URA M) (H : Heap 𝓤) (A : Atoms 𝓤) (W : Given
 
 module _ {M : Type 1} (𝓤 : URA M) (H : Heap 𝓤) (A : Atoms 𝓤) (W : Given 𝓤 H A) (at-mem : Memory → SProp 𝓤) (run : Routine → Fun 𝓤) where
   walks : (𝓣 : Tables 𝓤 H) → Triple 𝓤 (𝓣 .C #f1) (F1 𝓤 H A at-mem run) → Walks 𝓤 H A me.ended stayed (WpFn 𝓤 H (𝓣 .C) (𝓣 .Λ) code.function) (me.clauses 𝓤 H A at-mem run)
-  walks 𝓣 known-f1 = walked 𝓤 H A me.ended stayed (me.clauses 𝓤 H A at-mem run) (WpFn 𝓤 H (𝓣 .C) (𝓣 .Λ) code.function) (λ κs. (uint-vals w64, (slice-vals, (LL.vals Places-row.the-type Places-laws.the-laws, (uint-vals w64, (ptr-vals, tt)))))) (λ κs. (uint-tells w64, (mut-slice-tells (named 0) (κs .0) u32, (LL.tells Places-row.the-type Places-laws.the-laws, (uint-tells w64, (mut-tells (named 1) (κs .1 .0) R-Tally, tt))))))
+  walks 𝓣 known-f1 = walked 𝓤 H A me.ended stayed (me.clauses 𝓤 H A at-mem run) (WpFn 𝓤 H (𝓣 .C) (𝓣 .Λ) code.function) (λ κs. (uint-vals w64, (slice-vals, (LL.vals SecretPlaces-row.the-type SecretPlaces-laws.the-laws, (uint-vals w64, (ptr-vals, tt)))))) (λ κs. (uint-tells w64, (mut-slice-tells (named 0) (κs .0) u32, (LL.tells SecretPlaces-row.the-type SecretPlaces-laws.the-laws, (uint-tells w64, (mut-tells (named 1) (κs .1 .0) R-Tally, tt))))))
       (λ κs qs bounds a g are. needs 𝓤 (Clearing (a .0) (a .1 .0 .now) (a .1 .1 .1 .1 .0 .now)) _ (walk 𝓤 H A W at-mem run (κs .0) (κs .1 .0) bounds (qs .0) (qs .1 .0) (a .0) (a .1 .0) (a .1 .1 .0) (a .1 .1 .1 .0) (a .1 .1 .1 .1 .0) (are .0 .1) (are .1 .0 .0 .1) (are .1 .1 .0) (are .1 .1 .1 .0 .1) 𝓣 known-f1))
 
   meets : (𝓣 : Tables 𝓤 H) → Triple 𝓤 (𝓣 .C #f1) (F1 𝓤 H A at-mem run) → Meets 𝓤 H A me.signature (WpFn 𝓤 H (𝓣 .C) (𝓣 .Λ) code.function) (me.spec 𝓤 H A at-mem run)
   meets 𝓣 known-f1 =
-      walk-meets 𝓤 H A me.ended stayed W (goes-dropped 𝓤 H A W 2 (plain (λ _. usize)) yes (λ κs x f. refl), (goes-slice 𝓤 H A W 2 0 tt (plain (λ _. u32)), (goes-dropped 𝓤 H A W 2 (plain (λ _. R-Places)) yes (λ κs x f. refl), (goes-dropped 𝓤 H A W 2 (plain (λ _. usize)) yes (λ κs x f. refl), (goes-ref 𝓤 H A W 2 1 tt (plain (λ _. R-Tally)), tt))))) (me.clauses 𝓤 H A at-mem run)
+      walk-meets 𝓤 H A me.ended stayed W (goes-dropped 𝓤 H A W 2 (plain (λ _. usize)) yes (λ κs x f. refl), (goes-slice 𝓤 H A W 2 0 tt (plain (λ _. u32)), (goes-dropped 𝓤 H A W 2 (plain (λ _. R-SecretPlaces)) yes (λ κs x f. refl), (goes-dropped 𝓤 H A W 2 (plain (λ _. usize)) yes (λ κs x f. refl), (goes-ref 𝓤 H A W 2 1 tt (plain (λ _. R-Tally)), tt))))) (me.clauses 𝓤 H A at-mem run)
       (WpFn 𝓤 H (𝓣 .C) (𝓣 .Λ) code.function) (WpFn-mono 𝓤 H (W .laws) 𝓣 code.function) (walks 𝓣 known-f1)
 
 pub clear-spec : {M : Type 1} → stated.statement M

@@ -1,44 +1,91 @@
 -- `clearing::weight_after` meets its contract. Assumes nothing.
+use Prim.Native.Nat.{_^_, _<_}
+use native.Mathlib.Omega.{arith}
 use mathlib.Core.Path.{_∙_}
-use Rattle.gates.proofs.Gates.{raised, raised-then, room-left}
-use Rattle.clearing.proofs.Kept.{first-fits, second-fits, two-cleared, third-fits, triple-cleared, tally-two, tally-triple}
 use borrow.Author.Needs.{needs}
+use Rattle.gates.specs.Secrets.{valueOf}
+use Rattle.gates.proofs.Gates.{raised, raised-then, room-left}
+use Rattle.cursor.specs.Cursor.{shown}
+use Rattle.clearing.proofs.Kept.{first-fits, second-fits, two-cleared, third-fits, triple-cleared, tally-two, tally-triple}
 use Rattle.clearing.proofs.weight_after.Statement.{statement}
 use Rattle.clearing.proofs.weight_after.Tie as tie
 
-keep-requires : tie.Need-keep-requires
-keep-requires c κs = search needs
+-- the function's start, seen from the second product
+abbrev start : tie.After-product2 → tie.Start
+start c = c .before .before .before .before
+
+small : (s : tie.Start) → valueOf (s .args .x) < 2 ^ 32
+small s = omega arith
+
+demux-readout-requires : tie.Need-demux-readout-requires
+demux-readout-requires c κs = search needs
 
 product-requires : tie.Need-product-requires
-product-requires c κs = (first-fits _ _ (c .before .args .p) (c .before .args .choice) (c .before .pre .0) (c .before .pre .1) _ (c .keep .ensures), search needs)
+product-requires c κs =
+    let s = c .before in
+    let a = s .args in
+    (first-fits (a .n) (valueOf (a .x)) (a .p) (shown (a .choice)) (s .pre .0) (small s) _ (c .demux-readout .ensures), search needs)
 
-keep-requires-2 : tie.Need-keep-requires-2
-keep-requires-2 c κs = search needs
+demux-readout-requires-2 : tie.Need-demux-readout-requires-2
+demux-readout-requires-2 c κs = search needs
 
 product-requires-2 : tie.Need-product-requires-2
-product-requires-2 c κs = (second-fits _ _ (c .before .before .before .args .p) (c .before .before .before .args .choice) (c .before .before .before .pre .0) (c .before .before .before .pre .1) _ (c .before .before .keep .ensures) _ (c .before .product .ensures .0) _ (c .keep2 .ensures), search needs)
+product-requires-2 c κs =
+    let first = c .before in
+    let s = first .before .before in
+    let a = s .args in (
+      second-fits (a .n) (valueOf (a .x)) (a .p) (shown (a .choice)) (s .pre .0) (small s) _ (first .before .demux-readout .ensures) _ (first .product .ensures .0) _
+          (c .demux-readout2 .ensures),
+      search needs,
+    )
 
 returns : tie.Need-returns
-returns c = (two-cleared _ _ (c .before .before .before .before .before .before .args .p) (c .before .before .before .before .before .before .args .choice) (c .before .before .before .before .before .before .pre .0) (c .before .before .before .before .before .before .pre .1) _ (c .before .before .before .before .before .keep .ensures) _ (c .before .before .before .before .product .ensures .0) _ (c .before .before .before .keep2 .ensures) (c .if1 .taken) _ (c .before .before .product2 .ensures .0), raised 0 2 _ _ (raised-then (c .before .before .before .before .product .ensures .1) (c .before .before .product2 .ensures .1)) ∙ tally-two _ _ (c .before .before .before .before .before .before .pre .0) _ (c .if1 .taken))
+returns c =
+    let second = c .before .before in
+    let first = second .before .before in
+    let s = start second in
+    let a = s .args in (
+      two-cleared (a .n) (valueOf (a .x)) (a .p) (shown (a .choice)) (s .pre .0) (small s) _ (first .before .demux-readout .ensures) _ (first .product .ensures .0) _
+          (second .before .demux-readout2 .ensures) (c .if1 .taken) _ (second .product2 .ensures .0),
+      raised 0 2 _ _ (raised-then (first .product .ensures .1) (second .product2 .ensures .1)) ∙ tally-two _ _ (s .pre .0) _ (c .if1 .taken),
+    )
 
-keep-requires-3 : tie.Need-keep-requires-3
-keep-requires-3 c κs = search needs
+demux-readout-requires-3 : tie.Need-demux-readout-requires-3
+demux-readout-requires-3 c κs = search needs
 
 product-requires-3 : tie.Need-product-requires-3
-product-requires-3 c κs = (third-fits _ _ (c .before .before .before .before .before .before .before .args .p) (c .before .before .before .before .before .before .before .args .choice) (c .before .before .before .before .before .before .before .pre .0) (c .before .before .before .before .before .before .before .pre .1) _ (c .before .before .before .before .before .before .keep .ensures) _ (c .before .before .before .before .before .product .ensures .0) _ (c .before .before .before .before .keep2 .ensures) _ (c .before .before .before .product2 .ensures .0) _ (c .keep3 .ensures) (c .before .if1 .left), room-left 0 2 0 1 _ _ (c .before .before .before .before .before .before .before .pre .2) (raised-then (c .before .before .before .before .before .product .ensures .1) (c .before .before .before .product2 .ensures .1)))
+product-requires-3 c κs =
+    let second = c .before .before .before in
+    let first = second .before .before in
+    let s = start second in
+    let a = s .args in (
+      third-fits (a .n) (valueOf (a .x)) (a .p) (shown (a .choice)) (s .pre .0) (small s) _ (first .before .demux-readout .ensures) _ (first .product .ensures .0) _
+          (second .before .demux-readout2 .ensures) _ (second .product2 .ensures .0) _ (c .demux-readout3 .ensures) (c .before .if1 .left),
+      room-left 0 2 0 1 _ _ (s .pre .1) (raised-then (first .product .ensures .1) (second .product2 .ensures .1)),
+    )
 
 returns-2 : tie.Need-returns-2
-returns-2 c = (triple-cleared _ _ (c .before .before .before .before .before .before .before .before .args .p) (c .before .before .before .before .before .before .before .before .args .choice) (c .before .before .before .before .before .before .before .before .pre .0) (c .before .before .before .before .before .before .before .before .pre .1) _ (c .before .before .before .before .before .before .before .keep .ensures) _ (c .before .before .before .before .before .before .product .ensures .0) _ (c .before .before .before .before .before .keep2 .ensures) _ (c .before .before .before .before .product2 .ensures .0) _ (c .before .keep3 .ensures) (c .before .before .if1 .left) _ (c .product3 .ensures .0), raised 0 3 _ _ (raised-then (raised-then (c .before .before .before .before .before .before .product .ensures .1) (c .before .before .before .before .product2 .ensures .1)) (c .product3 .ensures .1)) ∙ tally-triple _ _ (c .before .before .before .before .before .before .before .before .pre .0) _ (c .before .before .if1 .left))
+returns-2 c =
+    let branch = c .before .before in
+    let second = branch .before .before in
+    let first = second .before .before in
+    let s = start second in
+    let a = s .args in (
+      triple-cleared (a .n) (valueOf (a .x)) (a .p) (shown (a .choice)) (s .pre .0) (small s) _ (first .before .demux-readout .ensures) _ (first .product .ensures .0) _
+          (second .before .demux-readout2 .ensures) _ (second .product2 .ensures .0) _ (c .before .demux-readout3 .ensures) (branch .if1 .left) _ (c .product3 .ensures .0),
+      raised 0 3 _ _ (raised-then (raised-then (first .product .ensures .1) (second .product2 .ensures .1)) (c .product3 .ensures .1))
+          ∙ tally-triple _ _ (s .pre .0) _ (branch .if1 .left),
+    )
 
 pub weight-after-spec : {M : Type 1} → statement M
 weight-after-spec =
     tie.close
     (tie.spec
-    keep-requires
+    demux-readout-requires
     product-requires
-    keep-requires-2
+    demux-readout-requires-2
     product-requires-2
     returns
-    keep-requires-3
+    demux-readout-requires-3
     product-requires-3
     returns-2)

@@ -1,9 +1,10 @@
 -- `evaluation::evaluated` meets its contract. The loop's invariant is `Evaluated`. Assumes nothing.
 use Prim.Native.Nat.{_-_}
+use mathlib.Core.Path.{ap, _∙_}
 use native.Mathlib.Omega.{arith}
 use borrow.Author.Needs.{needs}
 use lib.ListN.{length}
-use Rattle.evaluation.proofs.AllWeights.{Evaluated, begins, kept, ends, below, below-few, ranged, room, fits, again}
+use Rattle.evaluation.proofs.AllWeights.{Evaluated, begins, kept, ends, below, below-few, ranged, room, again}
 use Rattle.evaluation.proofs.evaluated.Statement.{statement}
 use Rattle.evaluation.proofs.evaluated.Tie as tie
 
@@ -22,26 +23,20 @@ loop-holds c = begins _ _ _ _ _ _ (c .before .before .before .before .before .pr
 weight-at-requires : tie.Need-weight-at-requires Inv-loop μ-loop
 weight-at-requires c κs = (c .before .before .before .before .before .before .before .pre .readable, c .before .before .before .before .before .before .before .pre .shuffled, ranged _ _ _ _ _ _ (c .before .before .before .before .before .before .before .pre) _ _ _ _ (c .before .loop .inv) (c .loop-test .taken), room _ _ _ _ _ _ (c .before .before .before .before .before .before .before .pre) _ _ _ _ (c .before .loop .inv) (c .loop-test .taken))
 
-cast-weights : tie.Need-cast-weights Inv-loop μ-loop
-cast-weights c = record { fits = fits _ _ _ _ _ _ (c .before .before .before .before .before .before .before .before .before .pre) _ _ _ _ (c .before .before .before .loop .inv) (c .before .before .loop-test .taken) _ (c .before .weight-at .ensures .0) (λ i. omega (arith, c .before .before .before .before .before .before .before .shared-slice-known2 .given i)) }
-
-mul-weights : tie.Need-mul-weights Inv-loop μ-loop
-mul-weights c = record { fits = omega (arith, below-few _ _ _ _ _ _ (c .before .before .before .before .before .before .before .before .before .pre) _ _ _ _ (c .before .before .before .loop .inv) (c .before .before .loop-test .taken)) }
-
-slice-write-weights : tie.Need-slice-write-weights Inv-loop μ-loop
-slice-write-weights c = search needs
+store-u32-requires : tie.Need-store-u32-requires Inv-loop μ-loop
+store-u32-requires c κs = c .before .before .loop-test .taken
 
 next-requires : tie.Need-next-requires Inv-loop μ-loop
-next-requires c κs = ranged _ _ _ _ _ _ (c .before .before .before .before .before .before .before .before .before .before .pre) _ _ _ _ (c .before .before .before .before .loop .inv) (c .before .before .before .loop-test .taken)
+next-requires c κs = ranged _ _ _ _ _ _ (c .before .before .before .before .before .before .before .before .before .before .before .before .before .pre) _ _ _ _ (c .before .before .before .before .before .before .before .loop .inv) (c .before .before .before .before .before .before .loop-test .taken)
 
 add-i : tie.Need-add-i Inv-loop μ-loop
-add-i c = record { fits = omega (arith, below-few _ _ _ _ _ _ (c .before .before .before .before .before .before .before .before .before .before .before .pre) _ _ _ _ (c .before .before .before .before .before .loop .inv) (c .before .before .before .before .loop-test .taken)) }
+add-i c = record { fits = omega (arith, below-few _ _ _ _ _ _ (c .before .before .before .before .before .before .before .before .before .before .before .before .before .before .pre) _ _ _ _ (c .before .before .before .before .before .before .before .before .loop .inv) (c .before .before .before .before .before .before .before .loop-test .taken)) }
 
 loop-less : tie.Need-loop-less Inv-loop μ-loop
-loop-less c = omega (arith, kept _ _ _ _ _ _ (c .before .before .before .before .before .before .before .before .before .before .before .pre) _ _ _ _ (c .before .before .before .before .before .loop .inv), c .before .before .before .before .loop-test .taken)
+loop-less c = omega (arith, kept _ _ _ _ _ _ (c .before .before .before .before .before .before .before .before .before .before .before .before .before .before .pre) _ _ _ _ (c .before .before .before .before .before .before .before .before .loop .inv), c .before .before .before .before .before .before .before .loop-test .taken)
 
 loop-again : tie.Need-loop-again Inv-loop μ-loop
-loop-again c = again _ _ _ _ _ _ (c .before .before .before .before .before .before .before .before .before .before .before .pre) _ _ _ _ (c .before .before .before .before .before .loop .inv) (c .before .before .before .before .loop-test .taken) _ (c .before .before .before .weight-at .ensures .0) _ (c .before .before .before .weight-at .ensures .1) _ (c .next .ensures _ (below _ _ _ _ _ _ (c .before .before .before .before .before .before .before .before .before .before .before .pre) _ _ _ _ (c .before .before .before .before .before .loop .inv) (c .before .before .before .before .loop-test .taken)) (c .before .before .before .before .before .loop .inv .there))
+loop-again c = again _ _ _ _ _ _ (c .before .before .before .before .before .before .before .before .before .before .before .before .before .before .pre) _ _ _ _ (c .before .before .before .before .before .before .before .before .loop .inv) (c .before .before .before .before .before .before .before .loop-test .taken) _ (c .before .before .before .before .before .before .weight-at .ensures .0) _ (c .before .before .before .before .store-u32 .ensures) _ (c .before .before .before .before .before .before .weight-at .ensures .1) _ (c .next .ensures _ (below _ _ _ _ _ _ (c .before .before .before .before .before .before .before .before .before .before .before .before .before .before .pre) _ _ _ _ (c .before .before .before .before .before .before .before .before .loop .inv) (c .before .before .before .before .before .before .before .loop-test .taken)) (c .before .before .before .before .before .before .before .before .loop .inv .there))
 
 same-length : tie.Need-same-length Inv-loop μ-loop
 same-length c = kept _ _ _ _ _ _ (c .before .before .before .before .before .before .before .pre) _ _ _ _ (c .before .loop .inv)
@@ -58,9 +53,7 @@ evaluated-spec =
     first-requires
     loop-holds
     weight-at-requires
-    cast-weights
-    mul-weights
-    slice-write-weights
+    store-u32-requires
     next-requires
     add-i
     loop-less

@@ -1,60 +1,55 @@
 -- `evaluation::three` meets its contract. Assumes nothing.
-use Rattle.gates.proofs.Gates.{raised-then, room-left}
 use native.Mathlib.Omega.{arith}
-use Rattle.evaluation.proofs.Cycles.{points-of, three-fits, three-fits-all, three-sum, three-product, three-is}
+use mathlib.Core.Path.{sym, _∙_}
 use borrow.Author.Needs.{needs}
+use Rattle.gates.proofs.Gates.{raised-then, room-left}
+use Rattle.evaluation.proofs.Cycles.{ones-is, both-fit, product-fits, three-is}
 use Rattle.evaluation.proofs.three.Statement.{statement}
 use Rattle.evaluation.proofs.three.Tie as tie
 
-compatible-requires : tie.Need-compatible-requires
-compatible-requires c κs = search needs
-
-compatible-requires-2 : tie.Need-compatible-requires-2
-compatible-requires-2 c κs = search needs
-
 product-requires : tie.Need-product-requires
-product-requires c κs = (three-fits _ _ _ (λ i. omega (arith, c .before .before .shared-slice-known2 .given i)) _ _ _ (c .before .before .before .before .pre .0) _ _ (c .before .compatible .ensures) (c .compatible2 .ensures), search needs)
-
-compatible-requires-3 : tie.Need-compatible-requires-3
-compatible-requires-3 c κs = search needs
+product-requires c κs = (both-fit _ _ (c .pre .0 .zeroOrOne) (c .pre .1 .zeroOrOne), search needs)
 
 product-requires-2 : tie.Need-product-requires-2
-product-requires-2 c κs = (three-fits-all _ _ _ (λ i. omega (arith, c .before .before .before .before .shared-slice-known2 .given i)) _ _ _ (c .before .before .before .before .before .before .pre .0) _ _ (c .before .before .before .compatible .ensures) (c .before .before .compatible2 .ensures) _ (c .before .product .ensures .0) _ (c .compatible3 .ensures), search needs)
+product-requires-2 c κs =
+    let pre = c .before .pre in (
+      both-fit _ _ (ones-is _ _ _ (pre .0 .zeroOrOne) (pre .1 .zeroOrOne) (c .product .ensures .0)) (pre .2 .zeroOrOne),
+      search needs,
+    )
 
-points-requires : tie.Need-points-requires
-points-requires c κs = search needs
+sum-requires : tie.Need-sum-requires
+sum-requires c κs = search needs
 
-points-requires-2 : tie.Need-points-requires-2
-points-requires-2 c κs = search needs
-
-add-sum : tie.Need-add-sum
-add-sum c = record { fits = omega (arith, points-of _ _ _ (λ i. omega (arith, c .before .before .before .before .before .before .before .shared-slice-known2 .given i)) _ _ _ (c .before .before .before .before .before .before .before .before .before .pre .0) _ _ _ (c .before .points .ensures), points-of _ _ _ (λ i. omega (arith, c .before .before .before .before .before .before .before .shared-slice-known2 .given i)) _ _ _ (c .before .before .before .before .before .before .before .before .before .pre .0) _ _ _ (c .points2 .ensures)) }
-
-points-requires-3 : tie.Need-points-requires-3
-points-requires-3 c κs = let asked = c .before .before .before .before .before .before .before .before .before .pre .0 in (asked .third, asked .first, asked .readable .few, asked .readable .points)
-
-add-sum-2 : tie.Need-add-sum-2
-add-sum-2 c = record { fits = omega (arith, three-sum _ _ _ (λ i. omega (arith, c .before .before .before .before .before .before .before .before .shared-slice-known2 .given i)) _ _ _ (c .before .before .before .before .before .before .before .before .before .before .pre .0) _ _ (c .before .before .before .before .before .before .before .compatible .ensures) (c .before .before .before .before .before .before .compatible2 .ensures) _ (c .before .before .before .before .before .product .ensures .0) _ (c .before .before .before .before .compatible3 .ensures) _ (c .before .before .before .product2 .ensures .0) _ _ _ (c .before .before .points .ensures) (c .before .points2 .ensures) (c .points3 .ensures)) }
+sum-requires-2 : tie.Need-sum-requires-2
+sum-requires-2 c κs = search needs
 
 product-requires-3 : tie.Need-product-requires-3
-product-requires-3 c κs = (three-product _ _ _ (λ i. omega (arith, c .before .before .before .before .before .before .before .before .shared-slice-known2 .given i)) _ _ _ (c .before .before .before .before .before .before .before .before .before .before .pre .0) _ _ (c .before .before .before .before .before .before .before .compatible .ensures) (c .before .before .before .before .before .before .compatible2 .ensures) _ (c .before .before .before .before .before .product .ensures .0) _ (c .before .before .before .before .compatible3 .ensures) _ (c .before .before .before .product2 .ensures .0) _ _ _ (c .before .before .points .ensures) (c .before .points2 .ensures) (c .points3 .ensures), room-left 0 2 0 1 _ _ (c .before .before .before .before .before .before .before .before .before .before .pre .1) (raised-then (c .before .before .before .before .before .product .ensures .1) (c .before .before .before .product2 .ensures .1)))
+product-requires-3 c κs =
+    let both = c .before .before .before in
+    let pre = both .before .pre in
+    let two = ones-is _ _ _ (pre .0 .zeroOrOne) (pre .1 .zeroOrOne) (both .product .ensures .0) in (
+      product-fits _ _ (ones-is _ _ _ two (pre .2 .zeroOrOne) (c .before .before .product2 .ensures .0))
+          (omega (arith, c .sum2 .ensures, c .before .sum .ensures, pre .0 .sixteen, pre .1 .sixteen, pre .2 .sixteen)),
+      room-left 0 2 0 1 _ _ (pre .3) (raised-then (both .product .ensures .1) (c .before .before .product2 .ensures .1)),
+    )
 
 returns : tie.Need-returns
-returns c = (three-is _ _ _ (λ i. omega (arith, c .before .before .before .before .before .before .before .before .before .shared-slice-known2 .given i)) _ _ _ (c .before .before .before .before .before .before .before .before .before .before .before .pre .0) _ _ (c .before .before .before .before .before .before .before .before .compatible .ensures) (c .before .before .before .before .before .before .before .compatible2 .ensures) _ (c .before .before .before .before .before .before .product .ensures .0) _ (c .before .before .before .before .before .compatible3 .ensures) _ (c .before .before .before .before .product2 .ensures .0) _ _ _ (c .before .before .before .points .ensures) (c .before .before .points2 .ensures) (c .before .points3 .ensures) _ (c .product3 .ensures .0), raised-then (raised-then (c .before .before .before .before .before .before .product .ensures .1) (c .before .before .before .before .product2 .ensures .1)) (c .product3 .ensures .1))
+returns c =
+    let all = c .before .before .before in
+    let both = all .before in
+    let a = both .before .args in (
+      c .product3 .ensures .0
+          ∙ (rw (all .product2 .ensures .0, both .product .ensures .0, c .before .sum2 .ensures, c .before .before .sum .ensures) (sym (three-is (a .ab) (a .bc) (a .ca)))),
+      raised-then (raised-then (both .product .ensures .1) (all .product2 .ensures .1)) (c .product3 .ensures .1),
+    )
 
 pub three-spec : {M : Type 1} → statement M
 three-spec =
     tie.close
     (tie.spec
-    compatible-requires
-    compatible-requires-2
     product-requires
-    compatible-requires-3
     product-requires-2
-    points-requires
-    points-requires-2
-    add-sum
-    points-requires-3
-    add-sum-2
+    sum-requires
+    sum-requires-2
     product-requires-3
     returns)

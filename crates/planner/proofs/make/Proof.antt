@@ -43,6 +43,9 @@ slice-aggregate-resolve-3 c = front _ _ (c .before .before .before .before .befo
 resolve-requires : tie.Need-resolve-requires
 resolve-requires c κs = asks-resolve _ _ _ _ _ _ _ _ (c .before .before .before .before .before .before .before .before .before .before .before .before .before .before .before .before .before .before .pre) _ (c .before .before .before .before .before .before .before .before .before .before .count .ensures) _ _ _ (c .before .before .before .before .before .before .before .steps .ensures)
 
+counts-of-requires : tie.Need-counts-of-requires
+counts-of-requires c κs = search needs
+
 same-length : tie.Need-same-length
 same-length c = search needs
 
@@ -56,7 +59,15 @@ same-length-4 : tie.Need-same-length-4
 same-length-4 c = search needs
 
 returns : tie.Need-returns
-returns c = (plan-is _ _ _ _ _ _ _ _ (c .before .before .before .before .before .before .before .before .before .before .before .before .before .before .before .before .before .before .before .before .before .before .before .before .pre) _ (c .before .before .before .before .before .before .before .before .before .before .before .before .before .before .before .before .count .ensures) _ _ _ (c .before .before .before .before .before .before .before .before .before .before .before .before .before .steps .ensures) (c .before .before .before .before .before .resolve .result) _ _ (c .before .before .before .before .before .resolve .ensures), cycles-few _ _ _ _ _ _ _ _ (c .before .before .before .before .before .before .before .before .before .before .before .before .before .before .before .before .before .before .before .before .before .before .before .before .pre) _ (c .before .before .before .before .before .before .before .before .before .before .before .before .before .before .before .before .count .ensures) _ _ _ (c .before .before .before .before .before .before .before .before .before .before .before .before .before .steps .ensures) (c .before .before .before .before .before .resolve .result) _ _ (c .before .before .before .before .before .resolve .ensures), lent-is _ _ _ _ _ _ _ _ (c .before .before .before .before .before .before .before .before .before .before .before .before .before .before .before .before .before .before .before .before .before .before .before .before .pre) _ (c .before .before .before .before .before .before .before .before .before .before .before .before .before .before .before .before .count .ensures) _ _ _ (c .before .before .before .before .before .before .before .before .before .before .before .before .before .steps .ensures) (c .before .before .before .before .before .resolve .result) _ _ (c .before .before .before .before .before .resolve .ensures))
+returns c =
+    let made = c .before .before .before .before .before .before in
+    let stepped = made .before .before .before .before .before .before .before .before in
+    let all = stepped .before .before .before in
+    let pre = all .before .before .before .before .before .before .before .before .pre in (
+      plan-is _ _ _ _ _ _ _ _ pre _ (all .count .ensures) _ _ _ (stepped .steps .ensures) (made .resolve .result) _ _ (made .resolve .ensures) _ (c .counts-of .ensures),
+      cycles-few _ _ _ _ _ _ _ _ pre _ (all .count .ensures) _ _ _ (stepped .steps .ensures) (made .resolve .result) _ _ (made .resolve .ensures),
+      lent-is _ _ _ _ _ _ _ _ pre _ (all .count .ensures) _ _ _ (stepped .steps .ensures) (made .resolve .result) _ _ (made .resolve .ensures),
+    )
 
 pub make-spec : {M : Type 1} → statement M
 make-spec =
@@ -75,6 +86,7 @@ make-spec =
     slice-relend-prefix-resolve-2
     slice-aggregate-resolve-3
     resolve-requires
+    counts-of-requires
     same-length
     same-length-2
     same-length-3

@@ -1,7 +1,7 @@
 -- `resolution::three` meets its contract. Assumes nothing.
 use mathlib.Core.Path.{refl}
 use native.Mathlib.Omega.{arith}
-use Rattle.evaluation.proofs.Cycles.{points-of, three-fits, three-fits-all, three-sum, three-product, three-is}
+use Rattle.resolution.proofs.Weighed.{points-of, three-fits, three-fits-all, three-sum, three-product, three-is}
 use borrow.Author.Needs.{needs}
 use Rattle.resolution.proofs.three.Statement.{statement}
 use Rattle.resolution.proofs.three.Tie as tie
@@ -37,10 +37,10 @@ add-result : tie.Need-add-result
 add-result c = record { fits = omega (arith, three-sum _ _ _ (λ i. omega (arith, c .before .before .before .before .before .before .shared-slice-known2 .given i)) _ _ _ (c .before .before .before .before .before .before .before .before .pre) _ _ (c .before .before .before .before .before .compatible .ensures) (c .before .before .before .before .compatible2 .ensures) _ refl _ (c .before .before .before .compatible3 .ensures) _ refl _ _ _ (c .before .before .points .ensures) (c .before .points2 .ensures) (c .points3 .ensures)) }
 
 mul-result : tie.Need-mul-result
-mul-result c = record { fits = three-product _ _ _ (λ i. omega (arith, c .before .before .before .before .before .before .shared-slice-known2 .given i)) _ _ _ (c .before .before .before .before .before .before .before .before .pre) _ _ (c .before .before .before .before .before .compatible .ensures) (c .before .before .before .before .compatible2 .ensures) _ refl _ (c .before .before .before .compatible3 .ensures) _ refl _ _ _ (c .before .before .points .ensures) (c .before .points2 .ensures) (c .points3 .ensures) }
+mul-result c = record { fits = three-product _ _ _ (λ i. omega (arith, c .before .before .before .before .before .before .shared-slice-known2 .given i)) _ _ _ (c .before .before .before .before .before .before .before .before .pre) _ _ (c .before .before .before .before .before .compatible .ensures) (c .before .before .before .before .compatible2 .ensures) _ refl _ (c .before .before .before .compatible3 .ensures) _ refl _ _ _ (c .before .before .points .ensures) (c .before .points2 .ensures) (c .points3 .ensures) _ refl _ refl }
 
 returns : tie.Need-returns
-returns c = three-is _ _ _ (λ i. omega (arith, c .before .before .before .before .before .before .shared-slice-known2 .given i)) _ _ _ (c .before .before .before .before .before .before .before .before .pre) _ _ (c .before .before .before .before .before .compatible .ensures) (c .before .before .before .before .compatible2 .ensures) _ refl _ (c .before .before .before .compatible3 .ensures) _ refl _ _ _ (c .before .before .points .ensures) (c .before .points2 .ensures) (c .points3 .ensures) _ refl
+returns c = three-is _ _ _ (λ i. omega (arith, c .before .before .before .before .before .before .shared-slice-known2 .given i)) _ _ _ (c .before .before .before .before .before .before .before .before .pre) _ _ (c .before .before .before .before .before .compatible .ensures) (c .before .before .before .before .compatible2 .ensures) _ refl _ (c .before .before .before .compatible3 .ensures) _ refl _ _ _ (c .before .before .points .ensures) (c .before .points2 .ensures) (c .points3 .ensures) _ refl _ refl _ refl
 
 pub three-spec : {M : Type 1} → statement M
 three-spec =

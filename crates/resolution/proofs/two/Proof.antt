@@ -1,7 +1,7 @@
 -- `resolution::two` meets its contract. Assumes nothing.
 use mathlib.Core.Path.{refl}
 use native.Mathlib.Omega.{arith}
-use Rattle.evaluation.proofs.Cycles.{two-fits, two-sum, two-product, two-is}
+use Rattle.resolution.proofs.Weighed.{two-fits, two-sum, two-product, two-is}
 use borrow.Author.Needs.{needs}
 use Rattle.resolution.proofs.two.Statement.{statement}
 use Rattle.resolution.proofs.two.Tie as tie
@@ -25,10 +25,10 @@ add-result : tie.Need-add-result
 add-result c = record { fits = two-sum _ _ _ (λ i. omega (arith, c .before .before .before .before .shared-slice-known2 .given i)) _ _ _ (c .before .before .before .before .before .before .pre) _ _ (c .before .before .before .compatible .ensures) (c .before .before .compatible2 .ensures) _ refl _ _ (c .before .points .ensures) (c .points2 .ensures) }
 
 mul-result : tie.Need-mul-result
-mul-result c = record { fits = two-product _ _ _ (λ i. omega (arith, c .before .before .before .before .shared-slice-known2 .given i)) _ _ _ (c .before .before .before .before .before .before .pre) _ _ (c .before .before .before .compatible .ensures) (c .before .before .compatible2 .ensures) _ refl _ _ (c .before .points .ensures) (c .points2 .ensures) }
+mul-result c = record { fits = two-product _ _ _ (λ i. omega (arith, c .before .before .before .before .shared-slice-known2 .given i)) _ _ _ (c .before .before .before .before .before .before .pre) _ _ (c .before .before .before .compatible .ensures) (c .before .before .compatible2 .ensures) _ refl _ _ (c .before .points .ensures) (c .points2 .ensures) _ refl }
 
 returns : tie.Need-returns
-returns c = two-is _ _ _ (λ i. omega (arith, c .before .before .before .before .shared-slice-known2 .given i)) _ _ _ (c .before .before .before .before .before .before .pre) _ _ (c .before .before .before .compatible .ensures) (c .before .before .compatible2 .ensures) _ refl _ _ (c .before .points .ensures) (c .points2 .ensures) _ refl
+returns c = two-is _ _ _ (λ i. omega (arith, c .before .before .before .before .shared-slice-known2 .given i)) _ _ _ (c .before .before .before .before .before .before .pre) _ _ (c .before .before .before .compatible .ensures) (c .before .before .compatible2 .ensures) _ refl _ _ (c .before .points .ensures) (c .points2 .ensures) _ refl _ refl
 
 pub two-spec : {M : Type 1} → statement M
 two-spec =

@@ -6,15 +6,15 @@ use Rattle.greedy.specs.Rounds as Rounds
 use Rattle.gates.specs.Counts.{counted}
 use Rattle.exchange.specs.Subsets.{subsets}
 use Rattle.choosing.specs.Parts.{Turn, choiceOf}
-use Rattle.cursor.specs.Cursor.{placesAt, subsetAt}
+use Rattle.cursor.specs.Cursor.{shown, placesAt, subsetAt}
 use Rattle.clearing.specs.Clearing.{Clearing}
 use Rattle.rounds.proofs.Turns.{Turned, begins, ends, asks-choose, asks-clear, next}
 use Rattle.gates.specs.declared.Tally.{Tally}
 use Rattle.gates.proofs.Tally as Tally-row
 use Rattle.gates.proofs.Tally.Laws as Tally-laws
-use Rattle.cursor.specs.declared.Places.{Places}
-use Rattle.cursor.proofs.Places as Places-row
-use Rattle.cursor.proofs.Places.Laws as Places-laws
+use Rattle.gates.specs.declared.SecretPlaces.{SecretPlaces}
+use Rattle.gates.proofs.SecretPlaces as SecretPlaces-row
+use Rattle.gates.proofs.SecretPlaces.Laws as SecretPlaces-laws
 use Rattle.choosing.proofs.choose as f1
 use Rattle.choosing.proofs.choose.Symbol as f1-def
 use Rattle.choosing.proofs.choose.Symbol.{name as #f1}
@@ -32,8 +32,8 @@ use Rattle.rounds.proofs.all_rounds.Code.Mir as pieces
 abbrev R-Tally : RattleType
 R-Tally = Tally-row.the-row
 
-abbrev R-Places : RattleType
-R-Places = Places-row.the-row
+abbrev R-SecretPlaces : RattleType
+R-SecretPlaces = SecretPlaces-row.the-row
 
 abbrev stayed : Stays (me.ended .signature .params) (me.ended .kept)
 stayed = (stay-dropped (plain (λ _. usize)) yes, (stay-slice (0 ∷ []) tt (plain (λ _. u32)), (stay-slice (1 ∷ []) tt (plain (λ _. u32)), (stay-ref (2 ∷ []) tt (plain (λ _. R-Tally)), tt))))
@@ -73,15 +73,15 @@ module _ {M : Type 1} (𝓤 : URA M) (H : Heap 𝓤) (A : Atoms 𝓤) (W : Given
     goes-1 needs-these = qed W asked-1 ∵ says ! needs-these $ nothing ! $ move ! (3 ∷ 0 ∷ []) $ join ! $ move ! (2 ∷ 0 ∷ []) $ join ! $ move ! (1 ∷ 0 ∷ []) $ join ! $ frame ! $ nothing ! $ move ! (3 ∷ 0 ∷ []) $ fjoin ! $ owned ! usize (Is usize) (uint-makes 𝓤 H A W w64) a3 _ (refl, fits3) $ fjoin ! $ move ! (2 ∷ 0 ∷ []) $ fjoin ! $ move ! (1 ∷ 0 ∷ []) $ fjoin ! $ owned ! usize (Is usize) (uint-makes 𝓤 H A W w64) a0 _ (refl, fits0) $ fjoin ! $ done !
 
   -- `clear`: what its contract binds, what it asks, and that this is had
-  module _ (a0 : ℕ) (fits0 : a0 < 2 ^ 64) (ν1 : ℕ) (δ1 : GName) (a1 : List ℕ) (a2 : Places) (fits2 : Is R-Places a2 ((Places-laws.lowered a2) ∷ [])) (a3 : ℕ) (fits3 : a3 < 2 ^ 64) (ν4 : ℕ) (δ4 : GName) (a4 : Tally) where
+  module _ (a0 : ℕ) (fits0 : a0 < 2 ^ 64) (ν1 : ℕ) (δ1 : GName) (a1 : List ℕ) (a2 : SecretPlaces) (fits2 : Is R-SecretPlaces a2 ((SecretPlaces-laws.lowered a2) ∷ [])) (a3 : ℕ) (fits3 : a3 < 2 ^ 64) (ν4 : ℕ) (δ4 : GName) (a4 : Tally) where
     abbrev to-2 : F2 𝓤 H A at-mem run .Ghost
-    to-2 = ((((ν1 ∷ []), ((ν4 ∷ []), tt)), (fullShare, (fullShare, tt)), tt, (a0, ((renamed weights δ1 a1), (a2, (a3, ((renamed tally δ4 a4), tt))))), ((vint w64 a0) ∷ [], ((sliceVal (weights .ptr) (length (weights .now))) ∷ [], ((Places-laws.lowered a2) ∷ [], ((vint w64 a3) ∷ [], ((vptr (tally .ptr .0) (tally .ptr .1)) ∷ [], tt)))))), tt)
+    to-2 = ((((ν1 ∷ []), ((ν4 ∷ []), tt)), (fullShare, (fullShare, tt)), tt, (a0, ((renamed weights δ1 a1), (a2, (a3, ((renamed tally δ4 a4), tt))))), ((vint w64 a0) ∷ [], ((sliceVal (weights .ptr) (length (weights .now))) ∷ [], ((SecretPlaces-laws.lowered a2) ∷ [], ((vint w64 a3) ∷ [], ((vptr (tally .ptr .0) (tally .ptr .1)) ∷ [], tt)))))), tt)
 
     abbrev asked-2 : List (Item 𝓤)
     asked-2 = ‵ (flft (ν1 ∷ []) fullShare) ∷ ‵ (flft (ν4 ∷ []) fullShare) ∷ ‵ (MutSlice (named 0) (ν1 ∷ []) u32 .own (renamed weights δ1 a1) ((sliceVal (weights .ptr) (length (weights .now))) ∷ [])) ∷ ‵ (MutRef (named 1) (ν4 ∷ []) R-Tally .own (renamed tally δ4 a4) ((vptr (tally .ptr .0) (tally .ptr .1)) ∷ [])) ∷ []
 
     goes-2 : Clearing a0 a1 a4 → ent 𝓤 (⋆ 𝓤 H A asked-2) (F2 𝓤 H A at-mem run .pre to-2)
-    goes-2 needs-these = qed W asked-2 ∵ says ! needs-these $ nothing ! $ move ! (2 ∷ 0 ∷ []) $ join ! $ move ! (1 ∷ 0 ∷ []) $ join ! $ frame ! $ nothing ! $ move ! (2 ∷ 0 ∷ []) $ fjoin ! $ owned ! usize (Is usize) (uint-makes 𝓤 H A W w64) a3 _ (refl, fits3) $ fjoin ! $ owned ! R-Places (Is R-Places) (LL.makes Places-row.the-type Places-laws.the-plain 𝓤 H A) a2 _ fits2 $ fjoin ! $ move ! (1 ∷ 0 ∷ []) $ fjoin ! $ owned ! usize (Is usize) (uint-makes 𝓤 H A W w64) a0 _ (refl, fits0) $ fjoin ! $ done !
+    goes-2 needs-these = qed W asked-2 ∵ says ! needs-these $ nothing ! $ move ! (2 ∷ 0 ∷ []) $ join ! $ move ! (1 ∷ 0 ∷ []) $ join ! $ frame ! $ nothing ! $ move ! (2 ∷ 0 ∷ []) $ fjoin ! $ owned ! usize (Is usize) (uint-makes 𝓤 H A W w64) a3 _ (refl, fits3) $ fjoin ! $ owned ! R-SecretPlaces (Is R-SecretPlaces) (LL.makes SecretPlaces-row.the-type SecretPlaces-laws.the-plain 𝓤 H A) a2 _ fits2 $ fjoin ! $ move ! (1 ∷ 0 ∷ []) $ fjoin ! $ owned ! usize (Is usize) (uint-makes 𝓤 H A W w64) a0 _ (refl, fits0) $ fjoin ! $ done !
 
   module _ (𝓣 : Tables 𝓤 H) (known-f1 : Triple 𝓤 (𝓣 .C #f1) (F1 𝓤 H A at-mem run)) (known-f2 : Triple 𝓤 (𝓣 .C #f2) (F2 𝓤 H A at-mem run)) (pre : Rounding n (weights .now) (choices .now) (tally .now)) where
     abbrev C : Calls 𝓤 H
@@ -141,11 +141,11 @@ module _ {M : Type 1} (𝓤 : URA M) (H : Heap 𝓤) (A : Atoms 𝓤) (W : Given
           lft-new ! tt (λ ν1-4. move ! (47 ∷ 48 ∷ []) $ use2 W (later (some (λ (δ : GName). ‵ (MutRef (named 2) (ν1-4 ∷ []) R-Tally .own (renamed tally δ (j .1 .1 .1 .0)) ((vptr (tally .ptr .0) (tally .ptr .1)) ∷ [])) ⊛ ‵ (LentRef R-Tally κ2 (ν1-4 ∷ []) q2 (tally .name) (tally .ptr .0) (tally .ptr .1) δ (j .1 .1 .1 .0))))) (lends-again 𝓤 H A W R-Tally (named 2) κ2 (ν1-4 ∷ []) q2 (tally .name) (tally .ptr .0) (tally .ptr .1) (named 2) (j .1 .1 .1 .0)) $ await ! tt $ pick ! (λ δ1-4. split ! $
           move ! (8 ∷ 5 ∷ 2 ∷ 6 ∷ 3 ∷ 0 ∷ []) $ cut (asked-1 n n-fits ν1-1 δ1-1 (j .1 .0) ν1-2 δ1-2 (j .1 .1 .0) (j .0) (lt-of-le-of-lt ((j .1 .1 .1 .1) .upto) (choices-room .0)) ν1-4 δ1-4 (j .1 .1 .1 .0)) (raw (F1 𝓤 H A at-mem run .pre (to-1 n n-fits ν1-1 δ1-1 (j .1 .0) ν1-2 δ1-2 (j .1 .1 .0) (j .0) (lt-of-le-of-lt ((j .1 .1 .1 .1) .upto) (choices-room .0)) ν1-4 δ1-4 (j .1 .1 .1 .0))) ∷ []) _ (goes-1 n n-fits ν1-1 δ1-1 (j .1 .0) ν1-2 δ1-2 (j .1 .1 .0) (j .0) (lt-of-le-of-lt ((j .1 .1 .1 .1) .upto) (choices-room .0)) ν1-4 δ1-4 (j .1 .1 .1 .0) (asks-choose _ _ _ _ pre _ _ _ _ (j .1 .1 .1 .1) more)) $
           calls-at ! fm (F1 𝓤 H A at-mem run) known-f1 (to-1 n n-fits ν1-1 δ1-1 (j .1 .0) ν1-2 δ1-2 (j .1 .1 .0) (j .0) (lt-of-le-of-lt ((j .1 .1 .1 .1) .upto) (choices-room .0)) ν1-4 δ1-4 (j .1 .1 .1 .0)) (and-then ! (load ! (from ! (stop !)) (look ! 40 refl)) (and-then ! (load ! (from ! (stop !)) (look ! 22 refl)) (and-then ! (load ! (from ! (stop !)) (look ! 18 refl)) (and-then ! (load ! (from ! (stop !)) (look ! 32 refl)) (and-then ! (load ! (from ! (stop !)) (look ! 16 refl)) (no-more !)))))) (λ v1.
-          use1 W (later (some (λ (r : Places). ((‵ (flft (ν1-1 ∷ []) fullShare) ⊛ ‵ (flft (ν1-2 ∷ []) fullShare) ⊛ ‵ (flft (ν1-4 ∷ []) fullShare) ⊛ ‵ ftrue) ⊛ ‵ (R-Places .own r (v1 ∷ []))) ⊛ raw (ensured 𝓤 H A f1.ended (f1.clauses 𝓤 H A at-mem run) ((ν1-1 ∷ []), ((ν1-2 ∷ []), ((ν1-4 ∷ []), tt))) (n, ((renamed weights δ1-1 (j .1 .0)), ((renamed choices δ1-2 (j .1 .1 .0)), ((j .0), ((renamed tally δ1-4 (j .1 .1 .1 .0)), tt))))) tt r)))) (id⊢ 𝓤 _) $ await ! tt $ pick ! (λ r1.
-          split ! $ move ! (1 ∷ []) $ use1 W (some (λ (zs : (Unit {0} × (Unit {0} × (List ℕ × (Unit {0} × (Tally × Unit {0})))))). ‵ (lasts f1.ended ((ν1-1 ∷ []), ((ν1-2 ∷ []), ((ν1-4 ∷ []), tt))) (n, ((renamed weights δ1-1 (j .1 .0)), ((renamed choices δ1-2 (j .1 .1 .0)), ((j .0), ((renamed tally δ1-4 (j .1 .1 .1 .0)), tt))))) zs) ⊛ raw (fact 𝓤 (((zs .1 .1 .0) ≡ set (j .1 .1 .0) (j .0) (choiceOf n (j .1 .0) (j .1 .1 .1 .0) .number)) × (counted (zs .1 .1 .1 .1 .0) ≡ choiceOf n (j .1 .0) (j .1 .1 .1 .0) .tally) × (r1 ≡ placesAt n (choiceOf n (j .1 .0) (j .1 .1 .1 .0) .number)))))) (id⊢ 𝓤 _) $ pick ! (λ zs1.
-          split ! $ move ! (1 ∷ []) $ heard ! (((zs1 .1 .1 .0) ≡ set (j .1 .1 .0) (j .0) (choiceOf n (j .1 .0) (j .1 .1 .1 .0) .number)) × (counted (zs1 .1 .1 .1 .1 .0) ≡ choiceOf n (j .1 .0) (j .1 .1 .1 .0) .tally) × (r1 ≡ placesAt n (choiceOf n (j .1 .0) (j .1 .1 .1 .0) .number))) (λ e1. fsplit ! $ drop ! $ fsplit ! $ drop ! $ fsplit ! $ fsplit ! $ move ! (1 ∷ []) $ feqL ! (λ long1-2. move ! (1 ∷ []) $ fsplit ! $ drop ! $ fsplit ! $ move ! (1 ∷ []) $ drop ! $
-          move ! (2 ∷ []) $ split ! $ move ! (1 ∷ []) $ facts ! R-Places (Is R-Places) (shows 𝓤 H A R-Places) r1 (v1 ∷ []) (λ got1. split ! $ move ! (1 ∷ []) $ split ! $ move ! (1 ∷ []) $ split ! $ move ! (1 ∷ []) $ drop ! $
-          land ! (from ! (stop !)) (init ! 34 refl (LL.lawful Places-row.the-type Places-laws.the-laws 𝓤 H A W .typed r1 _ got1 .0)) $ rewrite ! 34 (λ (u : Val). ‵ (fat fullShare Places-laws.mir l6 0 u)) (ap only (LL.tells Places-row.the-type Places-laws.the-laws r1 _ got1)) refl $
+          use1 W (later (some (λ (r : SecretPlaces). ((‵ (flft (ν1-1 ∷ []) fullShare) ⊛ ‵ (flft (ν1-2 ∷ []) fullShare) ⊛ ‵ (flft (ν1-4 ∷ []) fullShare) ⊛ ‵ ftrue) ⊛ ‵ (R-SecretPlaces .own r (v1 ∷ []))) ⊛ raw (ensured 𝓤 H A f1.ended (f1.clauses 𝓤 H A at-mem run) ((ν1-1 ∷ []), ((ν1-2 ∷ []), ((ν1-4 ∷ []), tt))) (n, ((renamed weights δ1-1 (j .1 .0)), ((renamed choices δ1-2 (j .1 .1 .0)), ((j .0), ((renamed tally δ1-4 (j .1 .1 .1 .0)), tt))))) tt r)))) (id⊢ 𝓤 _) $ await ! tt $ pick ! (λ r1.
+          split ! $ move ! (1 ∷ []) $ use1 W (some (λ (zs : (Unit {0} × (Unit {0} × (List ℕ × (Unit {0} × (Tally × Unit {0})))))). ‵ (lasts f1.ended ((ν1-1 ∷ []), ((ν1-2 ∷ []), ((ν1-4 ∷ []), tt))) (n, ((renamed weights δ1-1 (j .1 .0)), ((renamed choices δ1-2 (j .1 .1 .0)), ((j .0), ((renamed tally δ1-4 (j .1 .1 .1 .0)), tt))))) zs) ⊛ raw (fact 𝓤 (((zs .1 .1 .0) ≡ set (j .1 .1 .0) (j .0) (choiceOf n (j .1 .0) (j .1 .1 .1 .0) .number)) × (counted (zs .1 .1 .1 .1 .0) ≡ choiceOf n (j .1 .0) (j .1 .1 .1 .0) .tally) × (shown r1 ≡ placesAt n (choiceOf n (j .1 .0) (j .1 .1 .1 .0) .number)))))) (id⊢ 𝓤 _) $ pick ! (λ zs1.
+          split ! $ move ! (1 ∷ []) $ heard ! (((zs1 .1 .1 .0) ≡ set (j .1 .1 .0) (j .0) (choiceOf n (j .1 .0) (j .1 .1 .1 .0) .number)) × (counted (zs1 .1 .1 .1 .1 .0) ≡ choiceOf n (j .1 .0) (j .1 .1 .1 .0) .tally) × (shown r1 ≡ placesAt n (choiceOf n (j .1 .0) (j .1 .1 .1 .0) .number))) (λ e1. fsplit ! $ drop ! $ fsplit ! $ drop ! $ fsplit ! $ fsplit ! $ move ! (1 ∷ []) $ feqL ! (λ long1-2. move ! (1 ∷ []) $ fsplit ! $ drop ! $ fsplit ! $ move ! (1 ∷ []) $ drop ! $
+          move ! (2 ∷ []) $ split ! $ move ! (1 ∷ []) $ facts ! R-SecretPlaces (Is R-SecretPlaces) (shows 𝓤 H A R-SecretPlaces) r1 (v1 ∷ []) (λ got1. split ! $ move ! (1 ∷ []) $ split ! $ move ! (1 ∷ []) $ split ! $ move ! (1 ∷ []) $ drop ! $
+          land ! (from ! (stop !)) (init ! 34 refl (LL.lawful SecretPlaces-row.the-type SecretPlaces-laws.the-laws 𝓤 H A W .typed r1 _ got1 .0)) $ rewrite ! 34 (λ (u : Val). ‵ (fat fullShare SecretPlaces-laws.mir l6 0 u)) (ap only (LL.tells SecretPlaces-row.the-type SecretPlaces-laws.the-laws r1 _ got1)) refl $
           move ! (2 ∷ []) $ lft-end ! tt $ move ! (0 ∷ 7 ∷ []) $ use2 W (later (‵ (MutSlice (named 0) κ0 u32 .own (renamed weights (weights .name) (j .1 .0)) ((sliceVal (weights .ptr) (length (weights .now))) ∷ [])) ⊛ ‵ (flft κ0 q0))) (shared-back u32 κ0 (ν1-1 ∷ []) q0 (weights .name) (weights .ptr .0) (weights .ptr .1) 𝓤 H A W (named 0) (named 0) ((sliceVal (weights .ptr) (length (weights .now))) ∷ []) (j .1 .0) (ap (λ (c : ℕ). sliceVal (weights .ptr) c ∷ []) (sym ((j .1 .1 .1 .1) .long))) (subst (Room u32) (sym ((j .1 .1 .1 .1) .long)) weights-room)) $ await ! tt $ split ! $
           move ! (3 ∷ []) $ lft-end ! tt $ move ! (0 ∷ 7 ∷ 5 ∷ []) $ use3 W (later (‵ (MutSlice (named 1) κ1 u32 .own (renamed choices (choices .name) (zs1 .1 .1 .0)) ((sliceVal (choices .ptr) (length (choices .now))) ∷ [])) ⊛ ‵ (flft κ1 q1))) (again-back u32 κ1 (ν1-2 ∷ []) q1 (choices .name) (choices .ptr .0) (choices .ptr .1) 𝓤 H A W (named 1) (named 1) ((sliceVal (choices .ptr) (length (choices .now))) ∷ []) (j .1 .1 .0) δ1-2 (zs1 .1 .1 .0) (ap (λ (c : ℕ). sliceVal (choices .ptr) c ∷ []) (sym ((j .1 .1 .1 .1) .wide))) (subst (Room u32) (sym ((j .1 .1 .1 .1) .wide)) choices-room) long1-2) $ await ! tt $ split ! $
           move ! (4 ∷ []) $ lft-end ! tt $ move ! (0 ∷ 6 ∷ 5 ∷ []) $ use3 W (later (‵ (MutRef (named 2) κ2 R-Tally .own (renamed tally (tally .name) (zs1 .1 .1 .1 .1 .0)) ((vptr (tally .ptr .0) (tally .ptr .1)) ∷ [])) ⊛ ‵ (flft κ2 q2))) (comes-back 𝓤 H A W R-Tally (named 2) κ2 (ν1-4 ∷ []) q2 (tally .name) (tally .ptr .0) (tally .ptr .1) δ1-4 (j .1 .1 .1 .0) (zs1 .1 .1 .1 .1 .0)) $ await ! tt $ split ! $
@@ -160,11 +160,11 @@ module _ {M : Type 1} (𝓤 : URA M) (H : Heap 𝓤) (A : Atoms 𝓤) (W : Given
           -- clear
           lft-new ! tt (λ ν2-1. move ! (5 ∷ 6 ∷ []) $ use2 W (later (some (λ (δ : GName). ‵ (MutSlice (named 0) (ν2-1 ∷ []) u32 .own (renamed weights δ (j .1 .0)) ((sliceVal (weights .ptr) (length (weights .now))) ∷ [])) ⊛ ‵ (LentAgain u32 κ0 (ν2-1 ∷ []) q0 (weights .name) (weights .ptr .0) (weights .ptr .1) δ (j .1 .0))))) (again-out u32 κ0 (ν2-1 ∷ []) q0 (weights .name) (weights .ptr .0) (weights .ptr .1) 𝓤 H A W (named 0) (named 0) ((sliceVal (weights .ptr) (length (weights .now))) ∷ []) (j .1 .0)) $ await ! tt $ pick ! (λ δ2-1. split ! $
           lft-new ! tt (λ ν2-4. move ! (4 ∷ 5 ∷ []) $ use2 W (later (some (λ (δ : GName). ‵ (MutRef (named 2) (ν2-4 ∷ []) R-Tally .own (renamed tally δ (zs1 .1 .1 .1 .1 .0)) ((vptr (tally .ptr .0) (tally .ptr .1)) ∷ [])) ⊛ ‵ (LentRef R-Tally κ2 (ν2-4 ∷ []) q2 (tally .name) (tally .ptr .0) (tally .ptr .1) δ (zs1 .1 .1 .1 .1 .0))))) (lends-again 𝓤 H A W R-Tally (named 2) κ2 (ν2-4 ∷ []) q2 (tally .name) (tally .ptr .0) (tally .ptr .1) (named 2) (zs1 .1 .1 .1 .1 .0)) $ await ! tt $ pick ! (λ δ2-4. split ! $
-          move ! (5 ∷ 2 ∷ 3 ∷ 0 ∷ []) $ cut (asked-2 n n-fits ν2-1 δ2-1 (j .1 .0) r1 (subst (Is R-Places r1) (LL.tells Places-row.the-type Places-laws.the-laws r1 _ got1) got1) (((length (choices .now)) - (j .0)) - 1) (less-fits ((length (choices .now)) - (j .0)) 1 (less-fits (length (choices .now)) (j .0) (choices-room .0))) ν2-4 δ2-4 (zs1 .1 .1 .1 .1 .0)) (raw (F2 𝓤 H A at-mem run .pre (to-2 n n-fits ν2-1 δ2-1 (j .1 .0) r1 (subst (Is R-Places r1) (LL.tells Places-row.the-type Places-laws.the-laws r1 _ got1) got1) (((length (choices .now)) - (j .0)) - 1) (less-fits ((length (choices .now)) - (j .0)) 1 (less-fits (length (choices .now)) (j .0) (choices-room .0))) ν2-4 δ2-4 (zs1 .1 .1 .1 .1 .0))) ∷ []) _ (goes-2 n n-fits ν2-1 δ2-1 (j .1 .0) r1 (subst (Is R-Places r1) (LL.tells Places-row.the-type Places-laws.the-laws r1 _ got1) got1) (((length (choices .now)) - (j .0)) - 1) (less-fits ((length (choices .now)) - (j .0)) 1 (less-fits (length (choices .now)) (j .0) (choices-room .0))) ν2-4 δ2-4 (zs1 .1 .1 .1 .1 .0) (asks-clear _ _ _ _ pre _ _ _ _ (j .1 .1 .1 .1) more _ _ _ e1)) $
-          calls-at ! fm (F2 𝓤 H A at-mem run) known-f2 (to-2 n n-fits ν2-1 δ2-1 (j .1 .0) r1 (subst (Is R-Places r1) (LL.tells Places-row.the-type Places-laws.the-laws r1 _ got1) got1) (((length (choices .now)) - (j .0)) - 1) (less-fits ((length (choices .now)) - (j .0)) 1 (less-fits (length (choices .now)) (j .0) (choices-room .0))) ν2-4 δ2-4 (zs1 .1 .1 .1 .1 .0)) (and-then ! (load ! (from ! (stop !)) (look ! 41 refl)) (and-then ! (load ! (from ! (stop !)) (look ! 11 refl)) (and-then ! (load ! (from ! (stop !)) (look ! 31 refl)) (and-then ! (load ! (from ! (stop !)) (look ! 7 refl)) (and-then ! (load ! (from ! (stop !)) (look ! 5 refl)) (no-more !)))))) (λ v2.
+          move ! (5 ∷ 2 ∷ 3 ∷ 0 ∷ []) $ cut (asked-2 n n-fits ν2-1 δ2-1 (j .1 .0) r1 (subst (Is R-SecretPlaces r1) (LL.tells SecretPlaces-row.the-type SecretPlaces-laws.the-laws r1 _ got1) got1) (((length (choices .now)) - (j .0)) - 1) (less-fits ((length (choices .now)) - (j .0)) 1 (less-fits (length (choices .now)) (j .0) (choices-room .0))) ν2-4 δ2-4 (zs1 .1 .1 .1 .1 .0)) (raw (F2 𝓤 H A at-mem run .pre (to-2 n n-fits ν2-1 δ2-1 (j .1 .0) r1 (subst (Is R-SecretPlaces r1) (LL.tells SecretPlaces-row.the-type SecretPlaces-laws.the-laws r1 _ got1) got1) (((length (choices .now)) - (j .0)) - 1) (less-fits ((length (choices .now)) - (j .0)) 1 (less-fits (length (choices .now)) (j .0) (choices-room .0))) ν2-4 δ2-4 (zs1 .1 .1 .1 .1 .0))) ∷ []) _ (goes-2 n n-fits ν2-1 δ2-1 (j .1 .0) r1 (subst (Is R-SecretPlaces r1) (LL.tells SecretPlaces-row.the-type SecretPlaces-laws.the-laws r1 _ got1) got1) (((length (choices .now)) - (j .0)) - 1) (less-fits ((length (choices .now)) - (j .0)) 1 (less-fits (length (choices .now)) (j .0) (choices-room .0))) ν2-4 δ2-4 (zs1 .1 .1 .1 .1 .0) (asks-clear _ _ _ _ pre _ _ _ _ (j .1 .1 .1 .1) more _ _ _ e1)) $
+          calls-at ! fm (F2 𝓤 H A at-mem run) known-f2 (to-2 n n-fits ν2-1 δ2-1 (j .1 .0) r1 (subst (Is R-SecretPlaces r1) (LL.tells SecretPlaces-row.the-type SecretPlaces-laws.the-laws r1 _ got1) got1) (((length (choices .now)) - (j .0)) - 1) (less-fits ((length (choices .now)) - (j .0)) 1 (less-fits (length (choices .now)) (j .0) (choices-room .0))) ν2-4 δ2-4 (zs1 .1 .1 .1 .1 .0)) (and-then ! (load ! (from ! (stop !)) (look ! 41 refl)) (and-then ! (load ! (from ! (stop !)) (look ! 11 refl)) (and-then ! (load ! (from ! (stop !)) (look ! 31 refl)) (and-then ! (load ! (from ! (stop !)) (look ! 7 refl)) (and-then ! (load ! (from ! (stop !)) (look ! 5 refl)) (no-more !)))))) (λ v2.
           use1 W (later (some (λ (r : Unit {0}). ((‵ (flft (ν2-1 ∷ []) fullShare) ⊛ ‵ (flft (ν2-4 ∷ []) fullShare) ⊛ ‵ ftrue) ⊛ ‵ (Nothing .own r (v2 ∷ []))) ⊛ raw (ensured 𝓤 H A f2.ended (f2.clauses 𝓤 H A at-mem run) ((ν2-1 ∷ []), ((ν2-4 ∷ []), tt)) (n, ((renamed weights δ2-1 (j .1 .0)), (r1, ((((length (choices .now)) - (j .0)) - 1), ((renamed tally δ2-4 (zs1 .1 .1 .1 .1 .0)), tt))))) tt r)))) (id⊢ 𝓤 _) $ await ! tt $ pick ! (λ r2.
-          split ! $ move ! (1 ∷ []) $ use1 W (some (λ (zs : (Unit {0} × (List ℕ × (Unit {0} × (Unit {0} × (Tally × Unit {0})))))). ‵ (lasts f2.ended ((ν2-1 ∷ []), ((ν2-4 ∷ []), tt)) (n, ((renamed weights δ2-1 (j .1 .0)), (r1, ((((length (choices .now)) - (j .0)) - 1), ((renamed tally δ2-4 (zs1 .1 .1 .1 .1 .0)), tt))))) zs) ⊛ raw (fact 𝓤 (((zs .1 .0) ≡ Rounds.clearBefore (((length (choices .now)) - (j .0)) - 1) (subsetAt n r1) (subsets 3 n) (j .1 .0)) × (counted (zs .1 .1 .1 .1 .0) ≡ Rounds.clearingBefore (((length (choices .now)) - (j .0)) - 1) (subsets 3 n) (counted (zs1 .1 .1 .1 .1 .0))))))) (id⊢ 𝓤 _) $ pick ! (λ zs2.
-          split ! $ move ! (1 ∷ []) $ heard ! (((zs2 .1 .0) ≡ Rounds.clearBefore (((length (choices .now)) - (j .0)) - 1) (subsetAt n r1) (subsets 3 n) (j .1 .0)) × (counted (zs2 .1 .1 .1 .1 .0) ≡ Rounds.clearingBefore (((length (choices .now)) - (j .0)) - 1) (subsets 3 n) (counted (zs1 .1 .1 .1 .1 .0)))) (λ e2. fsplit ! $ drop ! $ fsplit ! $ fsplit ! $ move ! (1 ∷ []) $ feqL ! (λ long2-1. move ! (1 ∷ []) $ fsplit ! $ drop ! $ fsplit ! $ drop ! $ fsplit ! $ move ! (1 ∷ []) $ drop ! $
+          split ! $ move ! (1 ∷ []) $ use1 W (some (λ (zs : (Unit {0} × (List ℕ × (Unit {0} × (Unit {0} × (Tally × Unit {0})))))). ‵ (lasts f2.ended ((ν2-1 ∷ []), ((ν2-4 ∷ []), tt)) (n, ((renamed weights δ2-1 (j .1 .0)), (r1, ((((length (choices .now)) - (j .0)) - 1), ((renamed tally δ2-4 (zs1 .1 .1 .1 .1 .0)), tt))))) zs) ⊛ raw (fact 𝓤 (((zs .1 .0) ≡ Rounds.clearBefore (((length (choices .now)) - (j .0)) - 1) (subsetAt n (shown r1)) (subsets 3 n) (j .1 .0)) × (counted (zs .1 .1 .1 .1 .0) ≡ Rounds.clearingBefore (((length (choices .now)) - (j .0)) - 1) (subsets 3 n) (counted (zs1 .1 .1 .1 .1 .0))))))) (id⊢ 𝓤 _) $ pick ! (λ zs2.
+          split ! $ move ! (1 ∷ []) $ heard ! (((zs2 .1 .0) ≡ Rounds.clearBefore (((length (choices .now)) - (j .0)) - 1) (subsetAt n (shown r1)) (subsets 3 n) (j .1 .0)) × (counted (zs2 .1 .1 .1 .1 .0) ≡ Rounds.clearingBefore (((length (choices .now)) - (j .0)) - 1) (subsets 3 n) (counted (zs1 .1 .1 .1 .1 .0)))) (λ e2. fsplit ! $ drop ! $ fsplit ! $ fsplit ! $ move ! (1 ∷ []) $ feqL ! (λ long2-1. move ! (1 ∷ []) $ fsplit ! $ drop ! $ fsplit ! $ drop ! $ fsplit ! $ move ! (1 ∷ []) $ drop ! $
           move ! (2 ∷ []) $ split ! $ move ! (1 ∷ []) $ feqL ! (λ got2. split ! $ move ! (1 ∷ []) $ split ! $ move ! (1 ∷ []) $ drop ! $
           land ! (from ! (stop !)) (init ! 18 refl (subst (λ (y : Val). Holds (hasTy tyUnit y) × WT y) (sym (ap only got2)) (tt, tt))) $
           move ! (1 ∷ []) $ lft-end ! tt $ move ! (0 ∷ 5 ∷ 3 ∷ []) $ use3 W (later (‵ (MutSlice (named 0) κ0 u32 .own (renamed weights (weights .name) (zs2 .1 .0)) ((sliceVal (weights .ptr) (length (weights .now))) ∷ [])) ⊛ ‵ (flft κ0 q0))) (again-back u32 κ0 (ν2-1 ∷ []) q0 (weights .name) (weights .ptr .0) (weights .ptr .1) 𝓤 H A W (named 0) (named 0) ((sliceVal (weights .ptr) (length (weights .now))) ∷ []) (j .1 .0) δ2-1 (zs2 .1 .0) (ap (λ (c : ℕ). sliceVal (weights .ptr) c ∷ []) (sym ((j .1 .1 .1 .1) .long))) (subst (Room u32) (sym ((j .1 .1 .1 .1) .long)) weights-room) long2-1) $ await ! tt $ split ! $

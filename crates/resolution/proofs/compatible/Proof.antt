@@ -1,12 +1,12 @@
--- `evaluation::compatible` meets its contract. Assumes nothing.
+-- `resolution::compatible` meets its contract. Assumes nothing.
 use Prim.Native.Nat.{_+_, _*_}
 use mathlib.Core.Path.{refl}
 use Rattle.exchange.specs.Subsets.{entry}
 use native.Mathlib.Omega.{arith}
 use Rattle.cursor.proofs.Number.{square-le}
 use Rattle.evaluation.proofs.Cycles.{row}
-use Rattle.evaluation.proofs.compatible.Statement.{statement}
-use Rattle.evaluation.proofs.compatible.Tie as tie
+use Rattle.resolution.proofs.compatible.Statement.{statement}
+use Rattle.resolution.proofs.compatible.Tie as tie
 
 mul-result : tie.Need-mul-result
 mul-result c = record { fits = omega (arith, row _ _ _ (c .pre .0) (c .pre .1), square-le _ (c .pre .2)) }
