@@ -36,6 +36,6 @@ module _ (n : ℕ) (ws cs : List ℕ) (k : ℕ) (t : Tally) (asked : Turn n ws c
     number-is : valueOf (c .number) ≡ choiceOf n ws t .number
     number-is = ap (λ (x : Rounds.Chosen). x .number) chosen-is
 
-    pub stored : (after : List ℕ) → after ≡ set cs k (valueOf (c .number))
+    pub stored-is : (after : List ℕ) → after ≡ set cs k (valueOf (c .number))
         → (after ≡ set cs k (choiceOf n ws t .number)) × (counted (c .tally) ≡ choiceOf n ws t .tally) × (shown (c .at) ≡ placesAt n (choiceOf n ws t .number))
-    stored after e = (e ∙ ap (set cs k) number-is, ap (λ (x : Rounds.Chosen). x .tally) chosen-is, ec .1 ∙ ap (placesAt n) number-is)
+    stored-is after e = (e ∙ ap (set cs k) number-is, ap (λ (x : Rounds.Chosen). x .tally) chosen-is, ec .1 ∙ ap (placesAt n) number-is)

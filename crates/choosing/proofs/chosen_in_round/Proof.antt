@@ -1,6 +1,6 @@
 -- `choosing::chosen_in_round` meets its contract. Assumes nothing.
 use borrow.Author.Needs.{needs}
-use Rattle.choosing.proofs.InRound.{asks-choice, stored}
+use Rattle.choosing.proofs.InRound.{asks-choice, stored-is}
 use Rattle.choosing.proofs.chosen_in_round.Statement.{statement}
 use Rattle.choosing.proofs.chosen_in_round.Tie as tie
 
@@ -17,7 +17,11 @@ same-length : tie.Need-same-length
 same-length c = search needs
 
 returns : tie.Need-returns
-returns c = stored _ _ _ _ _ (c .before .before .before .before .before .before .before .before .before .before .pre) _ (c .before .before .before .before .before .before .before .begin-round .ensures) _ (c .before .before .before .before .before .before .choice .ensures) _ (c .before .before .before .before .store-u32 .ensures)
+returns c =
+    let stored = c .before .before .before .before in
+    let chosen = stored .before .before in
+    let begun = chosen .before in
+    stored-is _ _ _ _ _ (begun .before .before .before .pre) _ (begun .begin-round .ensures) _ (chosen .choice .ensures) _ (stored .store-u32 .ensures)
 
 pub chosen-in-round-spec : {M : Type 1} → statement M
 chosen-in-round-spec =
