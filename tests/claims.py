@@ -36,7 +36,7 @@ for path, name in re.findall(r'`(\w+/(?:specs|proofs|src)/[\w/.]+)` `([^`\s/]+)`
     check(file and re.search(r'(?<![\w-])' + re.escape(name) + r'(?![\w-])', file.read_text()), f'`{path}` has no {name}')
 
 rules = re.search(r'^RULES = \[(.*)\]', (top / 'tests' / 'secrets.py').read_text(), re.M)[1].split(', ')
-stated = [name for names in re.findall(r'tests/secrets\.py \(([^)]*)\)', text) for name in re.findall(r'\*(\w+)\*', names)]
+stated = re.findall(r'\(\*(\w+)\*\)', text)
 check(sorted(rules) == sorted(stated), f'the rules of tests/secrets.py are {rules}, and {stated} are cited')
 
 check(edits, 'the tree has no must-fail edits')

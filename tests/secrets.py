@@ -1,9 +1,10 @@
 """Nothing secret decides what runs, and nothing but a gate raises the tally.
 
-The compiler holds most of it: the fields of `Secret` and `Tally` are private to `gates`, so that a step can't look into a secret, compare it, use it as
-an index, make one by hand, or write a count. What types can't say is held here, by rules over the source of `gates` and of the steps. Below the rules
-stand cheats: each is applied to a copy, and the compiler or the rule that is named must refuse it with the right words. Every rule has a cheat that
-it alone is there to refuse: the compiler takes that program."""
+The compiler holds much of it: the fields of `Secret` and `Tally` are private to `gates`, so that a step can't look into a secret, compare it, use it as
+an index or make one by hand, nor write a count. What types can't say is held here, by rules over the sources of `gates`, of the cursor and of the steps.
+The rules say what may stand there, and refuse all else; what they name (the interface of `gates`, the drivers, the places where a table is indexed) is
+changed here first. Below them stand cheats: each is applied to a copy, and the compiler, or a rule where the compiler takes it, must refuse it in the
+right words. Every rule has one."""
 import pathlib
 import re
 import shutil
@@ -14,39 +15,103 @@ from closing import check, close
 
 top = pathlib.Path(__file__).resolve().parent.parent
 STEPS = ['evaluation', 'choosing', 'clearing', 'rounds']
+CRATES = ['gates', 'cursor'] + STEPS
 
-# The functions that hold a lent table. All others of the steps compute, and take secrets by value.
+# All that `gates` has. What takes a secret or a lent table gives a secret, or puts one into a table that is lent; only gates raise the tally; where
+# an entry stands in a table is public.
+INTERFACE = '''
+pub struct Secret { value: u32, }
+pub struct Tally { comparisons: u64, products: u64, rounds: u64, }
+pub struct Counts { pub comparisons: u64, pub products: u64, pub rounds: u64, }
+pub struct Gated { pub value: Secret, pub tally: Tally, }
+pub struct SecretPlaces { pub u: Secret, pub v: Secret, pub w: Secret, }
+fn product_counted(t: Tally) -> Tally
+pub fn product(a: Secret, b: Secret, t: Tally) -> Gated
+pub fn comparison(a: Secret, b: Secret, t: Tally) -> Gated
+pub fn pick(bit: Secret, a: Secret, b: Secret, t: Tally) -> Gated
+pub fn known(x: usize) -> Secret
+pub fn sum(a: Secret, b: Secret) -> Secret
+pub fn demux_readout(p: usize, choice: SecretPlaces) -> Secret
+pub fn load_u8(table: &[u8], at: usize) -> Secret
+pub fn load_u16(table: &[u16], at: usize) -> Secret
+pub fn load_u32(table: &[u32], at: usize) -> Secret
+pub fn store_u32(table: &mut [u32], at: usize, x: Secret)
+pub fn nothing_done() -> Tally
+pub fn begin_round(t: Tally) -> Tally
+pub fn counts_of(t: Tally) -> Counts
+'''.split('\n')[1:-1]
+
+# The functions that hold a lent table: all others compute, and take secrets by value. m, w, weights and choices are secret; s is the shuffle.
 DRIVERS = {
-    'evaluation': ['edge', 'weight_at', 'evaluated', 'evaluate'],
-    'choosing': ['choose_part', 'choose_halves', 'choice', 'chosen_in_round', 'choose'],
-    'clearing': ['all_cleared', 'cleared', 'clear'],
-    'rounds': ['all_rounds'],
+    'evaluation': '''
+fn edge(n: usize, m: &[u8], w: &[u16], i: usize, j: usize) -> EdgeEntries
+fn weight_at(n: usize, m: &[u8], w: &[u16], s: &[u16], p: Places, t: Tally) -> Gated
+fn evaluated(n: usize, m: &[u8], w: &[u16], s: &[u16], weights: &mut [u32], t: Tally) -> Tally
+pub fn evaluate(n: usize, m: &[u8], w: &[u16], s: &[u16], weights: &mut [u32], tally: &mut Tally)
+''',
+    'choosing': '''
+fn choose_part(n: usize, weights: &[u32], first: usize, u: usize, v: usize, w: usize, t: Tally) -> Won
+fn choose_halves(n: usize, weights: &[u32], first: usize, u: usize, v: usize, w: usize, t: Tally) -> Won
+fn choice(n: usize, weights: &[u32], t: Tally) -> Chosen
+fn chosen_in_round(n: usize, weights: &[u32], choices: &mut [u32], k: usize, t: Tally) -> Placed
+pub fn choose(n: usize, weights: &[u32], choices: &mut [u32], k: usize, tally: &mut Tally) -> SecretPlaces
+''',
+    'clearing': '''
+fn all_cleared(n: usize, weights: &mut [u32], choice: SecretPlaces, t: Tally) -> Tally
+fn cleared(n: usize, weights: &mut [u32], choice: SecretPlaces, left: usize, t: Tally) -> Tally
+pub fn clear(n: usize, weights: &mut [u32], choice: SecretPlaces, left: usize, tally: &mut Tally)
+''',
+    'rounds': '''
+pub fn all_rounds(n: usize, weights: &mut [u32], choices: &mut [u32], tally: &mut Tally)
+''',
 }
-SHUFFLE = 's'  # the one lent table that all know
+DRIVERS = {crate: headers.split('\n')[1:-1] for crate, headers in DRIVERS.items()}
 LONGEST = 20  # lines of a driver's body
-GATES = ['product', 'comparison', 'pick', 'begin_round']  # what raises the tally
-SECRET = ['Secret', 'SecretPlaces', 'Gated']  # what has a secret in it
-READOUT = {'demux_readout': 'clearing'}  # who may ask it: document 01 does not tally it
+
+# The only brackets in the steps: the shuffle's entries, which all know, and the halves that are lent on.
+BRACKETS = {
+    ('evaluation', 'weight_at'): ['s[u]', 's[v]', 's[x]'],
+    ('choosing', 'choose_halves'): ['&weights[..half]', '&weights[half..]'],
+}
+
+# What planning does between its checks and resolution, and how its result has the counts.
+PLANNED = '''
+    let mut tally = gates::nothing_done();
+    evaluation::evaluate(n, m, w, s, weights, &mut tally);
+    rounds::all_rounds(n, weights, choices, &mut tally);
+    tally
+'''
 
 
 class Function:
-    def __init__(self, crate, public, name, params, result, body):
-        self.crate, self.public, self.name, self.result, self.body = crate, bool(public), name, result, body
+    def __init__(self, header, name, params, result, body):
+        self.header, self.name, self.result, self.body = header, name, result, body
         self.params = dict(param.split(': ', 1) for param in params)
 
     def tables(self):
         """The lent tables that it takes."""
-        return [name for name, kind in self.params.items() if re.match(r'&(mut )?\[', kind)]
+        return [name for name, kind in self.params.items() if '[' in kind]
 
     def calls(self):
         """What it calls, and with which arguments."""
         for found in re.finditer(r'(?<![\w.:])((?:\w+::)*\w+)\(', self.body):
             if found[1] not in ('if', 'while', 'return'):
-                yield found[1], split(self.body, found.end() - 1)
+                yield found[1], split(self.body, found.end() - 1)[0]
+
+    def paths(self):
+        """Its body by each way through it: an `if` whose block returns, or what comes after."""
+        def through(before, rest):
+            found = re.search(r'\bif\b[^{]*\{', rest)
+            if not found:
+                return [before + rest]
+            _, end = split(rest, found.end() - 1)
+            test, block = rest[:found.end() - 1], rest[found.end():end]
+            return through(before + test + block, '') + through(before + test, rest[end + 1:])
+        return through('', self.body)
 
 
 def split(text, at):
-    """What stands, with commas between, in the bracket that opens at `at`."""
+    """What stands, with commas between, in the bracket that opens at `at`; and where it closes."""
     depth, begun, found = 0, at + 1, []
     for k in range(at, len(text)):
         depth += (text[k] in '([{') - (text[k] in ')]}')
@@ -54,215 +119,337 @@ def split(text, at):
             found.append(' '.join(text[begun:k].split()))
             begun = k + 1
         if depth == 0:
-            return [part for part in found if part]
+            return [part for part in found if part], k
+    raise ValueError(text[at:])
 
 
-def code(text):
-    """The source without comments, imports of definitions, and contracts."""
-    lines = (re.sub(r'//.*', '', line) for line in text.splitlines() if not re.match(r'\s*(ghost use|requires|ensures)\b', line))
-    return '\n'.join(lines)
+class Source:
+    """A crate's source without comments and contracts: its uses, its structs and its functions by name, and whatever else stands there."""
 
+    def __init__(self, text):
+        self.raw = text
+        lines = (re.sub(r'//.*', '', line) for line in text.splitlines() if not re.match(r'\s*(ghost use|requires|ensures)\b', line))
+        rest = '\n'.join(lines)
+        self.uses = re.findall(r'^use ([^;]*);', rest, re.M)
+        rest = re.sub(r'^use [^;]*;', '', rest, flags=re.M)
+        self.structs = {name: ' '.join(whole.split()) for whole, name in re.findall(r'^(pub struct (\w+) \{[^{}]*\})', rest, re.M)}
+        rest = re.sub(r'^pub struct \w+ \{[^{}]*\}', '', rest, flags=re.M)
+        self.functions = {}
+        while found := re.search(r'^(pub )?fn (\w+)\(', rest, re.M):
+            params, end = split(rest, found.end() - 1)
+            result = re.match(r'(?:\s*-> (\w+))?\s*\{', rest[end + 1:])
+            if not result:
+                break
+            opens = end + result.end()
+            _, closes = split(rest, opens)
+            header = f'{found[1] or ""}fn {found[2]}({", ".join(params)})' + (f' -> {result[1]}' if result[1] else '')
+            self.functions[found[2]] = Function(header, found[2], params, result[1], rest[opens + 1:closes])
+            rest = rest[:found.start()] + rest[closes + 1:]
+        self.rest = ' '.join(rest.split())
 
-def functions(crate, text):
-    """The functions of a crate, by name."""
-    text, found = code(text), {}
-    for head in re.finditer(r'^(pub )?(?:extern "C" )?fn (\w+)\(', text, re.M):
-        params = split(text, head.end() - 1)
-        rest = text[head.end():]
-        result = re.match(r'[^{]*?\)(?:\s*->\s*([^\s{]+))?\s*\{', rest)
-        body = rest[result.end():re.search(r'^\}', rest, re.M).start()]
-        found[head[2]] = Function(crate, head[1], head[2], params, result[1], body)
-    return found
+    def drivers(self, crate):
+        return [f for f in self.functions.values() if f.header in DRIVERS[crate]]
 
 
 # ## The rules. Each takes the sources by crate, and gives a line for each thing that is wrong.
 
-def private(sources):
-    """A secret and the tally have no field that others see."""
-    for struct in 'Secret', 'Tally':
-        fields = re.search(rf'pub struct {struct} \{{(.*?)\}}', code(sources['gates']), re.S)[1]
-        if 'pub' in fields:
-            yield f'gates: a field of {struct} is public'
+def plain(sources):
+    """A source has uses of gates, the cursor and steps, structs and functions, and nothing else; a body has `let`, `if`, `while`, `return`, and calls by name."""
+    for crate in CRATES:
+        source = sources[crate]
+        if source.rest:
+            yield f'{crate}: has more than uses, structs and functions: {source.rest[:40]}'
+        for use in source.uses:
+            if not re.fullmatch(r'(gates|cursor)::\w+', use):
+                yield f'{crate}: uses {use}'
+        for line in source.raw.splitlines():
+            for sign in re.findall(r'/\*|"', line.split('//')[0]):
+                yield f'{crate}: has {sign}'
+        for f in source.functions.values():
+            for word in re.findall(r'\b(?:match|for|loop|break|continue|fn|use|mod|impl|const|type|struct|unsafe)\b', f.body):
+                yield f'{crate}: {f.name} has {word}'
+            for call in re.findall(r'\)\s*\(|\)\s*\.', f.body):
+                yield f'{crate}: {f.name} calls, or takes a field, by {call}'
+            if len(re.findall(r'\blet\b', f.body)) != len(re.findall(r'\blet (?:mut )?\w+(?:: usize)? = ', f.body)):
+                yield f'{crate}: {f.name} binds by a pattern'
 
 
-def closed(sources):
-    """What takes a secret or a lent table gives a secret, or puts one into a table that is lent."""
-    for f in functions('gates', sources['gates']).values():
-        takes = f.tables() or any(kind in SECRET for kind in f.params.values())
-        if f.public and takes and f.result not in (None, 'Secret', 'Gated'):
-            yield f'gates: {f.name} gives away what is in a secret'
-        if f.public and any(kind.startswith('&mut') for kind in f.params.values()) and f.name != 'store_u32':
-            yield f'gates: {f.name} writes what is in a secret'
+def interface(sources):
+    """`gates` has what is listed, and nothing else."""
+    gates = sources['gates']
+    has = list(gates.structs.values()) + [f.header for f in gates.functions.values()]
+    for line in sorted(set(has) ^ set(INTERFACE)):
+        yield f'gates: {"has" if line in has else "has no"} {line}'
 
 
 def straight(sources):
-    """What runs in a gate is the same whatever its secrets are: no branch, no loop, nothing that a processor does by cases."""
-    for f in functions('gates', sources['gates']).values():
-        for word in re.findall(r'\b(?:if|else|match|while|for|loop|return)\b|&&|\|\||%|/', f.body):
+    """What runs in a gate is the same whatever its secrets are: no branch, no loop, no modulus, no entry but that of a public place."""
+    for f in sources['gates'].functions.values():
+        for word in re.findall(r'\b(?:if|else|while|return)\b|&&|\|\||%|/', f.body):
             yield f'gates: {f.name} is not straight-line code ({word})'
         for name, _ in f.calls():
             if name != 'product_counted':
                 yield f'gates: {f.name} calls {name}'
-
-
-def counted(sources):
-    """Only the gates raise the tally."""
-    for f in functions('gates', sources['gates']).values():
-        if f.public and 'Tally' in f.params.values() and f.result in ('Tally', 'Gated') and f.name not in GATES:
-            yield f'gates: {f.name} raises the tally and is no gate'
+        for method in re.findall(r'\.(\w+)\(', f.body):
+            yield f'gates: {f.name} calls {method}'
+        for entry in re.findall(r'\w*\[[^\]]*\]', f.body):
+            if entry != 'table[at]':
+                yield f'gates: {f.name} has {entry}'
 
 
 def by_value(sources):
-    """A function that computes takes no lent table, and has no array. The cursor has none at all."""
+    """The drivers are those that are listed, and short; no other function takes a lent table or a reference, and no struct holds one."""
     for crate in STEPS + ['cursor']:
-        for f in functions(crate, sources[crate]).values():
-            if f.name not in DRIVERS.get(crate, []) and (f.tables() or '[' in f.body or any('[' in kind for kind in f.params.values())):
-                yield f'{crate}: {f.name} has a table and is no driver'
-
-
-def short(sources):
-    """The drivers are there, and short."""
-    for crate in STEPS:
-        found = functions(crate, sources[crate])
-        for name in DRIVERS[crate]:
-            if name not in found or len([line for line in found[name].body.splitlines() if line.strip()]) > LONGEST:
-                yield f'{crate}: {name} is not a short driver'
+        source = sources[crate]
+        headers = [f.header for f in source.functions.values()]
+        for header in DRIVERS.get(crate, []):
+            if header not in headers:
+                yield f'{crate}: has no {header}'
+        for f in source.functions.values():
+            driver = f.header in DRIVERS.get(crate, [])
+            if not driver and re.search(r'[&\[]', f.header):
+                yield f'{crate}: {f.name} takes a table or a reference, and is no driver'
+            if driver and len([line for line in f.body.splitlines() if line.strip()]) > LONGEST:
+                yield f'{crate}: {f.name} is not short'
+        for name, struct in source.structs.items():
+            if re.search(r'[&\[]', struct):
+                yield f'{crate}: {name} holds a table or a reference'
 
 
 def unread(sources):
-    """A driver reads and writes an entry through `gates`, but for the shuffle's; a part of a table may be lent on."""
-    for crate in STEPS:
-        for f in functions(crate, sources[crate]).values():
-            for name, index in re.findall(r'(\w+)\[([^\]]*)\]', f.body):
-                if '..' not in index and name != SHUFFLE:
-                    yield f'{crate}: {f.name} reads or writes {name}[{index}] past the gates'
+    """No entry of a lent table is read or written in a step but by `gates`; the shuffle's are public."""
+    for crate in STEPS + ['cursor']:
+        for f in sources[crate].functions.values():
+            body = f.body
+            for bracket in BRACKETS.get((crate, f.name), []):
+                if body.count(bracket) != 1:
+                    yield f'{crate}: {f.name} has {bracket} {body.count(bracket)} times'
+                body = re.sub(r'(?<![\w.])' + re.escape(bracket), '', body)
+            for entry in re.findall(r'[\w.)\]]*\[[^\]]*\]?', body):
+                yield f'{crate}: {f.name} has {entry}'
 
 
 def named(sources):
-    """A lent table goes on under its own name, so that no secret table goes under the shuffle's."""
-    steps = {crate: functions(crate, sources[crate]) for crate in STEPS}
+    """A lent table goes to `gates`, or on under its own name; of what is in it a step knows the length."""
     for crate in STEPS:
-        for f in steps[crate].values():
-            for name in re.findall(r'\blet (?:mut )?(\w+)', f.body) + re.findall(r'\b(\w+) = ', f.body):
-                if name == SHUFFLE or name in f.tables():
-                    yield f'{crate}: {f.name} binds {name} anew'
-            for callee, given in f.calls():
-                where, name = callee.rsplit('::', 1) if '::' in callee else (crate, callee)
-                if where in steps and name in steps[where]:
-                    for param, argument in zip(steps[where][name].params, given):
-                        table = re.sub(r'^&(?:mut )?', '', argument).split('[')[0]
-                        if param == SHUFFLE != table or param != SHUFFLE == table:
-                            yield f'{crate}: {f.name} gives {argument} to {name} for {param}'
+        source = sources[crate]
+        for f in source.drivers(crate):
+            for table in f.tables():
+                allowed = len(re.findall(rf'(?<![\w.]){table}\.len\(\)', f.body)) + sum(
+                    f.body.count(bracket) for bracket in BRACKETS.get((crate, f.name), []) if bracket.startswith(f'{table}['))
+                for callee, given in f.calls():
+                    where, _, name = callee.rpartition('::')
+                    target = sources[where or crate].functions.get(name) if (where or crate) in sources else None
+                    for param, argument in zip(target.params if target else [], given):
+                        if re.fullmatch(rf'(&(mut )?)?{table}(\[[^\]]*\])?', argument):
+                            if param == table or where == 'gates' and param == 'table' and table != 's':
+                                allowed += 1
+                            else:
+                                yield f'{crate}: {f.name} gives {table} to {name} for {param}'
+                if len(re.findall(rf'(?<![\w.]){table}\b(?!: )', f.body)) != allowed:
+                    yield f'{crate}: {f.name} has {table} elsewhere than in a call or its length'
 
 
 def within(sources):
-    """A step calls gates, the cursor and steps, and nothing else; of a table it asks the length."""
-    for crate in STEPS:
-        own = functions(crate, sources[crate])
-        for f in own.values():
-            calls = [callee for callee, _ in f.calls() if callee not in own and callee.split('::')[0] not in ['gates', 'cursor'] + STEPS]
-            for callee in calls + [method for method in re.findall(r'\.(\w+)\(', f.body) if method != 'len']:
-                yield f'{crate}: {f.name} calls {callee}'
+    """A step calls functions of gates, of the cursor and of steps, by their names; of a table it asks the length."""
+    for crate in STEPS + ['cursor']:
+        for f in sources[crate].functions.values():
+            for callee, _ in f.calls():
+                where, _, name = callee.rpartition('::')
+                if (where or crate) not in CRATES or name not in sources[where or crate].functions:
+                    yield f'{crate}: {f.name} calls {callee}'
+            for method in re.findall(r'\.(\w+\([^)]*\))', f.body):
+                if method != 'len()':
+                    yield f'{crate}: {f.name} calls {method}'
 
 
 def readout(sources):
-    """Only clearing asks whether a place is in the choice."""
-    for crate in STEPS:
-        for name, asks in READOUT.items():
-            if crate != asks and name in code(sources[crate]):
-                yield f'{crate}: asks {name}'
+    """Only clearing asks whether a place is in the choice, of each place of a subset."""
+    asked = [(crate, f.name, tuple(given)) for crate in STEPS + ['cursor'] for f in sources[crate].functions.values() for callee, given in f.calls() if callee.endswith('demux_readout')]
+    for crate, name, given in asked:
+        if (crate, name) != ('clearing', 'weight_after') or given not in (('p.u', 'choice'), ('p.v', 'choice'), ('p.w', 'choice')):
+            yield f'{crate}: {name} asks demux_readout({", ".join(given)})'
 
 
 def halved(sources):
     """"halves the part of the table under study": any other cut has the same winner and the same tally."""
-    body = functions('choosing', sources['choosing'])['choose_halves'].body
-    if 'let half = weights.len() / 2;' not in body or '&weights[..half]' not in body or '&weights[half..]' not in body:
+    body = sources['choosing'].functions['choose_halves'].body
+    if re.findall(r'\bhalf = ([^;]*);', body) != ['weights.len() / 2']:
         yield 'choosing: choose_halves does not halve'
 
 
-RULES = [private, closed, straight, counted, by_value, short, unread, named, within, readout, halved]
+def threaded(sources):
+    """Each tally goes on to the next gate or step, once: no gate runs uncounted. None is begun or looked at in a step."""
+    tallied = [name for crate in CRATES for name, struct in sources[crate].structs.items() if ' tally: Tally,' in struct]
+    for crate in STEPS:
+        for f in sources[crate].functions.values():
+            for callee, _ in f.calls():
+                if callee in ('gates::nothing_done', 'gates::counts_of'):
+                    yield f'{crate}: {f.name} calls {callee}'
+            for path in f.paths():
+                uses = {'t': rf'(?<![\w.:])t\b(?![.:(])'} if f.params.get('t') == 'Tally' else {}
+                for name in re.findall(r'\blet (\w+) = \*tally;', path):
+                    uses[name] = rf'(?<![\w.:]){name}\b(?! =)'
+                for name, callee in re.findall(r'\blet (\w+) = ((?:\w+::)*\w+)\(', path):
+                    where, _, called = callee.rpartition('::')
+                    source = sources.get(where or crate)
+                    if source and called in source.functions and source.functions[called].result in tallied:
+                        uses[name] = rf'(?<![\w.:]){name}\.tally\b|\breturn {name};|\n\s*{name}\s*$'
+                for name, use in uses.items():
+                    used = len(re.findall(use, path))
+                    if used != 1:
+                        yield f'{crate}: {f.name} goes on with the tally of {name} {used} times'
 
 
-def faults(sources):
+def planned(sources):
+    """Planning makes one tally, lends it to evaluation and the rounds, and has its counts in the result."""
+    planner = sources['planner'].functions
+    if planner['steps'].body.split() != PLANNED.split():
+        yield 'planner: steps does more than evaluation and the rounds'
+    if 'Counts {' in sources['planner'].raw.replace('struct Counts {', '') or planner['make'].body.count('gates::counts_of(tally)') != 1:
+        yield 'planner: make has counts that are not the tally\'s'
+
+
+RULES = [plain, interface, straight, by_value, unread, named, within, readout, halved, threaded, planned]
+
+
+def faults(texts):
+    sources = {crate: Source(text) for crate, text in texts.items()}
     return [(rule, line) for rule in RULES for line in rule(sources)]
 
 
 # ## The tree
 
-source = {crate: (top / 'crates' / crate / 'src/lib.rt').read_text() for crate in STEPS + ['gates', 'cursor']}
-found = faults(source)
+texts = {crate: (top / 'crates' / crate / 'src/lib.rt').read_text() for crate in CRATES + ['planner']}
+found = faults(texts)
 for rule in RULES:
     lines = [line for by, line in found if by is rule]
     check(not lines, '; '.join(lines))
+for crate in CRATES:
+    files = [file.name for file in (top / 'crates' / crate / 'src').iterdir()]
+    check(files == ['lib.rt'], f'{crate}: src has {files}')
 
-# ## Cheats: (the crate, what it does, the edits, who refuses it, the words). Who refuses it is a rule, or the compiler.
+# ## Cheats: (the crate, what it does, the edits, who refuses it, the words). Who refuses it is the compiler, or a rule.
 
 COMPILER = None
+TWO = '    gates::product(there.value, sum, there.tally)\n}\n\n// The weight of the cycle a → b → c → a'
+EDGE = '    let ab = edge(n, m, w, a, b);\n'
+PICKED = '    let picked = bit.value as i64 * difference + b.value as i64;\n'
+TABLES = '// ## Lent tables'
+ROUND = '        k += 1;\n'
 CHEATS = [
-    # the three that the base proved before secrets were a type
-    ('evaluation', 'a branch on a weight', [(
-        '    gates::product(there.value, sum, there.tally)\n}\n\n// The weight of the cycle a → b → c → a',
-        '    if there.value.value == 0 {\n        return there;\n    }\n    gates::product(there.value, sum, there.tally)\n}\n\n// The weight of the cycle a → b → c → a',
-    )], COMPILER, 'error[private-field]: field `value` of struct `Secret` is private'),
+    # what the base proved before secrets were a type: a branch on a weight, a product counted by hand and never made, a choice read to skip work
+    ('evaluation', 'a branch on a weight', [(TWO, '    if there.value.value == 0 {\n        return there;\n    }\n' + TWO)],
+     COMPILER, 'error[private-field]: field `value` of struct `Secret` is private'),
     ('evaluation', 'a product that is counted by hand and not made', [(
-        '    gates::product(there.value, sum, there.tally)\n}\n\n// The weight of the cycle a → b → c → a',
-        '    let counted = Tally {\n        comparisons: 0,\n        products: 2,\n        rounds: 0,\n    };\n    Gated {\n        value: sum,\n        tally: counted,\n    }\n}\n\n// The weight of the cycle a → b → c → a',
+        TWO, '    let counted = Tally {\n        comparisons: 0,\n        products: 2,\n        rounds: 0,\n    };\n    Gated {\n        value: sum,\n        tally: counted,\n    }\n' + TWO.split('\n', 1)[1],
     )], COMPILER, 'error[private-field]: field `comparisons` of struct `Tally` is private'),
     ('clearing', 'a choice that is looked at to skip work', [(
         '    if p.w == n {\n', '    if p.u == choice.u.value as usize {\n        return first;\n    }\n    if p.w == n {\n',
     )], COMPILER, 'error[private-field]: field `value` of struct `Secret` is private'),
-    # other ways to look
+    # other ways to look into a secret, or to write a count
     ('clearing', 'two secrets compared', [('    if p.w == n {\n', '    if gates::known(p.u) == choice.u {\n        return first;\n    }\n    if p.w == n {\n')],
      COMPILER, 'error[invalid-operand-type]'),
+    ('clearing', 'a secret matched on', [('    if p.w == n {\n', '    match x {\n        0 => return first,\n        _ => {}\n    }\n    if p.w == n {\n')], COMPILER, 'error['),
     ('choosing', 'a secret made by hand', [('    let number = gates::known(number);\n', '    let number = Secret { value: 0 };\n')],
      COMPILER, 'error[private-field]: field `value` of struct `Secret` is private'),
     ('choosing', 'a secret for a place in a table', [('gates::load_u32(weights, 0)', 'gates::load_u32(weights, gates::known(0))')], COMPILER, 'error[mismatched-types]'),
-    ('choosing', 'a secret cast to a number', [('    let next = cursor::next(n, p);\n', '    let seen = weight as usize;\n    let next = cursor::next(n, p);\n')], COMPILER, 'error['),
+    ('choosing', 'a secret cast to a number', [('    let next = cursor::next(n, p);\n', '    let seen = weight as usize;\n    let next = cursor::next(n, p);\n')],
+     COMPILER, 'error[invalid-cast]'),
     ('choosing', 'a tally lowered', [('    let tally = chosen.tally;\n', '    let mut tally = chosen.tally;\n    tally.products = 0;\n')],
      COMPILER, 'error[private-field]: field `products` of struct `Tally` is private'),
-    ('rounds', 'a method that opens', [('// A round for each entry', 'impl gates::Secret {\n    fn seen(self) -> u32 {\n        0\n    }\n}\n\n// A round for each entry')], COMPILER, 'error['),
+    ('rounds', 'a method that opens', [('// A round for each entry', 'impl gates::Secret {\n    fn seen(self) -> u32 {\n        0\n    }\n}\n\n// A round for each entry')],
+     COMPILER, 'error[invalid-impl-type]'),
+
     # what the compiler takes, by the rule that refuses it
-    ('gates', 'a public field', [('pub struct Secret {\n    value', 'pub struct Secret {\n    pub value')], private, 'gates: a field of Secret is public'),
-    ('gates', 'a function that opens a secret', [(
-        '// ## Lent tables', 'pub fn open(x: Secret) -> u32 {\n    x.value\n}\n\n// ## Lent tables')], closed, 'gates: open gives away what is in a secret'),
-    ('gates', 'a function that opens a table', [(
-        '// ## Lent tables', 'pub fn entry(table: &[u32], at: usize) -> u32 {\n    table[at]\n}\n\n// ## Lent tables')], closed, 'gates: entry gives away what is in a secret'),
-    ('gates', 'a function that writes a secret to a number', [(
-        '// ## Lent tables', 'pub fn tell(x: Secret, seen: &mut u32) {\n    *seen = x.value;\n}\n\n// ## Lent tables')], closed, 'gates: tell writes what is in a secret'),
-    ('gates', 'a pick by a branch', [(
-        '    let picked = bit.value as i64 * difference + b.value as i64;\n',
-        '    let mut picked = b.value as i64;\n    if bit.value == 1 {\n        picked = difference + b.value as i64;\n    }\n',
-    )], straight, 'gates: pick is not straight-line code (if)'),
-    ('gates', 'a pick by a modulus', [(
-        '    let picked = bit.value as i64 * difference + b.value as i64;\n',
-        '    let picked = (bit.value as i64 * difference + b.value as i64) % 4294967296;\n')], straight, 'gates: pick is not straight-line code (%)'),
-    ('gates', 'a count with no gate', [(
-        '// A round begins.', 'pub fn product_noted(t: Tally) -> Tally {\n    product_counted(t)\n}\n\n// A round begins.')], counted, 'gates: product_noted raises the tally and is no gate'),
+    ('evaluation', 'a module', [('// An edge\'s entries', 'mod clearing {\n    pub fn zero(w: &[u16]) -> bool {\n        w[0] == 0\n    }\n}\n\n// An edge\'s entries')],
+     plain, 'evaluation: has more than uses, structs and functions: mod clearing { pub fn zero(w: &[u16]) ->'),
+    ('choosing', 'a method', [('// Two winners joined', 'impl Best {\n    fn len(self) -> usize {\n        0\n    }\n}\n\n// Two winners joined')],
+     plain, 'choosing: has more than uses, structs and functions: impl Best { fn len(self) -> usize { 0 } '),
+    ('evaluation', 'a function with a lifetime', [('// An edge\'s entries', 'fn peek<\'a>(w: &\'a [u16]) -> bool {\n    w[0] == 0\n}\n\n// An edge\'s entries')],
+     plain, "evaluation: has more than uses, structs and functions: fn peek<'a>(w: &'a [u16]) -> bool { w[0]"),
+    ('evaluation', 'a name for another crate', [('use cursor::Places;\n', 'use std::num as rounds;\nuse cursor::Places;\n')], plain, 'evaluation: uses std::num as rounds'),
+    ('evaluation', 'a comment that hides code', [(EDGE, EDGE + '    if (/* // */ w[0]) == 0 {\n        return two(ab, ab, t);\n    }\n')], plain, 'evaluation: has /*'),
+    ('evaluation', 'a string that hides code', [(EDGE, EDGE + '    if b"0//"[w[0] as usize] == 0 {\n        return two(ab, ab, t);\n    }\n')], plain, 'evaluation: has "'),
+    ('evaluation', 'a match', [(EDGE, EDGE + '    match n {\n        0 => return two(ab, ab, t),\n        _ => {}\n    }\n')], plain, 'evaluation: weight_at has match'),
+    ('evaluation', 'a call in brackets', [('        let weighed = weight_at(n, m, w, s, p, tally);\n', '        let weighed = (weight_at)(n, m, w, w, p, tally);\n')],
+     plain, 'evaluation: evaluated calls, or takes a field, by )('),
+    ('evaluation', 'a gate whose count is dropped on the spot', [('    let sum = gates::sum(ab.w, ba.w);\n', '    let sum = gates::product(ab.w, ba.w, t).value;\n')],
+     plain, 'evaluation: two calls, or takes a field, by ).'),
+    ('clearing', 'a pattern', [('    let first = gates::product(', '    let SecretPlaces { u, v, w } = choice;\n    let first = gates::product(')], plain, 'clearing: weight_after binds by a pattern'),
+
+    ('gates', 'a public field', [('pub struct Secret {\n    value', 'pub struct Secret {\n    pub value')], interface, 'gates: has pub struct Secret { pub value: u32, }'),
+    ('gates', 'a public count', [('pub struct Tally {\n    comparisons', 'pub struct Tally {\n    pub comparisons')],
+     interface, 'gates: has pub struct Tally { pub comparisons: u64, products: u64, rounds: u64, }'),
+    ('gates', 'a function that opens a secret', [(TABLES, 'pub fn open(x: Secret) -> u32 {\n    x.value\n}\n\n' + TABLES)], interface, 'gates: has pub fn open(x: Secret) -> u32'),
+    ('gates', 'a function that opens a table', [(TABLES, 'pub fn entry(table: &[u32], at: usize) -> u32 {\n    table[at]\n}\n\n' + TABLES)],
+     interface, 'gates: has pub fn entry(table: &[u32], at: usize) -> u32'),
+    ('gates', 'a secret for a place', [(TABLES, 'pub fn look_up(table: &[u32], at: Secret) -> Secret {\n    load_u32(table, at.value as usize)\n}\n\n' + TABLES)],
+     interface, 'gates: has pub fn look_up(table: &[u32], at: Secret) -> Secret'),
+    ('gates', 'a gate that does not count', [(TABLES, 'pub fn less(a: Secret, b: Secret) -> Secret {\n    Secret {\n        value: (a.value < b.value) as u32,\n    }\n}\n\n' + TABLES)],
+     interface, 'gates: has pub fn less(a: Secret, b: Secret) -> Secret'),
+    ('gates', 'a count with no gate', [('// A round begins.', 'pub fn product_noted(t: Tally) -> Tally {\n    product_counted(t)\n}\n\n// A round begins.')],
+     interface, 'gates: has pub fn product_noted(t: Tally) -> Tally'),
+    ('gates', 'a tally made of numbers', [('// A round begins.', 'pub fn tally_of(c: Counts) -> Tally {\n    Tally {\n        comparisons: c.comparisons,\n        products: c.products,\n        rounds: c.rounds,\n    }\n}\n\n// A round begins.')],
+     interface, 'gates: has pub fn tally_of(c: Counts) -> Tally'),
+
+    ('gates', 'a pick by a branch', [(PICKED, '    let mut picked = b.value as i64;\n    if bit.value == 1 {\n        picked = difference + b.value as i64;\n    }\n')],
+     straight, 'gates: pick is not straight-line code (if)'),
+    ('gates', 'a pick by a modulus', [(PICKED, '    let picked = (bit.value as i64 * difference + b.value as i64) % 4294967296;\n')], straight, 'gates: pick is not straight-line code (%)'),
+    ('gates', 'a pick that calls', [('        value: picked as u32,\n', '        value: std::num::wrapping_add_u32(b.value, 0),\n')], straight, 'gates: pick calls std::num::wrapping_add_u32'),
+    ('gates', 'an entry of a secret place', [('    Secret { value: table[at] }\n', '    Secret { value: table[table[at] as usize] }\n')], straight, 'gates: load_u32 has table[table[at]'),
+
     ('evaluation', 'a weight made of a table', [(
         'fn two(ab: EdgeEntries, ba: EdgeEntries, t: Tally) -> Gated\n', 'fn two(ab: EdgeEntries, ba: EdgeEntries, w: &[u16], t: Tally) -> Gated\n',
-    ), ('return two(ab, ba, t);', 'return two(ab, ba, w, t);')], by_value, 'evaluation: two has a table and is no driver'),
-    ('clearing', 'a secret stored to an array', [(
-        '    let first = gates::product(', '    let mut seen = [0u32; 1];\n    gates::store_u32(&mut seen, 0, choice.u);\n    let first = gates::product(',
-    )], by_value, 'clearing: weight_after has a table and is no driver'),
+    ), ('return two(ab, ba, t);', 'return two(ab, ba, w, t);')], by_value, 'evaluation: two takes a table or a reference, and is no driver'),
+    ('evaluation', 'a driver that all can call', [('fn edge(n: usize, m', 'pub fn edge(n: usize, m')],
+     by_value, 'evaluation: has no fn edge(n: usize, m: &[u8], w: &[u16], i: usize, j: usize) -> EdgeEntries'),
     ('cursor', 'a cursor that looks at a table', [('// How many subsets there are', 'pub fn past(weights: &[u32], k: usize) -> bool {\n    weights[k] == 0\n}\n\n// How many subsets there are')],
-     by_value, 'cursor: past has a table and is no driver'),
-    ('rounds', 'a driver that grows', [('        k += 1;\n', '        k += 1;\n' + '        k += 0;\n' * LONGEST)], short, 'rounds: all_rounds is not a short driver'),
-    ('evaluation', 'an entry that is looked at', [(
-        '    let ab = edge(n, m, w, a, b);\n', '    let ab = edge(n, m, w, a, b);\n    if w[a * n + b] == 0 {\n        return two(ab, ab, t);\n    }\n',
-    )], unread, 'evaluation: weight_at reads or writes w[a * n + b] past the gates'),
-    ('choosing', 'a choice that is looked at once it is stored', [(
-        '    let at = chosen.at;\n', '    let mut at = chosen.at;\n    if choices[k] == 0 {\n        at = chosen.at;\n    }\n',
-    )], unread, 'choosing: chosen_in_round reads or writes choices[k] past the gates'),
-    ('evaluation', "W under the shuffle's name", [(
-        'weight_at(n, m, w, s, p, tally)', 'weight_at(n, m, w, w, p, tally)')], named, 'evaluation: evaluated gives w to weight_at for s'),
-    ('evaluation', "W bound to the shuffle's name", [(
-        '    let u = p.u;\n', '    let s = w;\n    let u = p.u;\n')], named, 'evaluation: weight_at binds s anew'),
-    ('clearing', 'a call that looks at a table', [(
-        '    if left < 1 {\n', '    if std::num::wrapping_add_u32(0, 1) < 1 {\n        return t;\n    }\n    if left < 1 {\n',
-    )], within, 'clearing: cleared calls std::num::wrapping_add_u32'),
-    ('choosing', 'an equality test that is not tallied', [(
-        '    let zero = gates::known(0);\n', '    let zero = gates::demux_readout(n, best.at);\n')], readout, 'choosing: asks demux_readout'),
+     by_value, 'cursor: past takes a table or a reference, and is no driver'),
+    ('choosing', 'a struct that holds an array', [('pub struct Placed {\n', 'pub struct Held {\n    pub s: [u32; 1],\n}\n\npub struct Placed {\n')], by_value, 'choosing: Held holds a table or a reference'),
+    ('rounds', 'a driver that grows', [(ROUND, ROUND + '        k += 0;\n' * LONGEST)], by_value, 'rounds: all_rounds is not short'),
+
+    ('evaluation', 'an entry that is looked at', [(EDGE, EDGE + '    if w[a * n + b] == 0 {\n        return two(ab, ab, t);\n    }\n')], unread, 'evaluation: weight_at has w[a * n + b]'),
+    ('evaluation', 'an entry of a part', [(EDGE, EDGE + '    if w[a..][0] == 0 {\n        return two(ab, ab, t);\n    }\n')], unread, 'evaluation: weight_at has w[a..]'),
+    ('evaluation', 'an entry in brackets', [(EDGE, EDGE + '    if (w)[a] == 0 {\n        return two(ab, ab, t);\n    }\n')], unread, 'evaluation: weight_at has w)[a]'),
+    ('choosing', 'a choice that is looked at once it is stored', [('    let at = chosen.at;\n', '    let mut at = chosen.at;\n    if choices[k] == 0 {\n        at = chosen.at;\n    }\n')],
+     unread, 'choosing: chosen_in_round has choices[k]'),
+    ('clearing', 'a secret stored to an array', [('    let first = gates::product(', '    let mut seen = [0u32; 1];\n    gates::store_u32(&mut seen, 0, choice.u);\n    let first = gates::product(')],
+     unread, 'clearing: weight_after has [0u32; 1]'),
+    ('evaluation', 'the shuffle read twice', [('    let c = s[x] as usize;\n', '    let c = s[x] as usize + s[x] as usize - s[x] as usize;\n')], unread, 'evaluation: weight_at has s[x] 3 times'),
+
+    ('evaluation', "W under the shuffle's name", [('weight_at(n, m, w, s, p, tally)', 'weight_at(n, m, w, w, p, tally)')], named, 'evaluation: evaluated gives w to weight_at for s'),
+    ('evaluation', "W bound to the shuffle's name", [('    let u = p.u;\n', '    let s = w;\n    let u = p.u;\n')], named, 'evaluation: weight_at has w elsewhere than in a call or its length'),
+    ('evaluation', 'the shuffle for a secret', [('    let a = s[u] as usize;\n', '    let a = s[u] as usize;\n    let seen = gates::load_u16(s, 0);\n')],
+     named, 'evaluation: weight_at gives s to load_u16 for table'),
+
+    ('clearing', 'a call of another crate', [('    if left < 1 {\n', '    if std::num::wrapping_add_u32(0, 1) < 1 {\n        return t;\n    }\n    if left < 1 {\n')],
+     within, 'clearing: cleared calls std::num::wrapping_add_u32'),
+    ('clearing', 'a call of a name that is no function', [('    if left < 1 {\n', '    if u32::count_ones(1) < 1 {\n        return t;\n    }\n    if left < 1 {\n')],
+     within, 'clearing: cleared calls u32::count_ones'),
+
+    ('choosing', 'an equality test that is not tallied', [('    let zero = gates::known(0);\n', '    let zero = gates::demux_readout(n, best.at);\n')],
+     readout, 'choosing: final_test asks demux_readout(n, best.at)'),
+    ('clearing', 'an equality test of a weight', [('    let first = gates::product(', '    let same = SecretPlaces { u: x, v: x, w: x };\n    let seen = gates::demux_readout(p.u, same);\n    let first = gates::product(')],
+     readout, 'clearing: weight_after asks demux_readout(p.u, same)'),
+
     ('choosing', 'one subset at a time', [('    let half = weights.len() / 2;\n', '    let half = weights.len() - 1;\n')], halved, 'choosing: choose_halves does not halve'),
+    ('choosing', 'one subset at a time, after a half', [('    let half = weights.len() / 2;\n', '    let half = weights.len() / 2;\n    let half = half / half;\n')], halved, 'choosing: choose_halves does not halve'),
+
+    ('evaluation', 'a gate that runs uncounted', [('    let second = three(ac, cb, ba, first.tally);\n', '    let idle = gates::comparison(ab.w, ba.w, first.tally);\n    let second = three(ac, cb, ba, first.tally);\n')],
+     threaded, 'evaluation: triple goes on with the tally of first 2 times'),
+    ('evaluation', 'a step that runs twice and counts once', [('    *tally = evaluated(n, m, w, s, weights, old);\n', '    *tally = evaluated(n, m, w, s, weights, old);\n    *tally = evaluated(n, m, w, s, weights, old);\n')],
+     threaded, 'evaluation: evaluate goes on with the tally of old 2 times'),
+    ('clearing', 'a tally that is thrown away', [('    if p.w == n {\n        return second;\n', '    if p.w == n {\n        return first;\n')],
+     threaded, 'clearing: weight_after goes on with the tally of second 0 times'),
+    ('choosing', 'a tally that is begun anew', [('    let chosen = choice(n, weights, gates::begin_round(t));\n', '    let idle = gates::nothing_done();\n    let chosen = choice(n, weights, gates::begin_round(t));\n')],
+     threaded, 'choosing: chosen_in_round calls gates::nothing_done'),
+    ('rounds', 'a tally that is looked at', [(ROUND, '        let counts = gates::counts_of(*tally);\n' + ROUND)], threaded, 'rounds: all_rounds calls gates::counts_of'),
+
+    ('planner', 'a weight that is looked at between the steps', [('    rounds::all_rounds(', '    if weights[0] == 0 {\n        return tally;\n    }\n    rounds::all_rounds(')],
+     planned, 'planner: steps does more than evaluation and the rounds'),
+    ('planner', 'counts by formula', [('    let counts = gates::counts_of(tally);\n', '    let counts = Counts {\n        comparisons: all as u64,\n        products: all as u64,\n        rounds: rounds as u64,\n    };\n')],
+     planned, "planner: make has counts that are not the tally's"),
 ]
 
 
@@ -278,20 +465,20 @@ with tempfile.TemporaryDirectory() as folder:
         (shutil.copytree if (top / name).is_dir() else shutil.copy)(top / name, copy / name)
     refusing = set()
     for crate, what, edits, by, words in CHEATS:
-        cheat = source[crate]
+        cheat = texts[crate]
         for old, new in edits:
             check(cheat.count(old) == 1, f'{crate}: {what}: the edit does not fit')
             cheat = cheat.replace(old, new)
         file = copy / 'crates' / crate / 'src/lib.rt'
         file.write_text(cheat)
         taken, said = compiled(copy, crate)
-        file.write_text(source[crate])
+        file.write_text(texts[crate])
         if by is COMPILER:
             first = next((line for line in said.splitlines() if 'error[' in line), 'nothing')
             print(f'{crate}: {what}: the compiler: {first[first.find("error["):]}')
             check(not taken and words in said, f'{crate}: {what}: the compiler says: {said}')
         else:
-            lines = [line for rule, line in faults(source | {crate: cheat}) if rule is by]
+            lines = [line for rule, line in faults(texts | {crate: cheat}) if rule is by]
             print(f'{crate}: {what}: {by.__name__}: {"; ".join(lines)}')
             check(words in lines, f'{crate}: {what}: no rule refuses it')
             check(taken, f'{crate}: {what}: the compiler refuses it already: {said}')

@@ -1,5 +1,5 @@
 // Evaluation: the weight of each subset, made by gates. What runs depends on n and the cursor alone. Weights are made of entries that come by value;
-// only `edge` looks a place up in the lent tables, and `evaluated` stores.
+// only `edge` looks them up in the lent tables, and `evaluated` stores.
 use cursor::Places;
 use gates::Gated;
 use gates::Secret;
