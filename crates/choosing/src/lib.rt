@@ -6,7 +6,7 @@ use gates::SecretPlaces;
 use gates::Tally;
 ghost use mathlib.Core.Path.{_≡_};
 ghost use mathlib.Core.Bool.{cond};
-ghost use Prim.Native.Nat.{_+_, _≤_, _<_};
+ghost use Prim.Native.Nat.{_+_, _^_, _<_};
 ghost use lib.Dec.{ltb};
 ghost use lib.ListN.{length, set};
 ghost use Rattle.greedy.specs.Rounds.{winner, byHalves, choosing};
@@ -167,7 +167,7 @@ fn choose_halves(
 
 // The final test: the winner, or none where it weighs 0. 1 comparison and 4 products; `none` is the number of all subsets.
 fn final_test(n: usize, none: usize, best: Best, t: Tally) -> Chosen
-    requires { ⌜ (n ≤ 200) × (none ≤ 1333333) × Room 1 4 t ⌝ }
+    requires { ⌜ (n < 2 ^ 32) × (none < 2 ^ 32) × Room 1 4 t ⌝ }
     ensures { λ r. ⌜ (valueOf (r .number) ≡ cond (ltb 0 (valueOf (best .weight))) (valueOf (best .number)) none) × (shown (r .at) ≡ cond (ltb 0 (valueOf (best .weight))) (shown (best .at)) (places n n n)) × Raised 1 4 t (r .tally) ⌝ }
 {
     let zero = gates::known(0);

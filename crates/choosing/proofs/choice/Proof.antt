@@ -16,7 +16,7 @@ final-test-requires : tie.Need-final-test-requires
 final-test-requires c κs =
     let won = c .before in
     let pre = won .before .before .before .pre in
-    (pre .few, omega (arith, pre .whole, count-le _ (pre .few)), room-test _ _ _ pre _ (won .choose-part .ensures))
+    (omega (arith, pre .few), omega (arith, pre .whole, count-le _ (pre .few)), room-test _ _ _ pre _ (won .choose-part .ensures))
 
 returns : tie.Need-returns
 returns c =
