@@ -98,16 +98,17 @@ class Function:
             if found[1] not in ('if', 'while', 'return'):
                 yield found[1], split(self.body, found.end() - 1)[0]
 
+    def blocks(self):
+        """The blocks of its `if`s, and of an `else`."""
+        return [self.body[found.end():split(self.body, found.end() - 1)[1]] for found in re.finditer(r'\b(?:if|else)\b[^{]*\{', self.body)]
+
     def paths(self):
         """Its body by each way through it: an `if` whose block returns, or what comes after."""
-        def through(before, rest):
-            found = re.search(r'\bif\b[^{]*\{', rest)
-            if not found:
-                return [before + rest]
-            _, end = split(rest, found.end() - 1)
-            test, block = rest[:found.end() - 1], rest[found.end():end]
-            return through(before + test + block, '') + through(before + test, rest[end + 1:])
-        return through('', self.body)
+        found = [(found.end(), split(self.body, found.end() - 1)[1]) for found in re.finditer(r'\bif\b[^{]*\{', self.body)]
+        without = [self.body[:opens] for opens, _ in found] + [self.body]
+        for opens, closes in reversed(found):
+            without = [part[:opens] + part[closes:] if len(part) > closes else part for part in without]
+        return [part + self.body[opens:closes] for part, (opens, closes) in zip(without, found)] + [without[-1]]
 
 
 def split(text, at):
@@ -286,6 +287,11 @@ def threaded(sources):
             for callee, _ in f.calls():
                 if callee in ('gates::nothing_done', 'gates::counts_of'):
                     yield f'{crate}: {f.name} calls {callee}'
+            for block in f.blocks():
+                if not re.search(r'\breturn\b[^;]*;\s*$', block):
+                    yield f'{crate}: {f.name} has an if that does not return'
+            if 'let mut tally' in f.body and [len(re.findall(use, f.body)) for use in (r'[(,]\s*tally\s*[,)]', r'(?<!mut )\btally = ')] != [1, 1]:
+                yield f'{crate}: {f.name} goes on with its tally more than once in a turn'
             for path in f.paths():
                 uses = {'t': rf'(?<![\w.:])t\b(?![.:(])'} if f.params.get('t') == 'Tally' else {}
                 for name in re.findall(r'\blet (\w+) = \*tally;', path):
@@ -440,6 +446,11 @@ CHEATS = [
      threaded, 'evaluation: triple goes on with the tally of first 2 times'),
     ('evaluation', 'a step that runs twice and counts once', [('    *tally = evaluated(n, m, w, s, weights, old);\n', '    *tally = evaluated(n, m, w, s, weights, old);\n    *tally = evaluated(n, m, w, s, weights, old);\n')],
      threaded, 'evaluation: evaluate goes on with the tally of old 2 times'),
+    ('evaluation', 'a subset that is weighed twice', [(
+        '        tally = weighed.tally;\n', '        tally = weighed.tally;\n        let again = weight_at(n, m, w, s, p, tally);\n        tally = again.tally;\n')],
+     threaded, 'evaluation: evaluated goes on with its tally more than once in a turn'),
+    ('evaluation', 'a gate in a branch, uncounted', [('    if x == n {\n', '    if x == n {\n        let idle = two(ab, ba, t);\n    }\n    if x == n {\n')],
+     threaded, 'evaluation: weight_at has an if that does not return'),
     ('clearing', 'a tally that is thrown away', [('    if p.w == n {\n        return second;\n', '    if p.w == n {\n        return first;\n')],
      threaded, 'clearing: weight_after goes on with the tally of second 0 times'),
     ('choosing', 'a tally that is begun anew', [('    let chosen = choice(n, weights, gates::begin_round(t));\n', '    let idle = gates::nothing_done();\n    let chosen = choice(n, weights, gates::begin_round(t));\n')],
