@@ -41,6 +41,12 @@ pub fn begin_round(t: Tally) -> Tally
 pub fn counts_of(t: Tally) -> Counts
 '''.split('\n')[1:-1]
 
+# The operations of each gate, in their order, and of what needs no gate: none does more than its own.
+OPERATIONS = {
+    'product_counted': '+', 'product': '*', 'comparison': '+ <', 'pick': '- * +', 'sum': '+', 'demux_readout': '== | == | == -', 'begin_round': '+',
+    'known': '', 'load_u8': '', 'load_u16': '', 'load_u32': '', 'store_u32': '', 'nothing_done': '', 'counts_of': '',
+}
+
 # The functions that hold a lent table: all others compute, and take secrets by value. m, w, weights and choices are secret; s is the shuffle.
 DRIVERS = {
     'evaluation': '''
@@ -74,13 +80,45 @@ BRACKETS = {
     ('choosing', 'choose_halves'): ['&weights[..half]', '&weights[half..]'],
 }
 
-# What planning does between its checks and resolution, and how its result has the counts.
-PLANNED = '''
+# What may change: a loop's counter, cursor and tally.
+CHANGING = ['i', 'k', 'p', 'tally']
+
+# What planning does between its checks and its answer.
+PLANNED = {
+    'steps': '''
     let mut tally = gates::nothing_done();
     evaluation::evaluate(n, m, w, s, weights, &mut tally);
     rounds::all_rounds(n, weights, choices, &mut tally);
     tally
-'''
+''',
+    'make': '''
+    let all = cursor::count(n);
+    let rounds = n / 2;
+    let tally = steps(n, m, w, s, &mut weights[..all], &mut choices[..rounds]);
+    let resolved = resolution::resolve(
+        n,
+        m,
+        w,
+        s,
+        &choices[..rounds],
+        &mut donors[..n],
+        &mut recipients[..n],
+    );
+    let cycles = resolved.cycles;
+    let records = resolved.records;
+    let counts = gates::counts_of(tally);
+    let plan = Planned {
+        weight: resolved.weight as u64,
+        cycles: cycles,
+        tally: counts,
+    };
+    Work {
+        planning: Planning::Made(plan),
+        cycles: cycles,
+        records: records,
+    }
+''',
+}
 
 
 class Function:
@@ -98,6 +136,12 @@ class Function:
             if found[1] not in ('if', 'while', 'return'):
                 yield found[1], split(self.body, found.end() - 1)[0]
 
+    def statements(self):
+        """The calls whose results are let go."""
+        for found in re.finditer(r'[;{}]\s*((?:\w+::)*\w+)\(', '{' + self.body):
+            if self.body[split(self.body, found.end() - 2)[1] + 1:].lstrip().startswith(';') and found[1] not in ('if', 'while', 'return'):
+                yield found[1]
+
     def blocks(self):
         """The blocks of its `if`s, and of an `else`."""
         return [self.body[found.end():split(self.body, found.end() - 1)[1]] for found in re.finditer(r'\b(?:if|else)\b[^{]*\{', self.body)]
@@ -113,15 +157,29 @@ class Function:
 
 def split(text, at):
     """What stands, with commas between, in the bracket that opens at `at`; and where it closes."""
-    depth, begun, found = 0, at + 1, []
+    closing, begun, found = [], at + 1, []
     for k in range(at, len(text)):
-        depth += (text[k] in '([{') - (text[k] in ')]}')
-        if depth == 0 or depth == 1 and text[k] == ',':
+        if text[k] in '([{':
+            closing.append(')]}'['([{'.index(text[k])])
+        elif text[k] in ')]}' and text[k] != closing.pop():
+            break
+        if not closing or len(closing) == 1 and text[k] == ',':
             found.append(' '.join(text[begun:k].split()))
             begun = k + 1
-        if depth == 0:
+        if not closing:
             return [part for part in found if part], k
-    raise ValueError(text[at:])
+    raise ValueError('brackets that do not match')
+
+
+def whole(clause):
+    """Does a clause, or an import of definitions, stand on its line, and nothing else?"""
+    if clause.startswith('ghost use'):
+        return re.fullmatch(r'ghost use [^;{}]*(\{[^;{}]*\})?;', clause)
+    opens = re.match(r'(requires|ensures)( \w+)? \{', clause)
+    try:
+        return opens and not re.search(r'\{-|-\}|--', clause) and split(clause, opens.end() - 1)[1] == len(clause) - 1
+    except ValueError:
+        return False
 
 
 class Source:
@@ -129,13 +187,20 @@ class Source:
 
     def __init__(self, text):
         self.raw = text
-        lines = (re.sub(r'//.*', '', line) for line in text.splitlines() if not re.match(r'\s*(ghost use|requires|ensures)\b', line))
-        rest = '\n'.join(lines)
+        self.clauses = [line.strip() for line in text.splitlines() if re.match(r'\s*(ghost use|requires|ensures)\b', line)]
+        rest = '\n'.join(re.sub(r'//.*', '', line) for line in text.splitlines() if line.strip() not in self.clauses)
         self.uses = re.findall(r'^use ([^;]*);', rest, re.M)
         rest = re.sub(r'^use [^;]*;', '', rest, flags=re.M)
         self.structs = {name: ' '.join(whole.split()) for whole, name in re.findall(r'^(pub struct (\w+) \{[^{}]*\})', rest, re.M)}
         rest = re.sub(r'^pub struct \w+ \{[^{}]*\}', '', rest, flags=re.M)
         self.functions = {}
+        try:
+            self.rest = self.parsed(rest)
+        except ValueError as why:
+            self.rest = str(why)
+
+    def parsed(self, rest):
+        """Takes the functions out, and gives what is left."""
         while found := re.search(r'^(pub )?fn (\w+)\(', rest, re.M):
             params, end = split(rest, found.end() - 1)
             result = re.match(r'(?:\s*-> (\w+))?\s*\{', rest[end + 1:])
@@ -146,7 +211,7 @@ class Source:
             header = f'{found[1] or ""}fn {found[2]}({", ".join(params)})' + (f' -> {result[1]}' if result[1] else '')
             self.functions[found[2]] = Function(header, found[2], params, result[1], rest[opens + 1:closes])
             rest = rest[:found.start()] + rest[closes + 1:]
-        self.rest = ' '.join(rest.split())
+        return ' '.join(rest.split())
 
     def drivers(self, crate):
         return [f for f in self.functions.values() if f.header in DRIVERS[crate]]
@@ -155,7 +220,8 @@ class Source:
 # ## The rules. Each takes the sources by crate, and gives a line for each thing that is wrong.
 
 def plain(sources):
-    """A source has uses of gates, the cursor and steps, structs and functions, and nothing else; a body has `let`, `if`, `while`, `return`, and calls by name."""
+    """A source has uses of gates and the cursor, structs and functions, and nothing else, with each clause on its line; a body has `let`, `if`, `while`,
+    `return` and calls by name. A name is bound once, a secret by its value apart; no value with a tally in it is copied, made by hand or let go."""
     for crate in CRATES:
         source = sources[crate]
         if source.rest:
@@ -163,16 +229,36 @@ def plain(sources):
         for use in source.uses:
             if not re.fullmatch(r'(gates|cursor)::\w+', use):
                 yield f'{crate}: uses {use}'
+        for clause in source.clauses:
+            if not whole(clause):
+                yield f'{crate}: a clause has more on its line, or goes on: {clause[:30]}'
         for line in source.raw.splitlines():
-            for sign in re.findall(r'/\*|"', line.split('//')[0]):
-                yield f'{crate}: has {sign}'
+            if line.strip() not in source.clauses:
+                for sign in re.findall(r'/\*|"|\'', line.split('//')[0]):
+                    yield f'{crate}: has {sign}'
         for f in source.functions.values():
             for word in re.findall(r'\b(?:match|for|loop|break|continue|fn|use|mod|impl|const|type|struct|unsafe)\b', f.body):
                 yield f'{crate}: {f.name} has {word}'
             for call in re.findall(r'\)\s*\(|\)\s*\.', f.body):
                 yield f'{crate}: {f.name} calls, or takes a field, by {call}'
-            if len(re.findall(r'\blet\b', f.body)) != len(re.findall(r'\blet (?:mut )?\w+(?:: usize)? = ', f.body)):
+            bound = list(f.params)
+            for changing, name, kind, value in re.findall(r'\blet (mut )?(\w+)(: usize)? = ([^;]*);', f.body):
+                if name in bound and value not in (f'{name}.value', f'gates::known({name})'):
+                    yield f'{crate}: {f.name} binds {name} again'
+                if changing and name not in CHANGING:
+                    yield f'{crate}: {f.name} changes {name}'
+                if re.fullmatch(r'[a-z_]\w*', value) and (name, value) != ('tally', 't'):
+                    yield f'{crate}: {f.name} copies {value}'
+                bound.append(name)
+            if len(re.findall(r'\blet\b', f.body)) != len(bound) - len(f.params):
                 yield f'{crate}: {f.name} binds by a pattern'
+            if crate != 'gates' and re.search(r'\b(Gated|Tally) \{', f.body):
+                yield f'{crate}: {f.name} makes what only a gate gives'
+            for callee in f.statements():
+                where, _, name = callee.rpartition('::')
+                called = sources[where or crate].functions.get(name) if (where or crate) in sources else None
+                if not called or called.result:
+                    yield f'{crate}: {f.name} lets go what {callee} gives'
 
 
 def interface(sources):
@@ -184,18 +270,18 @@ def interface(sources):
 
 
 def straight(sources):
-    """What runs in a gate is the same whatever its secrets are: no branch, no loop, no modulus, no entry but that of a public place."""
+    """What runs in a gate is the same whatever its secrets are: its own operations, no branch, no loop, no modulus, no entry but that of a public place."""
     for f in sources['gates'].functions.values():
         for word in re.findall(r'\b(?:if|else|while|return)\b|&&|\|\||%|/', f.body):
             yield f'gates: {f.name} is not straight-line code ({word})'
-        for name, _ in f.calls():
-            if name != 'product_counted':
-                yield f'gates: {f.name} calls {name}'
-        for method in re.findall(r'\.(\w+)\(', f.body):
-            yield f'gates: {f.name} calls {method}'
-        for entry in re.findall(r'\w*\[[^\]]*\]', f.body):
-            if entry != 'table[at]':
-                yield f'gates: {f.name} has {entry}'
+        made = ' '.join(re.findall(r'[=!<>]=|[-+*<>^|]', f.body))
+        if made != OPERATIONS.get(f.name, ''):
+            yield f'gates: {f.name} does {made}'
+        calls = [f'{name}({", ".join(given)})' for name, given in f.calls()] + re.findall(r'\.\w+\(', f.body)
+        if calls != (['product_counted(t)'] if f.name in ('product', 'pick') else []):
+            yield f'gates: {f.name} calls {", ".join(calls)}'
+        if re.findall(r'\w*\[[^\]]*\]', f.body) != (['table[at]'] if f.tables() else []):
+            yield f'gates: {f.name} has another entry than table[at]'
 
 
 def by_value(sources):
@@ -212,9 +298,14 @@ def by_value(sources):
                 yield f'{crate}: {f.name} takes a table or a reference, and is no driver'
             if driver and len([line for line in f.body.splitlines() if line.strip()]) > LONGEST:
                 yield f'{crate}: {f.name} is not short'
+            for name, kind in f.params.items():
+                if 'Tally' in kind and (name, kind) not in (('t', 'Tally'), ('tally', '&mut Tally')):
+                    yield f'{crate}: {f.name} takes a tally by the name {name}'
         for name, struct in source.structs.items():
             if re.search(r'[&\[]', struct):
                 yield f'{crate}: {name} holds a table or a reference'
+            if re.search(r'(?<! tally): Tally', struct):
+                yield f'{crate}: {name} holds a tally by another name'
 
 
 def unread(sources):
@@ -252,12 +343,12 @@ def named(sources):
 
 
 def within(sources):
-    """A step calls functions of gates, of the cursor and of steps, by their names; of a table it asks the length."""
+    """A step calls functions of gates, of the cursor and of steps, by their names, and the cursor its own; of a table a step asks the length."""
     for crate in STEPS + ['cursor']:
         for f in sources[crate].functions.values():
             for callee, _ in f.calls():
                 where, _, name = callee.rpartition('::')
-                if (where or crate) not in CRATES or name not in sources[where or crate].functions:
+                if (where or crate) not in (CRATES if crate in STEPS else [crate]) or name not in sources[where or crate].functions:
                     yield f'{crate}: {f.name} calls {callee}'
             for method in re.findall(r'\.(\w+\([^)]*\))', f.body):
                 if method != 'len()':
@@ -265,11 +356,12 @@ def within(sources):
 
 
 def readout(sources):
-    """Only clearing asks whether a place is in the choice, of each place of a subset."""
-    asked = [(crate, f.name, tuple(given)) for crate in STEPS + ['cursor'] for f in sources[crate].functions.values() for callee, given in f.calls() if callee.endswith('demux_readout')]
+    """Only clearing asks whether a place is in the choice: each place of a subset, once."""
+    due = [('clearing', 'weight_after', f'p.{place}, choice') for place in 'uvw']
+    asked = [(crate, f.name, ', '.join(given)) for crate in STEPS for f in sources[crate].functions.values() for callee, given in f.calls() if callee.endswith('demux_readout')]
     for crate, name, given in asked:
-        if (crate, name) != ('clearing', 'weight_after') or given not in (('p.u', 'choice'), ('p.v', 'choice'), ('p.w', 'choice')):
-            yield f'{crate}: {name} asks demux_readout({", ".join(given)})'
+        if (crate, name, given) not in due or asked.count((crate, name, given)) != 1:
+            yield f'{crate}: {name} asks demux_readout({given})'
 
 
 def halved(sources):
@@ -292,36 +384,51 @@ def threaded(sources):
                     yield f'{crate}: {f.name} has an if that does not return'
             if 'let mut tally' in f.body and [len(re.findall(use, f.body)) for use in (r'[(,]\s*tally\s*[,)]', r'(?<!mut )\btally = ')] != [1, 1]:
                 yield f'{crate}: {f.name} goes on with its tally more than once in a turn'
+            lent = [len(re.findall(use, f.body)) for use in (r'\*tally\b', r'\blet old = \*tally;', r'\*tally = ')]
+            if lent not in ([0, 0, 0], [2, 1, 1]):
+                yield f'{crate}: {f.name} takes the lent tally out more than once'
             for path in f.paths():
-                uses = {'t': rf'(?<![\w.:])t\b(?![.:(])'} if f.params.get('t') == 'Tally' else {}
-                for name in re.findall(r'\blet (\w+) = \*tally;', path):
-                    uses[name] = rf'(?<![\w.:]){name}\b(?! =)'
+                uses = {'t': r'(?<![\w.:])t\b(?![.:(])'} if f.params.get('t') == 'Tally' else {}
+                for name, source in re.findall(r'\blet (\w+) = (\*tally|\w+\.tally);', path):
+                    uses[name] = rf'(?<![\w.:*]){name}\b(?!:)(?! =)'
                 for name, callee in re.findall(r'\blet (\w+) = ((?:\w+::)*\w+)\(', path):
                     where, _, called = callee.rpartition('::')
-                    source = sources.get(where or crate)
-                    if source and called in source.functions and source.functions[called].result in tallied:
+                    called = sources[where or crate].functions.get(called) if (where or crate) in sources else None
+                    if called and called.result in tallied:
                         uses[name] = rf'(?<![\w.:]){name}\.tally\b|\breturn {name};|\n\s*{name}\s*$'
+                    if called and called.result == 'Tally':
+                        uses[name] = rf'(?<![\w.:]){name}\b(?! =)'
+                turn = re.search(r'\bwhile\b[^{]*\{', path)
+                turn = path[turn.end():split(path, turn.end() - 1)[1]] if turn else ''
                 for name, use in uses.items():
                     used = len(re.findall(use, path))
                     if used != 1:
                         yield f'{crate}: {f.name} goes on with the tally of {name} {used} times'
+                    if re.search(use, turn) and f'let {name} = ' not in turn:
+                        yield f'{crate}: {f.name} goes on with the tally of {name} in each turn'
 
 
 def planned(sources):
-    """Planning makes one tally, lends it to evaluation and the rounds, and has its counts in the result."""
-    planner = sources['planner'].functions
-    if planner['steps'].body.split() != PLANNED.split():
-        yield 'planner: steps does more than evaluation and the rounds'
-    if 'Counts {' in sources['planner'].raw.replace('struct Counts {', '') or planner['make'].body.count('gates::counts_of(tally)') != 1:
-        yield 'planner: make has counts that are not the tally\'s'
+    """Planning makes one tally, lends it to evaluation and the rounds, and has its counts in the result; it runs no step elsewhere."""
+    planner = sources['planner']
+    for name, body in PLANNED.items():
+        if planner.functions[name].body.split() != body.split():
+            yield f'planner: {name} is another'
+    code = ' '.join(re.sub(r'(//|ghost use|requires|ensures).*', '', line) for line in planner.raw.splitlines())
+    if re.search(r'\bmod\b|\buse [^;]* as\b', code):
+        yield 'planner: has a module or a name of its own'
+    if len(re.findall(r'\b(?:gates|evaluation|choosing|clearing|rounds)::[a-z]', code)) != 4 or len(re.findall(r'\b(?:steps|make)\(', code)) != 4:
+        yield 'planner: runs a gate or a step elsewhere'
 
 
 RULES = [plain, interface, straight, by_value, unread, named, within, readout, halved, threaded, planned]
 
 
 def faults(texts):
+    """What the rules say; where a source can't be read, what the first says of it."""
     sources = {crate: Source(text) for crate, text in texts.items()}
-    return [(rule, line) for rule in RULES for line in rule(sources)]
+    unreadable = any(sources[crate].rest for crate in CRATES)
+    return [(rule, line) for rule in (RULES[:1] if unreadable else RULES) for line in rule(sources)]
 
 
 # ## The tree
@@ -334,6 +441,11 @@ for rule in RULES:
 for crate in CRATES:
     files = [file.name for file in (top / 'crates' / crate / 'src').iterdir()]
     check(files == ['lib.rt'], f'{crate}: src has {files}')
+
+# what else calls gates or steps: nothing
+for file in sorted((top / 'crates').glob('*/src/*.rt')):
+    if file.parent.parent.name not in CRATES + ['planner']:
+        check(not re.search(r'\b(gates|evaluation|choosing|clearing|rounds)::(?!Counts\b)', file.read_text().replace('specs', '')), f'{file.parent.parent.name}: runs a gate or a step')
 
 # ## Cheats: (the crate, what it does, the edits, who refuses it, the words). Who refuses it is the compiler, or a rule.
 
@@ -384,6 +496,18 @@ CHEATS = [
      plain, 'evaluation: two calls, or takes a field, by ).'),
     ('clearing', 'a pattern', [('    let first = gates::product(', '    let SecretPlaces { u, v, w } = choice;\n    let first = gates::product(')], plain, 'clearing: weight_after binds by a pattern'),
 
+    ('evaluation', 'code behind a clause', [('ghost use mathlib.Core.Path.{_≡_};\n', 'ghost use mathlib.Core.Path.{_≡_}; fn evil(w: &[u16]) -> bool { w[0] == 0 }\n')],
+     plain, 'evaluation: a clause has more on its line, or goes on: ghost use mathlib.Core.Path.{_'),
+    ('evaluation', 'code between the lines of a clause', [('    requires { ⌜ Evaluating n (now m) (now w) (now s) (now weights) t ⌝ }\n', '    requires { ⌜ Evaluating n (now m) (now w) (now s) (now weights) t ⌝\n    }\n')],
+     plain, 'evaluation: a clause has more on its line, or goes on: requires { ⌜ Evaluating n (now'),
+    ('gates', 'a place bound again', [('    Secret { value: table[at] }\n', '    let at = at * 1;\n    Secret { value: table[at] }\n')], plain, 'gates: load_u32 binds at again'),
+    ('choosing', 'a half that changes', [('    let half = weights.len() / 2;\n', '    let mut half = weights.len() / 2;\n    half -= half - 1;\n')], plain, 'choosing: choose_halves changes half'),
+    ('evaluation', 'a tally copied', [('    let sum = gates::sum(ab.w, ba.w);\n', '    let sum = gates::sum(ab.w, ba.w);\n    let kept = there;\n')], plain, 'evaluation: two copies there'),
+    ('evaluation', 'a result made by hand', [('    let sum = gates::sum(ab.w, ba.w);\n', '    let sum = gates::sum(ab.w, ba.w);\n    let tally = there.tally;\n    let made = Gated {\n        value: sum,\n        tally: tally,\n    };\n')],
+     plain, 'evaluation: two makes what only a gate gives'),
+    ('evaluation', 'a gate whose result is let go', [('    let sum = gates::sum(ab.w, ba.w);\n', '    let sum = gates::sum(ab.w, ba.w);\n    gates::product(ab.w, ba.w, t);\n')],
+     plain, 'evaluation: two lets go what gates::product gives'),
+
     ('gates', 'a public field', [('pub struct Secret {\n    value', 'pub struct Secret {\n    pub value')], interface, 'gates: has pub struct Secret { pub value: u32, }'),
     ('gates', 'a public count', [('pub struct Tally {\n    comparisons', 'pub struct Tally {\n    pub comparisons')],
      interface, 'gates: has pub struct Tally { pub comparisons: u64, products: u64, rounds: u64, }'),
@@ -402,8 +526,9 @@ CHEATS = [
     ('gates', 'a pick by a branch', [(PICKED, '    let mut picked = b.value as i64;\n    if bit.value == 1 {\n        picked = difference + b.value as i64;\n    }\n')],
      straight, 'gates: pick is not straight-line code (if)'),
     ('gates', 'a pick by a modulus', [(PICKED, '    let picked = (bit.value as i64 * difference + b.value as i64) % 4294967296;\n')], straight, 'gates: pick is not straight-line code (%)'),
-    ('gates', 'a pick that calls', [('        value: picked as u32,\n', '        value: std::num::wrapping_add_u32(b.value, 0),\n')], straight, 'gates: pick calls std::num::wrapping_add_u32'),
-    ('gates', 'an entry of a secret place', [('    Secret { value: table[at] }\n', '    Secret { value: table[table[at] as usize] }\n')], straight, 'gates: load_u32 has table[table[at]'),
+    ('gates', 'a pick that calls', [('        value: picked as u32,\n', '        value: std::num::wrapping_add_u32(b.value, 0),\n')], straight, 'gates: pick calls product_counted(t), std::num::wrapping_add_u32(b.value, 0)'),
+    ('gates', 'an entry of a secret place', [('    Secret { value: table[at] }\n', '    Secret { value: table[table[at] as usize] }\n')], straight, 'gates: load_u32 has another entry than table[at]'),
+    ('gates', 'a comparison in a sum', [('        value: a.value + b.value,\n', '        value: a.value + b.value + (a.value < b.value) as u32,\n')], straight, 'gates: sum does + + <'),
 
     ('evaluation', 'a weight made of a table', [(
         'fn two(ab: EdgeEntries, ba: EdgeEntries, t: Tally) -> Gated\n', 'fn two(ab: EdgeEntries, ba: EdgeEntries, w: &[u16], t: Tally) -> Gated\n',
@@ -413,6 +538,9 @@ CHEATS = [
     ('cursor', 'a cursor that looks at a table', [('// How many subsets there are', 'pub fn past(weights: &[u32], k: usize) -> bool {\n    weights[k] == 0\n}\n\n// How many subsets there are')],
      by_value, 'cursor: past takes a table or a reference, and is no driver'),
     ('choosing', 'a struct that holds an array', [('pub struct Placed {\n', 'pub struct Held {\n    pub s: [u32; 1],\n}\n\npub struct Placed {\n')], by_value, 'choosing: Held holds a table or a reference'),
+    ('evaluation', 'a tally by another name', [('fn two(ab: EdgeEntries, ba: EdgeEntries, t: Tally) -> Gated\n', 'fn two(ab: EdgeEntries, ba: EdgeEntries, c: Tally) -> Gated\n'), (
+        '    let there = gates::product(ab.m, ba.m, t);\n', '    let there = gates::product(ab.m, ba.m, c);\n')], by_value, 'evaluation: two takes a tally by the name c'),
+    ('choosing', 'a struct with a tally by another name', [('pub struct Placed {\n', 'pub struct Kept {\n    pub count: Tally,\n}\n\npub struct Placed {\n')], by_value, 'choosing: Kept holds a tally by another name'),
     ('rounds', 'a driver that grows', [(ROUND, ROUND + '        k += 0;\n' * LONGEST)], by_value, 'rounds: all_rounds is not short'),
 
     ('evaluation', 'an entry that is looked at', [(EDGE, EDGE + '    if w[a * n + b] == 0 {\n        return two(ab, ab, t);\n    }\n')], unread, 'evaluation: weight_at has w[a * n + b]'),
@@ -434,13 +562,18 @@ CHEATS = [
     ('clearing', 'a call of a name that is no function', [('    if left < 1 {\n', '    if u32::count_ones(1) < 1 {\n        return t;\n    }\n    if left < 1 {\n')],
      within, 'clearing: cleared calls u32::count_ones'),
 
+    ('cursor', 'a cursor that compares', [('// How many subsets there are', 'pub fn shows(p: usize) -> usize {\n    std::num::wrapping_add_usize(p, 1)\n}\n\n// How many subsets there are')],
+     within, 'cursor: shows calls std::num::wrapping_add_usize'),
+
     ('choosing', 'an equality test that is not tallied', [('    let zero = gates::known(0);\n', '    let zero = gates::demux_readout(n, best.at);\n')],
      readout, 'choosing: final_test asks demux_readout(n, best.at)'),
+    ('clearing', 'a place asked twice', [('    let first = gates::product(', '    let seen = gates::demux_readout(p.u, choice);\n    let first = gates::product(')],
+     readout, 'clearing: weight_after asks demux_readout(p.u, choice)'),
     ('clearing', 'an equality test of a weight', [('    let first = gates::product(', '    let same = SecretPlaces { u: x, v: x, w: x };\n    let seen = gates::demux_readout(p.u, same);\n    let first = gates::product(')],
      readout, 'clearing: weight_after asks demux_readout(p.u, same)'),
 
     ('choosing', 'one subset at a time', [('    let half = weights.len() / 2;\n', '    let half = weights.len() - 1;\n')], halved, 'choosing: choose_halves does not halve'),
-    ('choosing', 'one subset at a time, after a half', [('    let half = weights.len() / 2;\n', '    let half = weights.len() / 2;\n    let half = half / half;\n')], halved, 'choosing: choose_halves does not halve'),
+    ('choosing', 'one subset at a time, after a half', [('    let half = weights.len() / 2;\n', '    let half = weights.len() / 2;\n    let half: usize = 1;\n')], plain, 'choosing: choose_halves binds half again'),
 
     ('evaluation', 'a gate that runs uncounted', [('    let second = three(ac, cb, ba, first.tally);\n', '    let idle = gates::comparison(ab.w, ba.w, first.tally);\n    let second = three(ac, cb, ba, first.tally);\n')],
      threaded, 'evaluation: triple goes on with the tally of first 2 times'),
@@ -451,6 +584,12 @@ CHEATS = [
      threaded, 'evaluation: evaluated goes on with its tally more than once in a turn'),
     ('evaluation', 'a gate in a branch, uncounted', [('    if x == n {\n', '    if x == n {\n        let idle = two(ab, ba, t);\n    }\n    if x == n {\n')],
      threaded, 'evaluation: weight_at has an if that does not return'),
+    ('clearing', 'a step that is run before', [('    let old = *tally;\n', '    let before = cleared(n, weights, choice, left, *tally);\n    let old = *tally;\n')],
+     threaded, 'clearing: clear takes the lent tally out more than once'),
+    ('clearing', 'all weights cleared twice', [('    all_cleared(n, weights, choice, t)\n', '    let c = all_cleared(n, weights, choice, t);\n    let again = all_cleared(n, weights, choice, c);\n    c\n')],
+     threaded, 'clearing: cleared goes on with the tally of c 2 times'),
+    ('evaluation', 'a step in a loop', [('    *tally = evaluated(n, m, w, s, weights, old);\n', '    let mut i: usize = 0;\n    while i < 2 {\n        *tally = evaluated(n, m, w, s, weights, old);\n        i += 1;\n    }\n')],
+     threaded, 'evaluation: evaluate goes on with the tally of old in each turn'),
     ('clearing', 'a tally that is thrown away', [('    if p.w == n {\n        return second;\n', '    if p.w == n {\n        return first;\n')],
      threaded, 'clearing: weight_after goes on with the tally of second 0 times'),
     ('choosing', 'a tally that is begun anew', [('    let chosen = choice(n, weights, gates::begin_round(t));\n', '    let idle = gates::nothing_done();\n    let chosen = choice(n, weights, gates::begin_round(t));\n')],
@@ -458,9 +597,11 @@ CHEATS = [
     ('rounds', 'a tally that is looked at', [(ROUND, '        let counts = gates::counts_of(*tally);\n' + ROUND)], threaded, 'rounds: all_rounds calls gates::counts_of'),
 
     ('planner', 'a weight that is looked at between the steps', [('    rounds::all_rounds(', '    if weights[0] == 0 {\n        return tally;\n    }\n    rounds::all_rounds(')],
-     planned, 'planner: steps does more than evaluation and the rounds'),
+     planned, 'planner: steps is another'),
     ('planner', 'counts by formula', [('    let counts = gates::counts_of(tally);\n', '    let counts = Counts {\n        comparisons: all as u64,\n        products: all as u64,\n        rounds: rounds as u64,\n    };\n')],
-     planned, "planner: make has counts that are not the tally's"),
+     planned, 'planner: make is another'),
+    ('planner', 'a module', [('// The plan, from checked input.', 'mod held {\n    pub fn none() {\n    }\n}\n\n// The plan, from checked input.')], planned, 'planner: has a module or a name of its own'),
+    ('planner', 'steps that run twice', [('// The plan, from checked input.', 'fn other(t: Tally) -> Tally {\n    gates::begin_round(t)\n}\n\n// The plan, from checked input.')], planned, 'planner: runs a gate or a step elsewhere'),
 ]
 
 
