@@ -191,7 +191,7 @@ class Source:
         rest = '\n'.join(re.sub(r'//.*', '', line) for line in text.splitlines() if line.strip() not in self.clauses)
         self.uses = re.findall(r'^use ([^;]*);', rest, re.M)
         rest = re.sub(r'^use [^;]*;', '', rest, flags=re.M)
-        self.structs = {name: ' '.join(whole.split()) for whole, name in re.findall(r'^(pub struct (\w+) \{[^{}]*\})', rest, re.M)}
+        self.structs = {name: ' '.join(struct.split()) for struct, name in re.findall(r'^(pub struct (\w+) \{[^{}]*\})', rest, re.M)}
         rest = re.sub(r'^pub struct \w+ \{[^{}]*\}', '', rest, flags=re.M)
         self.functions = {}
         try:
