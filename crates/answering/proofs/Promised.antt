@@ -9,7 +9,7 @@ use Rattle.refusal.specs.Fault.{Fault, refuse, _then_, firstBelow}
 use Rattle.refusal.specs.Answer.{finished}
 use Rattle.refusal.proofs.Faults.{none-then}
 use Rattle.pool.specs.Sheet.{pairsIn, pairAt, shuffleAt}
-use Rattle.pool.specs.Turned.{groupFault, idFault, pairFault, shuffleFault, fieldFault, headFault, pairFieldFault, shuffleFieldFault, endFault, sheetFault, roomFault}
+use Rattle.pool.specs.Faults.{groupFault, idFault, pairFault, shuffleFault, fieldFault, headFault, pairFieldFault, shuffleFieldFault, endFault, sheetFault, roomFault}
 use Rattle.pool.proofs.Reading.{sheet-none, room-none}
 use Rattle.weighing.specs.Compatibility.{bloodTable, suits, has, shareBit, compatibility}
 use Rattle.weighing.specs.Weight.{documentPoints, mismatches, mismatchPoints, agePoints, weight}

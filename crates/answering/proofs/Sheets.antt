@@ -12,9 +12,9 @@ use Rattle.refusal.proofs.Faults.{finished-none, refused-fault}
 use Rattle.pool.specs.Pool.{Pool}
 use Rattle.pool.specs.Sheet.{pairsIn, pairAt, shuffleAt, poolOf}
 use Rattle.pool.specs.Tables.{Tables, room, pairIn, poolIn, filledTables}
-use Rattle.pool.specs.Turned.{sheetFault, roomFault}
+use Rattle.pool.specs.Faults.{sheetFault, roomFault}
 use Rattle.pool.specs.Calls.{reading}
-use Rattle.pool.specs.Faultless.{Hold, FaultlessSheet, FaultlessPool}
+use Rattle.pool.specs.Faultless.{TablesHold, FaultlessSheet, FaultlessPool}
 use Rattle.pool.proofs.Rooms.{hold-room}
 use Rattle.pool.proofs.Reading.{reading-none, reading-passed}
 use Rattle.pool.proofs.RoundTrip.{pair-in-filled, faultless-filled, pool-in-filled}
@@ -51,10 +51,10 @@ module _ (b : List ℕ) (t left : Tables) (r : Reading) (e : outcome (said r) le
     unfolding said
     finished-is = sym answer-read ∙ rw g
 
-    passed : (n ≡ pairsIn b) × FaultlessSheet b × Hold n t
+    passed : (n ≡ pairsIn b) × FaultlessSheet b × TablesHold n t
     passed = reading-passed b t n finished-is
 
-    holds : Hold (pairsIn b) t
+    holds : TablesHold (pairsIn b) t
     holds = rw (← passed .0) (passed .2)
 
     left-is : left ≡ filledTables (poolOf b) t

@@ -8,7 +8,7 @@ use Rattle.refusal.specs.Fault.{Fault, none, fault, _then_}
 use Rattle.refusal.specs.Answer.{Outcome, outcome, finished}
 use Rattle.pool.specs.Pool.{Pair}
 use Rattle.pool.specs.Sheet.{pairsIn, pairAt, shuffleAt}
-use Rattle.pool.specs.Turned.{sheetFault, roomFault}
+use Rattle.pool.specs.Faults.{sheetFault, roomFault}
 use Rattle.weighing.specs.Compatibility.{compatibility}
 use Rattle.weighing.specs.Weight.{documentPoints, weight}
 use Rattle.greedy.specs.Rounds.{Left}

@@ -19,7 +19,7 @@ use Rattle.refusal.specs.declared.Verdict.the-variants.{Sound, Faulty}
 use Rattle.refusal.proofs.Faults.{sound-none, faulty-fault, none-then, fault-then, none-refuse, fault-refuse, first-hit}
 use Rattle.pool.specs.Pool.{Pair}
 use Rattle.pool.specs.Tables.{fields, pairIn}
-use Rattle.pool.specs.Turned.{groupFault, idFault, pairFault, roomFault, pairsFault}
+use Rattle.pool.specs.Faults.{groupFault, idFault, pairFault, roomFault, pairsFault}
 use Rattle.checks.specs.Agree.{Agree}
 
 -- ## One pair: `found` is what the check of its groups found, `again` whether its id is an earlier one's

@@ -10,7 +10,7 @@ ghost use Rattle.laws.specs.Below.{anyBelow, countBelow};
 ghost use Rattle.refusal.specs.Number.{faultAt};
 ghost use Rattle.pool.specs.Pool.{Pair};
 ghost use Rattle.pool.specs.Tables.{fields, pairIn};
-ghost use Rattle.pool.specs.Turned.{groupFault, pairFault, pairsFault, shuffleFault};
+ghost use Rattle.pool.specs.Faults.{groupFault, pairFault, pairsFault, shuffleFault};
 ghost use Rattle.checks.specs.Agree.{Agree, Spaced};
 
 // The lesser of two lengths.

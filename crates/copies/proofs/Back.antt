@@ -13,7 +13,7 @@ use Rattle.refusal.specs.Answer.{Outcome, outcome, finished, refused}
 use Rattle.refusal.proofs.Faults.{none-fault, then-none, then-fault, fault-then, unless-fault, unless-then, finished-none, refused-fault}
 use Rattle.pool.specs.Sheet.{pairsIn, sheetOf}
 use Rattle.pool.specs.Tables.{Tables, room, poolIn}
-use Rattle.pool.specs.Turned.{sheetFault, roomFault, poolFault}
+use Rattle.pool.specs.Faults.{sheetFault, roomFault, poolFault}
 use Rattle.pool.specs.Calls.{reading, writing}
 use Rattle.pool.specs.Promises.{Below, Typed}
 use Rattle.pool.proofs.Lengths.{length-sheetIn}

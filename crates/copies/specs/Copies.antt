@@ -7,7 +7,7 @@ use Rattle.refusal.specs.Fault.{_then_}
 use Rattle.refusal.specs.Answer.{Answer, finished, refused, Outcome, unless}
 use Rattle.refusal.specs.Number.{numberOf}
 use Rattle.pool.specs.Tables.{Tables, room, poolIn, filledTables}
-use Rattle.pool.specs.Turned.{sheetFault, roomFault, poolFault}
+use Rattle.pool.specs.Faults.{sheetFault, roomFault, poolFault}
 use Rattle.copies.specs.declared.Copy.{Copy}
 use Rattle.copies.specs.declared.Copy.the-variants.{Made, Refused}
 

@@ -9,7 +9,7 @@ use Rattle.laws.specs.Below.{table, either, anyBelow, countBelow, one}
 use Rattle.laws.specs.Lent.{filled}
 use Rattle.refusal.specs.Fault.{refuse, _then_}
 use Rattle.refusal.specs.Answer.{unless}
-use Rattle.pool.specs.Turned.{shuffleFault, roomFault}
+use Rattle.pool.specs.Faults.{shuffleFault, roomFault}
 use Rattle.greedy.specs.Places.{among, meets}
 use Rattle.greedy.specs.Tally.{raise, nextRound}
 use Rattle.greedy.specs.Rounds.{join, byHalves, choosing, clear, clearing, rounds}

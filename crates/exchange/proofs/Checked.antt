@@ -12,7 +12,7 @@ use Rattle.laws.proofs.Below.{true-false, either-false, any-none, none-any}
 use Rattle.refusal.specs.Fault.{Fault, none, fault, refuse, _then_}
 use Rattle.refusal.specs.Answer.{Outcome, finished, refused, unless}
 use Rattle.refusal.proofs.Faults.{refuse-none, none-refuse, then-none, none-then, by-refuse, by-then, unless-none, unless-fault, finished-none, refused-fault}
-use Rattle.pool.specs.Turned.{shuffleFault, roomFault}
+use Rattle.pool.specs.Faults.{shuffleFault, roomFault}
 use Rattle.pool.specs.Faultless.{EachOnce}
 use Rattle.pool.proofs.Pairs.{shuffle-none, shuffle-passed, shuffle-fault}
 use Rattle.pool.proofs.Reading.{room-none, room-passed, room-fault}

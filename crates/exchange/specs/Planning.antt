@@ -8,7 +8,7 @@ use Rattle.laws.specs.Below.{either, anyBelow}
 use Rattle.laws.specs.Lent.{filled}
 use Rattle.refusal.specs.Fault.{Fault, refuse, _then_}
 use Rattle.refusal.specs.Answer.{Outcome, unless}
-use Rattle.pool.specs.Turned.{shuffleFault, roomFault}
+use Rattle.pool.specs.Faults.{shuffleFault, roomFault}
 use Rattle.records.specs.declared.Cycle.{Cycle}
 use Rattle.greedy.specs.Tally.{Tally, tally}
 use Rattle.greedy.specs.Rounds.{Left, rounds}

@@ -14,7 +14,7 @@ use Rattle.refusal.specs.declared.Refusal.{Refusal}
 use Rattle.refusal.specs.declared.Verdict.{Verdict}
 use Rattle.refusal.specs.declared.Verdict.the-variants.{Sound, Faulty}
 use Rattle.refusal.proofs.Faults.{refuse-none, none-refuse, fault-refuse, then-none, none-then, fault-then, sound-none, faulty-fault}
-use Rattle.pool.specs.Turned.{shuffleFault, roomFault}
+use Rattle.pool.specs.Faults.{shuffleFault, roomFault}
 use Rattle.exchange.specs.Subsets.{entry}
 use Rattle.exchange.specs.Planning.{tableFault}
 use Rattle.planner.specs.Checks.{shortToRead, shortToFill, faultsIn}

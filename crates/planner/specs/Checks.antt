@@ -5,7 +5,7 @@ use mathlib.Core.List.{List}
 use lib.Dec.{ltb}
 use lib.ListN.{length, getD}
 use Rattle.refusal.specs.Fault.{Fault, refuse, _then_}
-use Rattle.pool.specs.Turned.{shuffleFault, roomFault}
+use Rattle.pool.specs.Faults.{shuffleFault, roomFault}
 use Rattle.exchange.specs.Subsets.{subsetCount, entry}
 use Rattle.exchange.specs.Resolution.{total}
 use Rattle.exchange.specs.Planning.{Lent, Plan, plan, roundCount, tableFault, leftBy, plannedBy, filledLent}

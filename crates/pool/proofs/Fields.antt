@@ -8,7 +8,7 @@ use lib.ListN.{length}
 use Rattle.refusal.specs.Fault.{Fault, none, fault, refuse, _then_}
 use Rattle.refusal.proofs.Faults.{then-none, refuse-none, by-refuse, by-then}
 use Rattle.laws.specs.Digits.{bigEndian}
-use Rattle.pool.specs.Turned.{fieldFault}
+use Rattle.pool.specs.Faults.{fieldFault}
 use Rattle.pool.specs.Faultless.{Field, Due, Forward, SheetFault, startCutOff, valueCutOff, wrongTag, wrongLength}
 
 module _ (b : List ℕ) (o tag len : ℕ) where

@@ -11,7 +11,7 @@ use Rattle.refusal.proofs.Faults.{then-none, none-then, refuse-none, none-refus
 use Rattle.laws.specs.Below.{anyBelow, countBelow, Once}
 use Rattle.laws.proofs.Below.{any-none, none-any, any-found, any-cong, count-cong, once-count, count-once}
 use Rattle.pool.specs.Pool.{Pair}
-use Rattle.pool.specs.Turned.{groupFault, idFault, pairFault, shuffleFault}
+use Rattle.pool.specs.Faults.{groupFault, idFault, pairFault, shuffleFault}
 use Rattle.pool.specs.Faultless.{InRange, Unlike, EachOnce, Faultless}
 
 -- ## 6 and 7 of pair i

@@ -11,9 +11,9 @@ use Rattle.refusal.proofs.Faults.{then-none, none-then, refuse-none, none-refus
 use Rattle.laws.specs.Digits.{bigEndian}
 use Rattle.pool.specs.Sheet.{pairPlace, sheetLength, pairsIn, pairAt, shuffleAt, poolOf}
 use Rattle.pool.specs.Tables.{Tables, room, filledTables}
-use Rattle.pool.specs.Turned.{headFault, pairFieldFault, shuffleFieldFault, endFault, sheetFault, roomFault}
+use Rattle.pool.specs.Faults.{headFault, pairFieldFault, shuffleFieldFault, endFault, sheetFault, roomFault}
 use Rattle.pool.specs.Calls.{reading}
-use Rattle.pool.specs.Faultless.{Field, Faultless, FaultlessHead, FaultlessPair, FaultlessSheet, Due, Forward, SheetFault, wrongVersion, leftOver, outOfRange, repeatedId, notAShuffle, Hold}
+use Rattle.pool.specs.Faultless.{Field, Faultless, FaultlessHead, FaultlessPair, FaultlessSheet, Due, Forward, SheetFault, wrongVersion, leftOver, outOfRange, repeatedId, notAShuffle, TablesHold}
 use Rattle.pool.specs.Promises.{ReadFault, ReadsRightly}
 use Rattle.pool.proofs.Rooms.{room-hold, hold-room}
 use Rattle.pool.proofs.Fields.{field-none, field-passed, field-fault}
@@ -134,12 +134,12 @@ module _ (b : List ℕ) where
 -- ## The call
 
 module _ (b : List ℕ) (t : Tables) where
-  pub reading-none : FaultlessSheet b → Hold (pairsIn b) t → reading b t ≡ outcome (finished (pairsIn b)) (filledTables (poolOf b) t)
+  pub reading-none : FaultlessSheet b → TablesHold (pairsIn b) t → reading b t ≡ outcome (finished (pairsIn b)) (filledTables (poolOf b) t)
   unfolding reading
   reading-none s h =
       unless-none _ _ _ _ (none-then _ _ (sheet-none b s) ∙ room-none (room t) (pairsIn b) (hold-room (pairsIn b) t h))
 
-  pub reading-passed : (n : ℕ) → reading b t .answer ≡ finished n → (n ≡ pairsIn b) × FaultlessSheet b × Hold n t
+  pub reading-passed : (n : ℕ) → reading b t .answer ≡ finished n → (n ≡ pairsIn b) × FaultlessSheet b × TablesHold n t
   unfolding reading
   reading-passed n e =
       let f = finished-none _ _ _ _ e in

@@ -2,7 +2,7 @@
 use Prim.Native.Nat.{ℕ, _≤_, min}
 use native.Mathlib.Nat.{le-trans, min-le-left, min-le-right, le-min}
 use Rattle.pool.specs.Tables.{Fields, Tables, fieldRoom, room}
-use Rattle.pool.specs.Faultless.{FieldsHold, Hold}
+use Rattle.pool.specs.Faultless.{FieldsHold, TablesHold}
 
 pub fieldRoom-hold : (n : ℕ) (f : Fields) → n ≤ fieldRoom f → FieldsHold n f
 unfolding fieldRoom
@@ -33,10 +33,10 @@ hold-fieldRoom n f h =
     (le-min (h .donorAge)
     (le-min (h .patientAge) (le-min (h .donorAntigens) (le-min (h .patientAntigens) (h .patientAntibodies)))))))
 
-pub room-hold : (n : ℕ) (t : Tables) → n ≤ room t → Hold n t
+pub room-hold : (n : ℕ) (t : Tables) → n ≤ room t → TablesHold n t
 unfolding room
 room-hold n t h = record { fields = fieldRoom-hold n (t .fields) (le-trans h (min-le-left _ _)); shuffle = le-trans h (min-le-right _ _) }
 
-pub hold-room : (n : ℕ) (t : Tables) → Hold n t → n ≤ room t
+pub hold-room : (n : ℕ) (t : Tables) → TablesHold n t → n ≤ room t
 unfolding room
 hold-room n t h = le-min (hold-fieldRoom n (t .fields) (h .fields)) (h .shuffle)

@@ -13,9 +13,9 @@ use Rattle.refusal.proofs.Faults.{unless-none, unless-then}
 use Rattle.pool.specs.Pool.{Pair, Pool}
 use Rattle.pool.specs.Sheet.{sheetOf, pairsIn, pairAt, shuffleAt, poolOf}
 use Rattle.pool.specs.Tables.{Fields, Tables, room, pairIn, poolIn, filledFields, filledTables}
-use Rattle.pool.specs.Turned.{roomFault}
+use Rattle.pool.specs.Faults.{roomFault}
 use Rattle.pool.specs.Calls.{reading, writing}
-use Rattle.pool.specs.Faultless.{FieldsHold, Hold, FaultlessSheet, FaultlessPool, Faultless}
+use Rattle.pool.specs.Faultless.{FieldsHold, TablesHold, FaultlessSheet, FaultlessPool, Faultless}
 use Rattle.pool.specs.Promises.{Below, Typed, SheetComesBack, PoolComesBack}
 use Rattle.pool.proofs.Lengths.{length-sheetIn}
 use Rattle.pool.proofs.Pairs.{faultless-cong}
@@ -74,7 +74,7 @@ module _ (n : ℕ) (pair : ℕ → Pair) (s : ℕ → ℕ) (t : Tables) where
   unfolding filledTables
   number-in-filled j l = getD-filled (table n s) (t .shuffle) 0 j (rw length-table l) ∙ getD-table n s 0 j l
 
-  pub faultless-filled : Hold n t → Faultless n pair s → FaultlessPool n (filledTables pool t)
+  pub faultless-filled : TablesHold n t → Faultless n pair s → FaultlessPool n (filledTables pool t)
   unfolding filledTables
   faultless-filled h w =
       record {
@@ -117,7 +117,7 @@ unfolding poolOf writing
 sheet-again b t out n bytes e =
     let r = reading-passed b t n e in
     let s : FaultlessSheet b = r .1 in
-    let h : Hold (pairsIn b) t = rw (← r .0) (r .2) in
+    let h : TablesHold (pairsIn b) t = rw (← r .0) (r .2) in
     let left : reading b t .lent ≡ filledTables (poolOf b) t = ap (λ (o : Outcome ℕ Tables). o .lent) (reading-none b t s h) in
     let t′ : Tables = filledTables (poolOf b) t in
     let w : FaultlessPool (pairsIn b) t′ = faultless-filled (pairsIn b) (pairAt b) (shuffleAt b (pairsIn b)) t h (s .pool) in

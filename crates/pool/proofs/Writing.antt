@@ -12,9 +12,9 @@ use Rattle.refusal.proofs.Faults.{then-none, none-then, refuse-none, none-refus
 use Rattle.pool.specs.Pool.{Pair}
 use Rattle.pool.specs.Sheet.{sheetLength, sheetOf}
 use Rattle.pool.specs.Tables.{Fields, Tables, room, pairIn, poolIn}
-use Rattle.pool.specs.Turned.{pairFault, pairsFault, poolFault, roomFault, shuffleFault}
+use Rattle.pool.specs.Faults.{pairFault, pairsFault, poolFault, roomFault, shuffleFault}
 use Rattle.pool.specs.Calls.{writing}
-use Rattle.pool.specs.Faultless.{InRange, Unlike, Faultless, Before, FaultlessPool, PoolFault, Hold}
+use Rattle.pool.specs.Faultless.{InRange, Unlike, Faultless, Before, FaultlessPool, PoolFault, TablesHold}
 use Rattle.pool.specs.Promises.{WritesRightly}
 use Rattle.pool.proofs.Lengths.{length-sheetIn}
 use Rattle.pool.proofs.Rooms.{room-hold, hold-room}

@@ -7,7 +7,7 @@ use Rattle.refusal.specs.Fault.{_then_}
 use Rattle.refusal.specs.Answer.{Outcome, unless}
 use Rattle.pool.specs.Sheet.{sheetOf, pairsIn, poolOf}
 use Rattle.pool.specs.Tables.{Tables, room, poolIn, filledTables}
-use Rattle.pool.specs.Turned.{sheetFault, roomFault, poolFault}
+use Rattle.pool.specs.Faults.{sheetFault, roomFault, poolFault}
 
 -- "Reading fills the first N entries of each lent field table": the answer is N
 unfoldable pub reading : List ℕ → Tables → Outcome ℕ Tables

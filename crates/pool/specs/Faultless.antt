@@ -131,13 +131,13 @@ pub record FieldsHold (n : ℕ) (f : Fields) : Type 0 where
   pub patientAntigens : n ≤ length (f .patientAntigens)
   pub patientAntibodies : n ≤ length (f .patientAntibodies)
 
-pub record Hold (n : ℕ) (t : Tables) : Type 0 where
+pub record TablesHold (n : ℕ) (t : Tables) : Type 0 where
   pub fields : FieldsHold n (t .fields)
   pub shuffle : n ≤ length (t .shuffle)
 
 -- a pool in the first n entries of lent tables
 pub record FaultlessPool (n : ℕ) (t : Tables) : Type 0 where
-  pub hold : Hold n t
+  pub hold : TablesHold n t
   pub pool : Faultless n (pairIn (t .fields)) (λ j. getD (t .shuffle) j 0)
 
 -- the pairs before the i-th have none of 6 and 7
@@ -147,12 +147,12 @@ Before i at = (j : ℕ) → j < i → InRange (at j) × ((h : ℕ) → h < j →
 -- fault k of writing it into a buffer of so many bytes: it is there, and none that is looked for before it
 pub data PoolFault (n : ℕ) (t : Tables) (space : ℕ) : ℕ → Type 0 where
   tooManyPairs : 200 < n → PoolFault n t space 4
-  tableTooShort : n ≤ 200 → (Hold n t → ⊥) → PoolFault n t space 9
+  tableTooShort : n ≤ 200 → (TablesHold n t → ⊥) → PoolFault n t space 9
   outOfRange :
       (i : ℕ)
       → i < n
       → n ≤ 200
-      → Hold n t
+      → TablesHold n t
       → Before i (pairIn (t .fields))
       → (InRange (pairIn (t .fields) i) → ⊥)
       → PoolFault n t space 6
@@ -161,14 +161,14 @@ pub data PoolFault (n : ℕ) (t : Tables) (space : ℕ) : ℕ → Type 0 where
       → j < i
       → i < n
       → n ≤ 200
-      → Hold n t
+      → TablesHold n t
       → Before i (pairIn (t .fields))
       → InRange (pairIn (t .fields) i)
       → pairIn (t .fields) j .id ≡ pairIn (t .fields) i .id
       → PoolFault n t space 7
   notAShuffle :
       n ≤ 200
-      → Hold n t
+      → TablesHold n t
       → Before n (pairIn (t .fields))
       → (EachOnce n (λ j. getD (t .shuffle) j 0) → ⊥)
       → PoolFault n t space 8

@@ -1,9 +1,10 @@
--- Document 01's 'The pool sheet', 'Writer and printout' and 'Turned back'. Believe `Pool`, `Sheet`, `Tables`, `Turned` and `Calls`:
+-- Document 01's 'The pool sheet', 'Writer and printout' and 'Turned back'. Believe `Pool`, `Sheet`, `Tables`, `Faults` and `Calls`:
 -- the contracts cite them. `Faultless` says a second time, without the search for a fault, what has none of them; `Promises` has the statements.
 pub mod Pool
 pub mod Sheet
 pub mod Tables
-pub mod Turned
+pub mod Lent
+pub mod Faults
 pub mod Calls
 pub mod Faultless
 pub mod Promises

@@ -9,17 +9,17 @@ use Rattle.refusal.specs.Answer.{Answer, finished, refused, Outcome, outcome}
 use Rattle.pool.specs.Sheet.{sheetLength, pairsIn}
 use Rattle.pool.specs.Tables.{Fields, Tables, poolIn, filledTables}
 use Rattle.pool.specs.Calls.{reading, writing}
-use Rattle.pool.specs.Faultless.{FaultlessSheet, SheetFault, Hold, FaultlessPool, PoolFault}
+use Rattle.pool.specs.Faultless.{FaultlessSheet, SheetFault, TablesHold, FaultlessPool, PoolFault}
 
 -- fault k of reading, at place o: one of the sheet's, or 9 with place 0 where a lent table can't hold its pairs
 pub data ReadFault (b : List ℕ) (t : Tables) : ℕ → ℕ → Type 0 where
   sheet : (k o : ℕ) → SheetFault b k o → ReadFault b t k o
-  tableTooShort : FaultlessSheet b → (Hold (pairsIn b) t → ⊥) → ReadFault b t 9 0
+  tableTooShort : FaultlessSheet b → (TablesHold (pairsIn b) t → ⊥) → ReadFault b t 9 0
 
 -- "Every sheet with none of the listed faults is accepted", and no other; a refusal names a fault that is there
 pub record ReadsRightly (b : List ℕ) (t : Tables) (a : Answer ℕ) : Type 0 where
-  pub accepts : FaultlessSheet b → Hold (pairsIn b) t → a ≡ finished (pairsIn b)
-  pub accepted : (n : ℕ) → a ≡ finished n → (n ≡ pairsIn b) × FaultlessSheet b × Hold n t
+  pub accepts : FaultlessSheet b → TablesHold (pairsIn b) t → a ≡ finished (pairsIn b)
+  pub accepted : (n : ℕ) → a ≡ finished n → (n ≡ pairsIn b) × FaultlessSheet b × TablesHold n t
   pub refuses : (k o : ℕ) → a ≡ refused k o → ReadFault b t k o
 
 -- "Every pool with none of the listed faults is accepted", and no other; a refusal names a fault that is there, with place 0
@@ -54,5 +54,5 @@ PoolComesBack =
     (n : ℕ) (t : Tables) (out : List ℕ) (m : ℕ) (other : Tables)
     → Typed t
     → writing n t out .answer ≡ finished m
-    → Hold n other
+    → TablesHold n other
     → reading (take m (writing n t out .lent)) other ≡ outcome (finished n) (filledTables (poolIn n t) other)

@@ -17,7 +17,7 @@ use Rattle.refusal.specs.declared.Verdict.{Verdict}
 use Rattle.refusal.specs.declared.Verdict.the-variants.{Sound, Faulty}
 use Rattle.refusal.proofs.Faults.{refuse-none, none-refuse, fault-refuse, then-none, none-then, fault-then, by-refuse, by-then, sound-none, faulty-fault, unless-none, unless-fault, finished-none, refused-fault}
 use Rattle.printout.specs.Printed.{Plan, planText, refusalText}
-use Rattle.pool.specs.Turned.{roomFault}
+use Rattle.pool.specs.Faults.{roomFault}
 use Rattle.printout.specs.Calls.{planFault, printingPlan, printingRefusal}
 use Rattle.printout.specs.Said.{said}
 use Rattle.printout.specs.Steps.{Put, Hold}

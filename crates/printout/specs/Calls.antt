@@ -5,7 +5,7 @@ use lib.ListN.{length}
 use Rattle.laws.specs.Lent.{filled}
 use Rattle.refusal.specs.Fault.{Fault, _then_}
 use Rattle.refusal.specs.Answer.{Outcome, unless}
-use Rattle.pool.specs.Turned.{roomFault}
+use Rattle.pool.specs.Faults.{roomFault}
 use Rattle.printout.specs.Printed.{Plan, planText, refusalText}
 
 -- "9 a lent buffer or table too short": a table of the plan that has fewer than N entries, or a buffer of `room` bytes

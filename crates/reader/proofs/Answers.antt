@@ -10,7 +10,7 @@ use Rattle.refusal.specs.declared.Refusal.{Refusal}
 use Rattle.refusal.proofs.Faults.{none-then, fault-then, fault-refuse, unless-none, unless-fault, finished-none, refused-fault}
 use Rattle.pool.specs.Sheet.{pairsIn, poolOf}
 use Rattle.pool.specs.Tables.{Tables, room, filledTables}
-use Rattle.pool.specs.Turned.{sheetFault, roomFault}
+use Rattle.pool.specs.Faults.{sheetFault, roomFault}
 use Rattle.pool.specs.Calls.{reading}
 use Rattle.pool.specs.Promises.{ReadsRightly}
 use Rattle.pool.proofs.Rooms.{hold-room}

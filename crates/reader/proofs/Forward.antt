@@ -12,7 +12,7 @@ use Rattle.refusal.specs.declared.Verdict.{Verdict}
 use Rattle.refusal.specs.declared.Verdict.the-variants.{Sound, Faulty}
 use Rattle.refusal.proofs.Faults.{none-then, fault-then, none-refuse, fault-refuse, sound-none, faulty-fault}
 use Rattle.pool.specs.Sheet.{pairsIn, sheetLength}
-use Rattle.pool.specs.Turned.{fieldFault, headFault, pairFieldFault, shuffleFieldFault, endFault, sheetFault}
+use Rattle.pool.specs.Faults.{fieldFault, headFault, pairFieldFault, shuffleFieldFault, endFault, sheetFault}
 use Rattle.reader.specs.declared.Found.{Found}
 use Rattle.reader.specs.declared.Found.the-variants.{Nothing, Fault as FaultAt}
 use Rattle.reader.specs.Said.{foundFault}

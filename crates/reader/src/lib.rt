@@ -13,7 +13,7 @@ ghost use Rattle.refusal.specs.Answer.{outcome};
 ghost use Rattle.refusal.specs.Number.{faultAt};
 ghost use Rattle.pool.specs.Sheet.{pairPlace, sheetLength, pairAt, shuffleAt, poolOf};
 ghost use Rattle.pool.specs.Tables.{Tables, fields, tables, room, filledTables};
-ghost use Rattle.pool.specs.Turned.{fieldFault, headFault, pairFault, pairFieldFault, shuffleFieldFault, sheetFault};
+ghost use Rattle.pool.specs.Faults.{fieldFault, headFault, pairFault, pairFieldFault, shuffleFieldFault, sheetFault};
 ghost use Rattle.pool.specs.Calls.{reading};
 ghost use Rattle.pool.specs.Promises.{ReadsRightly};
 ghost use Rattle.reader.specs.Said.{said, foundFault, Fillable, Noted};

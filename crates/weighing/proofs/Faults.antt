@@ -14,7 +14,7 @@ use Rattle.refusal.specs.declared.Verdict.the-variants.{Sound, Faulty}
 use Rattle.refusal.proofs.Faults.{none-then, fault-then, then-none, fault-refuse, sound-none, faulty-fault, by-then}
 use Rattle.pool.specs.Pool.{Pair}
 use Rattle.pool.specs.Tables.{Fields, fieldRoom, pairIn}
-use Rattle.pool.specs.Turned.{roomFault, pairsFault}
+use Rattle.pool.specs.Faults.{roomFault, pairsFault}
 use Rattle.pool.proofs.Rooms.{fieldRoom-hold, hold-fieldRoom}
 use Rattle.pool.proofs.Reading.{room-none, room-passed, room-fault}
 use Rattle.pool.proofs.Writing.{pairs-none, pairs-passed, pairs-fault}

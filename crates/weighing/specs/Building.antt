@@ -8,7 +8,7 @@ use Rattle.refusal.specs.Fault.{Fault, _then_}
 use Rattle.refusal.specs.Answer.{Outcome, unless}
 use Rattle.pool.specs.Pool.{Pair}
 use Rattle.pool.specs.Tables.{Fields, fieldRoom, pairIn}
-use Rattle.pool.specs.Turned.{roomFault, pairsFault}
+use Rattle.pool.specs.Faults.{roomFault, pairsFault}
 use Rattle.weighing.specs.Compatibility.{compatibility}
 use Rattle.weighing.specs.Weight.{Points, weight}
 

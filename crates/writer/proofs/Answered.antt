@@ -15,7 +15,7 @@ use Rattle.refusal.specs.declared.Verdict.the-variants.{Sound, Faulty}
 use Rattle.refusal.proofs.Faults.{sound-none, faulty-fault, none-then, fault-then, fault-refuse, unless-fault}
 use Rattle.pool.specs.Sheet.{sheetLength, sheetOf}
 use Rattle.pool.specs.Tables.{Tables, poolIn}
-use Rattle.pool.specs.Turned.{roomFault, poolFault}
+use Rattle.pool.specs.Faults.{roomFault, poolFault}
 use Rattle.pool.specs.Calls.{writing}
 use Rattle.pool.specs.Faultless.{FaultlessPool}
 use Rattle.pool.specs.Promises.{WritesRightly}

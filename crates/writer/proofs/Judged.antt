@@ -9,7 +9,7 @@ use Rattle.refusal.specs.declared.Verdict.{Verdict}
 use Rattle.refusal.specs.declared.Verdict.the-variants.{Sound, Faulty}
 use Rattle.refusal.proofs.Faults.{sound-none, faulty-fault, none-then, fault-then}
 use Rattle.pool.specs.Tables.{Tables, fieldRoom, room, pairIn}
-use Rattle.pool.specs.Turned.{pairsFault, shuffleFault, poolFault}
+use Rattle.pool.specs.Faults.{pairsFault, shuffleFault, poolFault}
 use Rattle.pool.proofs.Rooms.{room-hold}
 use Rattle.pool.proofs.Writing.{pairs-passed}
 use Rattle.checks.specs.Agree.{Spaced}

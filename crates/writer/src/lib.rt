@@ -13,9 +13,9 @@ ghost use Rattle.refusal.specs.Answer.{outcome};
 ghost use Rattle.refusal.specs.Number.{faultAt};
 ghost use Rattle.pool.specs.Sheet.{pairPlace, sheetLength, headField, pairField, shuffleField, sheetOf};
 ghost use Rattle.pool.specs.Tables.{fields, tables, pairIn, poolIn};
-ghost use Rattle.pool.specs.Turned.{poolFault};
+ghost use Rattle.pool.specs.Faults.{poolFault};
 ghost use Rattle.pool.specs.Calls.{writing};
-ghost use Rattle.pool.specs.Faultless.{FieldsHold, Hold};
+ghost use Rattle.pool.specs.Faultless.{FieldsHold, TablesHold};
 ghost use Rattle.pool.specs.Promises.{WritesRightly};
 ghost use Rattle.writer.specs.Said.{said, groupBytes, tissueBytes, pairOf};
 
@@ -198,7 +198,7 @@ fn put_sheet(
     patient_antibodies: &[u64],
     shuffle: &[u16],
 )
-    requires { ⌜ Hold n (tables (fields (now ids) (now «donor_blood») (now «patient_blood») (now «donor_age») (now «patient_age») (now «donor_antigens») (now «patient_antigens») (now «patient_antibodies»)) (now shuffle)) ⌝ }
+    requires { ⌜ TablesHold n (tables (fields (now ids) (now «donor_blood») (now «patient_blood») (now «donor_age») (now «patient_age») (now «donor_antigens») (now «patient_antigens») (now «patient_antibodies»)) (now shuffle)) ⌝ }
     requires { ⌜ sheetLength n ≤ length (now out) ⌝ }
     ensures { λ _. ⌜ now (out .exit) ≡ filled (sheetOf (poolIn n (tables (fields (now (ids .entry)) (now («donor_blood» .entry)) (now («patient_blood» .entry)) (now («donor_age» .entry)) (now («patient_age» .entry)) (now («donor_antigens» .entry)) (now («patient_antigens» .entry)) (now («patient_antibodies» .entry))) (now (shuffle .entry))))) (now (out .entry)) ⌝ }
 {

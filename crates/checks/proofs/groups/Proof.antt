@@ -2,7 +2,7 @@
 use borrow.Author.Tests.{lt-ltb, le-ltb}
 use Rattle.refusal.specs.Fault.{refuse, _then_}
 use Rattle.refusal.specs.Number.{faultAt}
-use Rattle.pool.specs.Turned.{groupFault}
+use Rattle.pool.specs.Faults.{groupFault}
 use Rattle.checks.proofs.groups.Statement.{statement}
 use Rattle.checks.proofs.groups.Tie as tie
 

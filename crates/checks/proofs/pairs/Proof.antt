@@ -7,7 +7,7 @@ use borrow.Author.Needs.{needs}
 use Rattle.refusal.specs.Fault.{none, firstBelow}
 use Rattle.refusal.proofs.Faults.{first-more, sound-none}
 use Rattle.pool.specs.Tables.{fields, pairIn}
-use Rattle.pool.specs.Turned.{pairFault}
+use Rattle.pool.specs.Faults.{pairFault}
 use Rattle.checks.proofs.Found.{agree-in, pairs-many, pairs-short, pairs-found, pairs-sound}
 use Rattle.checks.proofs.pairs.Statement.{statement}
 use Rattle.checks.proofs.pairs.Tie as tie

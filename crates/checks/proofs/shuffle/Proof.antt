@@ -12,7 +12,7 @@ use Rattle.laws.specs.Below.{anyBelow, countBelow}
 use Rattle.laws.proofs.Below.{any-hit, any-more}
 use Rattle.refusal.specs.Number.{faultAt}
 use Rattle.refusal.proofs.Faults.{fault-refuse, none-refuse}
-use Rattle.pool.specs.Turned.{shuffleFault}
+use Rattle.pool.specs.Faults.{shuffleFault}
 use Rattle.checks.proofs.shuffle.Statement.{statement}
 use Rattle.checks.proofs.shuffle.Tie as tie
 

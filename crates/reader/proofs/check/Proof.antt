@@ -7,7 +7,7 @@ use lib.Dec.{lit≤}
 use Rattle.refusal.specs.Fault.{none, firstBelow}
 use Rattle.refusal.proofs.Faults.{sound-none, faulty-fault}
 use Rattle.pool.specs.Sheet.{pairsIn}
-use Rattle.pool.specs.Turned.{headFault, pairFieldFault, shuffleFieldFault}
+use Rattle.pool.specs.Faults.{headFault, pairFieldFault, shuffleFieldFault}
 use Rattle.pool.proofs.Reading.{head-passed}
 use Rattle.reader.specs.Said.{foundFault}
 use Rattle.reader.proofs.Forward.{nothing-none, found-fault, at-head, at-pairs, at-shuffle, left-over, nothing-over}

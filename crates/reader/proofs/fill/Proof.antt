@@ -2,7 +2,7 @@
 use native.Mathlib.Omega.{arith}
 use Rattle.pool.specs.Sheet.{poolOf, pairAt}
 use Rattle.pool.specs.Tables.{fields, tables, filledFields, filledTables}
-use Rattle.pool.specs.Faultless.{Hold}
+use Rattle.pool.specs.Faultless.{TablesHold}
 use Rattle.pool.proofs.Rooms.{room-hold}
 use Rattle.reader.proofs.Columns.{column, numbers}
 use Rattle.reader.proofs.fill.Statement.{statement}
@@ -66,7 +66,7 @@ call-ids c = call-donor-blood c .before .before .before .before
 -- ## What each call requires
 
 held : (s : tie.Start)
-    → Hold (s .args .n)
+    → TablesHold (s .args .n)
     (tables
     (fields (s .args .ids .now) (s .args .donor-blood .now) (s .args .patient-blood .now) (s .args .donor-age .now) (s .args .patient-age .now)
     (s .args .donor-antigens .now) (s .args .patient-antigens .now) (s .args .patient-antibodies .now))

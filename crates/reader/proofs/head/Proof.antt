@@ -9,7 +9,7 @@ use Rattle.refusal.specs.Fault.{none}
 use Rattle.refusal.specs.Number.{faultAt}
 use Rattle.refusal.proofs.Faults.{sound-none}
 use Rattle.pool.specs.Sheet.{pairsIn}
-use Rattle.pool.specs.Turned.{fieldFault, headFault}
+use Rattle.pool.specs.Faults.{fieldFault, headFault}
 use Rattle.pool.proofs.Fields.{field-passed}
 use Rattle.reader.proofs.Forward.{faulty-then, other-version, too-many, head-none}
 use Rattle.reader.proofs.head.Statement.{statement}

@@ -6,7 +6,7 @@ use lib.Dec.{lit≤}
 use Rattle.refusal.specs.Answer.{finished}
 use Rattle.refusal.specs.Fault.{none}
 use Rattle.pool.specs.Sheet.{pairsIn}
-use Rattle.pool.specs.Turned.{sheetFault}
+use Rattle.pool.specs.Faults.{sheetFault}
 use Rattle.pool.proofs.Reading.{sheet-passed}
 use Rattle.reader.specs.Said.{said}
 use Rattle.reader.proofs.Forward.{nothing-none, found-fault}

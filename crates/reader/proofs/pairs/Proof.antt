@@ -8,7 +8,7 @@ use Rattle.laws.proofs.Digits.{bigEndian-lt}
 use Rattle.refusal.specs.Fault.{none, firstBelow}
 use Rattle.refusal.proofs.Faults.{sound-none, faulty-fault, first-hit, first-more}
 use Rattle.pool.specs.Sheet.{pairPlace, pairAt}
-use Rattle.pool.specs.Turned.{pairFieldFault}
+use Rattle.pool.specs.Faults.{pairFieldFault}
 use Rattle.pool.specs.Faultless.{Field}
 use Rattle.pool.proofs.Fields.{field-passed}
 use Rattle.reader.specs.Said.{foundFault, Noted}

@@ -3,7 +3,7 @@ use mathlib.Core.Path.{_∙_}
 use borrow.Author.Needs.{needs}
 use Rattle.refusal.specs.Number.{faultAt}
 use Rattle.refusal.proofs.Faults.{sound-none}
-use Rattle.pool.specs.Turned.{shuffleFieldFault}
+use Rattle.pool.specs.Faults.{shuffleFieldFault}
 use Rattle.pool.proofs.Fields.{field-passed}
 use Rattle.pool.proofs.Pairs.{shuffle-cong}
 use Rattle.reader.proofs.Forward.{sound-then, faulty-then}
