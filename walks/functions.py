@@ -68,14 +68,14 @@ WALKS = [
                 call(14, 'clearing::clear', ['n', 16, 6, 18, 19], 'asks-clear _ _ _ _ pre _ _ _ _ {inv} more _ _ _ e1'),
             ],
             after=[give()],
-            inv='Turned {n} {weights₀} {choices₀} {tally₀} {weights} {choices} {tally} {i}',
+            inv='BeforeRound {n} {weights₀} {choices₀} {tally₀} {weights} {choices} {tally} {i}',
             start='begins _ _ _ _ pre',
             upto='{inv} .upto',
             long={'weights': '{inv} .long', 'choices': '{inv} .wide'},
             again='next _ _ _ _ pre _ _ _ _ {inv} more _ _ _ e1 _ _ e2',
         ),
     ], 'ends _ _ _ _ pre _ _ _ _ {inv} over', [
-        'use Rattle.rounds.proofs.Turns.{Turned, begins, ends, asks-choose, asks-clear, next}',
+        'use Rattle.rounds.proofs.Turns.{BeforeRound, begins, ends, asks-choose, asks-clear, next}',
     ]),
 
     Walk('planner', 'steps', 18, [
@@ -101,13 +101,10 @@ WALKS = [
         relend(18, 19, 'recipients'),
         call(11, 'plan_by_value', ['n', 'm', 'w', 'shuffle', 13, 15, 17, 19, 10]),
         relend(21, 22, 'records'),
-        call(20, 'records::write', [22, (11, 'records'), (11, 'cycles')], 'record { held = e1-1 .1; room = e1-1 .0 }'),
+        call(20, 'records::write', [22, (11, 'records'), (11, 'cycles')], 'record { held = e1 .held; room = e1 .fits }'),
         give((11, 'planning')),
-    ], [
-        'recorded {n} {m} {w} {shuffle} (weights .now) (choices .now) (donors .now) (recipients .now) {weights} {choices} {donors} {recipients} r1 (records .now) {records} e2 e1-0',
-        'recorded-guarantee {n} {m} {w} {shuffle} (weights .now) (choices .now) (donors .now) (recipients .now) {weights} {choices} {donors} {recipients} r1 (records .now) {records} e2 e1-2',
-    ], [
-        'use Rattle.planner.proofs.Recorded.{recorded, recorded-guarantee}',
+    ], 'recorded _ _ _ r1 (records .now) {records} e2 e1', [
+        'use Rattle.planner.proofs.Recorded.{recorded}',
     ]),
 
     Walk('vadivuzhen', 'vadivuzhen_plan', 21, [
@@ -139,7 +136,7 @@ WALKS = [
         let(11, 9),
         call(0, 'together', [10, 11]),
         give(0),
-    ], 'with-records {n} {m} {w} {shuffle} (weights .now) (choices .now) (donors .now) (recipients .now) {weights} {choices} {donors} {recipients} _ _ _ _ _ e1 e3 e2-0', [
+    ], 'with-records _ (lent (weights .now) (choices .now) (donors .now) (recipients .now)) (lent {weights} {choices} {donors} {recipients}) _ _ _ _ _ e1 e3 e2', [
         'use Rattle.pools.proofs.Lent.{with-records}',
     ]),
 ]

@@ -306,6 +306,23 @@ class Fn:
 
 # ## Sources
 
+# one value for several lent tables, at entry and at exit: what it is made of, and the module of both names
+BUNDLES = {'lentPlan': ('lent', 'Rattle.exchange.specs.Planning')}
+
+
+def unbundled(clause):
+    """A clause whose `let`s are written out: what a bundle of lent tables is at a moment, or the term itself."""
+    found = re.fullmatch(r'(.*?)let (\w+) = (.*?) in (.*)', clause)
+    if not found:
+        return clause
+    before, name, term, after = found.groups()
+    bundle, *tables = term.split()
+    for moment in ('entry', 'exit') if bundle in BUNDLES else ():
+        at = ' '.join(f'(now ({table} .{moment}))' for table in tables)
+        after = after.replace(f'({name} .{moment})', f'({BUNDLES[bundle][0]} {at})')
+    return unbundled(before + re.sub(rf'(?<![^\s(]){name}(?![^\s)])', lambda _: f'({term})', after))
+
+
 class Source:
     """A crate's source: src/lib.rt, or a program's src/main.rt."""
 
@@ -324,6 +341,7 @@ class Source:
         for module, names in re.findall(r'^ghost use (\S+)\.\{(.*?)\};', self.text, re.M):
             self.cited.update({name.split(' as ')[-1]: (module, name) for name in names.split(', ')})
         self.cited.update({name: (module, None) for module, name in re.findall(r'^ghost use (\S+) as (\w+);', self.text, re.M)})
+        self.cited.update({name: (module, name) for bundle, (name, module) in BUNDLES.items() if bundle in self.cited})
 
     def kind(self, name):
         array = re.fullmatch(r'\[(\w+); (\d+)\]', name)
@@ -340,7 +358,8 @@ class Source:
 
     def fn(self, name):
         given, result, contracts = re.search(rf'fn {name}\(([^)]*)\)(?: -> (\S+(?: \d+\])?))?\n(.*?)^\{{$', self.text, re.S | re.M).groups()
-        requires = re.search(r'requires \{ ⌜ (.*) ⌝ \}', contracts)
+        clauses = [unbundled(re.sub(r'\s+', ' ', clause).strip()) for clause in re.split(r'^    (?=requires|ensures)', contracts, flags=re.M)[1:]]
+        requires = next((found for clause in clauses if (found := re.fullmatch(r'requires \{ ⌜ (.*) ⌝ \}', clause))), None)
         params = [self.param(p) for p in given.split(',') if p.strip()]
         values = {p.name: p.name for p in params if not p.lent}
 
@@ -352,7 +371,7 @@ class Source:
             return text
 
         return Fn(self.crate, name, params, result and self.kind(result), requires and contract(requires[1], values),
-                  [contract(clause, {**values, r: 'r'}) for r, clause in re.findall(r'ensures(?: \w+)? \{ λ (\w+)\. ⌜ (.*) ⌝ \}', contracts)])
+                  [contract(clause[2], {**values, clause[1]: 'r'}) for clause in (re.fullmatch(r'ensures(?: \w+)? \{ λ (\w+)\. ⌜ (.*) ⌝ \}', clause) for clause in clauses) if clause])
 
     def citing(self, text, crate):
         """The imports of what a contract cites, as that crate names them."""

@@ -17,7 +17,7 @@ use Rattle.exchange.specs.Resolution.{total, donorTable, recipientTable}
 use Rattle.exchange.specs.Planning.{Lent, Plan, plan, leftBy, plannedBy, filledLent, planning}
 use Rattle.exchange.specs.Faultless.{FaultlessInput}
 use Rattle.exchange.proofs.Checked.{answers-rightly}
-use Rattle.exchange.proofs.Seated.{Seated}
+use Rattle.exchange.proofs.Inverse.{Invertible}
 use Rattle.exchange.proofs.Planned.{planned-set}
 use Rattle.exchange.proofs.Diagonal.{left-agree, planned-agree, total-agree}
 use Rattle.cursor.proofs.Number.{six-times}
@@ -115,7 +115,7 @@ module _ (n : ℕ) (M W s : List ℕ) (p : FaultlessTables n M W s) (t : Lent) w
 
 -- ## The entries of two different pairs are read, and no others
 
-module _ (n : ℕ) (m k w v : ℕ → ℕ → ℕ) (s : List ℕ) (sh : Seated n s) (bits : (i j : ℕ) → i < n → j < n → m i j ≤ 1)
+module _ (n : ℕ) (m k w v : ℕ → ℕ → ℕ) (s : List ℕ) (sh : Invertible n s) (bits : (i j : ℕ) → i < n → j < n → m i j ≤ 1)
     (alike : (i j : ℕ) → i < n → j < n → m i j ≡ k i j) (agree : (i j : ℕ) → i < n → j < n → w i j ≡ v i j) where
   pub plan-agree : (ids : List ℕ) → planBy n ids m w s ≡ planBy n ids k v s
   unfolding planBy

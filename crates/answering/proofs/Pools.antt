@@ -23,7 +23,7 @@ use Rattle.weighing.specs.declared.Building.{Building}
 use Rattle.weighing.specs.declared.Building.the-variants.{Refused}
 use Rattle.exchange.specs.Subsets.{entry}
 use Rattle.exchange.specs.Faultless.{Compatibility}
-use Rattle.exchange.proofs.Seated.{Seated, seated}
+use Rattle.exchange.proofs.Inverse.{Invertible, invertible}
 use Rattle.answering.specs.Answering.{planBy, planOf}
 use Rattle.answering.specs.Steps.{Read, FaultlessTables}
 use Rattle.answering.proofs.Plans.{square-most, plan-agree}
@@ -39,8 +39,8 @@ module _ (n : ℕ) (pair : ℕ → Pair) (s : ℕ → ℕ) (w : Faultless n pair
   pub each-once : EachOnce n (λ j. getD (table n s) j 0)
   each-once = faultless-cong n pair pair s _ (λ i l. refl) (λ j l. sym (getD-table n s 0 j l)) w .eachOnce
 
-  pub shuffle-seated : Seated n (table n s)
-  shuffle-seated = seated n (table n s) (omega (arith, length-table n s)) each-once
+  pub shuffle-seated : Invertible n (table n s)
+  shuffle-seated = invertible n (table n s) (omega (arith, length-table n s)) each-once
 
   -- its plan depends on its n pairs alone
   pub same-plan : (other : ℕ → Pair) (t : ℕ → ℕ) → ((i : ℕ) → i < n → pair i ≡ other i) → table n s ≡ table n t → planOf n pair s ≡ planOf n other t

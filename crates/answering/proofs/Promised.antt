@@ -16,13 +16,13 @@ use Rattle.weighing.specs.Weight.{documentPoints, mismatches, mismatchPoints, a
 use Rattle.weighing.proofs.Promised.{compatibility-most, rightly}
 use Rattle.greedy.specs.Places.{among, meets}
 use Rattle.greedy.specs.Tally.{raise, nextRound}
-use Rattle.greedy.specs.Rounds.{join, byHalves, choosing, clear, clearing, rounds}
-use Rattle.exchange.specs.Subsets.{ascending, subsets, eachFirst, orders, cycles, along, edges, entry, productOf, sumOf, weigh, firstOf, heaviest, pairsAt, bestCycle, subsetWeight, evaluating}
+use Rattle.greedy.specs.Rounds.{join, byHalves, choosing, clear, clearingTally, rounds}
+use Rattle.exchange.specs.Subsets.{ascending, subsets, eachFirst, orders, cycles, along, edges, entry, productOf, sumOf, weigh, firstOf, heaviest, pairsAt, bestCycle, subsetWeight, evaluationTally}
 use Rattle.exchange.specs.Resolution.{resolved, recipientBy, donorBy, recipientTable, donorTable, total}
 use Rattle.exchange.specs.Planning.{leftBy, plannedBy}
 use Rattle.exchange.specs.Algorithm1 as Algorithm1
 use Rattle.exchange.specs.Rivals.{Each}
-use Rattle.exchange.proofs.Seated.{Seated}
+use Rattle.exchange.proofs.Inverse.{Invertible}
 use Rattle.exchange.proofs.Sets.{Inside}
 use Rattle.exchange.proofs.Planned.{planned-set, rival-factor, all-count}
 use Rattle.exchange.proofs.Tallied.{tallied}
@@ -60,7 +60,7 @@ plans-guaranteed n pair s w =
     let m : ℕ → ℕ → ℕ = compatibility pair in
     let v : ℕ → ℕ → ℕ = weight documentPoints pair in
     let l : List ℕ = table n s in
-    let sh : Seated n l = shuffle-seated n pair s w in
+    let sh : Invertible n l = shuffle-seated n pair s w in
     let chosen : List (List ℕ) = Algorithm1.chosenCycles 0 3 n m v l in
     let inside : Each (Inside n) (flatMap edges chosen) = edges-all n chosen (cycles-below 0 3 n m v l) in
     record {
@@ -79,7 +79,7 @@ pub example-answered : ExampleAnswered
 unfolding answerText orRefusal planOf planBy planText pairLines pairLine partner line decimal digitsWithin flatMap flatten table either anyBelow
     countBelow one bigEndian refuse _then_ firstBelow pairsIn pairAt shuffleAt groupFault idFault pairFault shuffleFault fieldFault headFault
     pairFieldFault shuffleFieldFault endFault sheetFault roomFault bloodTable suits has shareBit compatibility documentPoints mismatches
-    mismatchPoints agePoints weight among meets raise nextRound join byHalves choosing clear clearing rounds ascending subsets eachFirst orders
-    cycles along edges productOf sumOf weigh firstOf heaviest pairsAt bestCycle subsetWeight evaluating resolved recipientBy donorBy
+    mismatchPoints agePoints weight among meets raise nextRound join byHalves choosing clear clearingTally rounds ascending subsets eachFirst orders
+    cycles along edges productOf sumOf weigh firstOf heaviest pairsAt bestCycle subsetWeight evaluationTally resolved recipientBy donorBy
     recipientTable donorTable total leftBy plannedBy xor
 example-answered = refl

@@ -8,16 +8,17 @@ use Rattle.greedy.specs.Tally as Tallies
 use Rattle.greedy.specs.Tally.{nextRound}
 use Rattle.greedy.specs.Rounds as Rounds
 use Rattle.greedy.specs.Rounds.{choosing}
-use Rattle.exchange.specs.Subsets.{subsets}
+use Rattle.exchange.specs.Input.{noFloor}
+use Rattle.exchange.specs.Subsets.{upToThree, order}
 use Rattle.gates.specs.Counts.{counted}
 use Rattle.gates.specs.Secrets.{valueOf}
 use Rattle.gates.specs.declared.Tally.{Tally}
 use Rattle.cursor.specs.Cursor.{placesAt, shown}
-use Rattle.choosing.specs.Parts.{chosenBy, choiceOf, Whole, Turn}
+use Rattle.choosing.specs.Parts.{choiceMade, choiceOf, Whole, Turn}
 use Rattle.choosing.specs.declared.Chosen.{Chosen}
 
-module _ (n : ℕ) (ws cs : List ℕ) (k : ℕ) (t : Tally) (asked : Turn n ws cs k t) (v : Tally) (ev : counted v ≡ nextRound (counted t)) where
-  pub asks-choice : Whole n ws v
+module _ (n : ℕ) (ws cs : List ℕ) (k : ℕ) (t : Tally) (asked : Turn (upToThree n) ws cs k t) (v : Tally) (ev : counted v ≡ nextRound (counted t)) where
+  pub asks-choice : Whole (upToThree n) ws v
   unfolding nextRound
   asks-choice = record {
     few = asked .all .few;
@@ -29,13 +30,13 @@ module _ (n : ℕ) (ws cs : List ℕ) (k : ℕ) (t : Tally) (asked : Turn n ws c
     };
   }
 
-  module _ (c : Chosen) (ec : (chosenBy c ≡ choosing 0 (subsets 3 n) ws (counted v)) × (shown (c .at) ≡ placesAt n (valueOf (c .number)))) where
-    chosen-is : chosenBy c ≡ choiceOf n ws t
-    chosen-is = ec .0 ∙ ap (choosing 0 (subsets 3 n) ws) ev
+  module _ (c : Chosen) (ec : (choiceMade c ≡ choosing noFloor (order (upToThree n)) ws (counted v)) × (shown (c .at) ≡ placesAt (upToThree n) (valueOf (c .number)))) where
+    chosen-is : choiceMade c ≡ choiceOf (upToThree n) ws t
+    chosen-is = ec .0 ∙ ap (choosing noFloor (order (upToThree n)) ws) ev
 
-    number-is : valueOf (c .number) ≡ choiceOf n ws t .number
+    number-is : valueOf (c .number) ≡ choiceOf (upToThree n) ws t .number
     number-is = ap (λ (x : Rounds.Chosen). x .number) chosen-is
 
     pub stored-is : (after : List ℕ) → after ≡ set cs k (valueOf (c .number))
-        → (after ≡ set cs k (choiceOf n ws t .number)) × (counted (c .tally) ≡ choiceOf n ws t .tally) × (shown (c .at) ≡ placesAt n (choiceOf n ws t .number))
-    stored-is after e = (e ∙ ap (set cs k) number-is, ap (λ (x : Rounds.Chosen). x .tally) chosen-is, ec .1 ∙ ap (placesAt n) number-is)
+        → (after ≡ set cs k (choiceOf (upToThree n) ws t .number)) × (counted (c .tally) ≡ choiceOf (upToThree n) ws t .tally) × (shown (c .at) ≡ placesAt (upToThree n) (choiceOf (upToThree n) ws t .number))
+    stored-is after e = (e ∙ ap (set cs k) number-is, ap (λ (x : Rounds.Chosen). x .tally) chosen-is, ec .1 ∙ ap (placesAt (upToThree n)) number-is)

@@ -11,15 +11,16 @@ use Rattle.greedy.specs.Tally as Tallies
 use Rattle.greedy.specs.Tally.{raise}
 use Rattle.greedy.specs.Rounds as Rounds
 use Rattle.greedy.specs.Rounds.{Winner, choosing}
-use Rattle.exchange.specs.Subsets.{subsets}
-use Rattle.gates.specs.Counts.{counted, Raised, Room}
+use Rattle.exchange.specs.Input.{noFloor}
+use Rattle.exchange.specs.Subsets.{upToThree, order, subsetCount}
+use Rattle.gates.specs.Counts.{counted, Raised, TallyRoom}
 use Rattle.gates.specs.Secrets.{valueOf}
 use Rattle.gates.specs.declared.Tally.{Tally}
 use Rattle.gates.proofs.Gates.{pick-by, raised}
 use Rattle.cursor.specs.Cursor.{places, shown, placesAt}
 use Rattle.cursor.specs.declared.Places.{Places}
 use Rattle.cursor.proofs.Order.{past as none-past}
-use Rattle.choosing.specs.Parts.{chosenBy, Part, Whole}
+use Rattle.choosing.specs.Parts.{choiceMade, Part, Whole}
 use Rattle.choosing.specs.declared.Best.{Best}
 use Rattle.choosing.specs.declared.Won.{Won}
 use Rattle.choosing.specs.declared.Chosen.{Chosen}
@@ -32,12 +33,12 @@ places-are e f g = cc
 chosens : {i i′ : ℕ} {t t′ : Tallies.Tally} → i ≡ i′ → t ≡ t′ → _≡_ {A = Rounds.Chosen} (record { number = i; tally = t }) (record { number = i′; tally = t′ })
 chosens e f = cc
 
-module _ (n : ℕ) (ws : List ℕ) (t : Tally) (asked : Whole n ws t) where
-  pub asks-part : (p : Places) → p ≡ placesAt n 0 → Part n ws 0 p t
+module _ (n : ℕ) (ws : List ℕ) (t : Tally) (asked : Whole (upToThree n) ws t) where
+  pub asks-part : (p : Places) → p ≡ placesAt (upToThree n) 0 → Part (upToThree n) ws 0 p t
   asks-part p e = record { few = asked .few; some = asked .some; within = omega (arith, asked .whole); there = e; room = asked .room }
 
   module _ (r : Won) (er : Ensured n ws 0 t r) where
-    pub room-test : Room 1 4 (r .tally)
+    pub room-test : TallyRoom 1 4 (r .tally)
     room-test = record {
       comparisons = omega (
         arith,
@@ -55,19 +56,19 @@ module _ (n : ℕ) (ws : List ℕ) (t : Tally) (asked : Whole n ws t) where
 
     pub chosen : (c : Chosen) → valueOf (c .number) ≡ cond (ltb 0 (valueOf (r .best .weight))) (valueOf (r .best .number)) (length ws)
         → shown (c .at) ≡ cond (ltb 0 (valueOf (r .best .weight))) (shown (r .best .at)) (places n n n) → Raised 1 4 (r .tally) (c .tally)
-        → (chosenBy c ≡ choosing 0 (subsets 3 n) ws (counted t)) × (shown (c .at) ≡ placesAt n (valueOf (c .number)))
+        → (choiceMade c ≡ choosing noFloor (order (upToThree n)) ws (counted t)) × (shown (c .at) ≡ placesAt (upToThree n) (valueOf (c .number)))
     unfolding choosing
     chosen c ei ea es = (
       chosens
           (ei ∙ ap (λ (k : ℕ). cond (ltb 0 (valueOf (r .best .weight))) (valueOf (r .best .number)) k) (asked .whole)
-          ∙ ap (λ (x : Winner). cond (ltb 0 (x .weight)) (x .number) (length (subsets 3 n))) (er .0))
+          ∙ ap (λ (x : Winner). cond (ltb 0 (x .weight)) (x .number) (subsetCount (upToThree n))) (er .0))
           (raised 1 4 (r .tally) (c .tally) es ∙ ap (λ (x : Winner). raise 1 4 (x .tally)) (er .0)),
       ea ∙ go (ltb 0 (valueOf (r .best .weight))) ei,
     )
       where
         go : (b : Bool) → valueOf (c .number) ≡ cond b (valueOf (r .best .number)) (length ws)
-            → cond b (shown (r .best .at)) (places n n n) ≡ placesAt n (valueOf (c .number))
-        go true e = er .1 ∙ ap (placesAt n) (sym e)
+            → cond b (shown (r .best .at)) (places n n n) ≡ placesAt (upToThree n) (valueOf (c .number))
+        go true e = er .1 ∙ ap (placesAt (upToThree n)) (sym e)
         go false e = sym (none-past n (valueOf (c .number)) (omega (arith, asked .whole)))
 
 -- ## The test by gates
@@ -81,13 +82,13 @@ module _ (n none : ℕ) (best : Best) (zero′ bit : ℕ) (ez : zero′ ≡ 0) (
   by x y y′ k e ey =
       pick-by above bit x y k (eb ∙ ap (λ (z : ℕ). one (ltb z (valueOf (best .weight)))) ez) (e ∙ ap (cond (eqb bit 1) x) ey)
 
-  pub number-is : (past i : ℕ) → past ≡ none → i ≡ cond (eqb bit 1) (valueOf (best .number)) past → i ≡ cond (ltb 0 (valueOf (best .weight))) (valueOf (best .number)) none
+  pub number-is : (past i : ℕ) → past ≡ none → i ≡ cond (eqb bit 1) (valueOf (best .number)) past → i ≡ cond (ltb noFloor (valueOf (best .weight))) (valueOf (best .number)) none
   unfolding above
   number-is past i ep ei = by _ _ _ i ei ep
 
   pub places-are-tested : (nowhere u v w : ℕ) → nowhere ≡ n
       → u ≡ cond (eqb bit 1) (valueOf (best .at .u)) nowhere → v ≡ cond (eqb bit 1) (valueOf (best .at .v)) nowhere → w ≡ cond (eqb bit 1) (valueOf (best .at .w)) nowhere
-      → places u v w ≡ cond (ltb 0 (valueOf (best .weight))) (shown (best .at)) (places n n n)
+      → places u v w ≡ cond (ltb noFloor (valueOf (best .weight))) (shown (best .at)) (places n n n)
   unfolding above
   places-are-tested nowhere u v w en eu ev ew = places-are (by _ _ _ u eu en) (by _ _ _ v ev en) (by _ _ _ w ew en) ∙ go above
     where

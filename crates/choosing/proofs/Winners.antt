@@ -8,14 +8,14 @@ use lib.Dec.{ltb}
 use lib.ListN.{length, getD, take, drop}
 use Rattle.greedy.specs.Rounds.{Winner, winner, join}
 use Rattle.greedy.specs.Tally.{raise}
-use Rattle.exchange.specs.Subsets.{subsets}
-use Rattle.gates.specs.Counts.{counted, Raised, Room}
+use Rattle.exchange.specs.Subsets.{upToThree, subsetCount}
+use Rattle.gates.specs.Counts.{counted, Raised, TallyRoom}
 use Rattle.gates.specs.Secrets.{valueOf}
 use Rattle.gates.specs.declared.Secret.{Secret}
 use Rattle.gates.specs.declared.SecretPlaces.{SecretPlaces}
 use Rattle.gates.specs.declared.Tally.{Tally}
 use Rattle.gates.proofs.Gates.{raised}
-use Rattle.cursor.specs.Cursor.{InRange, placesAt, shown}
+use Rattle.cursor.specs.Cursor.{OnSubset, placesAt, shown}
 use Rattle.cursor.specs.declared.Places.{Places}
 use Rattle.cursor.proofs.Number.{count-le}
 use Rattle.cursor.proofs.Order.{in-range}
@@ -33,46 +33,46 @@ right-length ws = ap length (right-is ws) ∙ length-right ws
 
 -- what `choose_part` ensures of a part whose first number is i
 abbrev pub Ensured : ℕ → List ℕ → ℕ → Tally → Won → Type 0
-Ensured n ws i t r = (wonBy r ≡ won i ws (counted t)) × (shown (r .best .at) ≡ placesAt n (valueOf (r .best .number))) × (r .next ≡ placesAt n (i + length ws))
+Ensured n ws i t r = (wonBy r ≡ won i ws (counted t)) × (shown (r .best .at) ≡ placesAt (upToThree n) (valueOf (r .best .number))) × (r .next ≡ placesAt (upToThree n) (i + length ws))
 
 -- ## One subset
 
-module _ (n i : ℕ) (p : Places) (asked : Standing n i p) where
-  pub ranged : InRange n p
+module _ (n i : ℕ) (p : Places) (asked : Standing (upToThree n) i p) where
+  pub ranged : OnSubset n p
   ranged = in-range n i (asked .few) (asked .within) p (asked .there)
 
   pub number-few : i < 1333333
   number-few = omega (arith, asked .within, count-le n (asked .few))
 
   pub is-single : (w k : Secret) (at : SecretPlaces) → valueOf k ≡ i → shown at ≡ p
-      → (next : Places) → ((k : ℕ) → k < length (subsets 3 n) → p ≡ placesAt n k → next ≡ placesAt n (k + 1)) → (t : Tally)
-      → (winner (valueOf w) (valueOf k) (counted t) ≡ winner (valueOf w) i (counted t)) × (shown at ≡ placesAt n i) × (next ≡ placesAt n (i + 1))
+      → (next : Places) → ((k : ℕ) → k < subsetCount (upToThree n) → p ≡ placesAt (upToThree n) k → next ≡ placesAt (upToThree n) (k + 1)) → (t : Tally)
+      → (winner (valueOf w) (valueOf k) (counted t) ≡ winner (valueOf w) i (counted t)) × (shown at ≡ placesAt (upToThree n) i) × (next ≡ placesAt (upToThree n) (i + 1))
   is-single w k at ek ea next e t = (ap (λ (x : ℕ). winner (valueOf w) x (counted t)) ek, ea ∙ asked .there, e i (asked .within) (asked .there))
 
 -- ## A part
 
-module _ (n : ℕ) (ws : List ℕ) (i : ℕ) (p : Places) (t : Tally) (asked : Part n ws i p t) where
-  first-in : i < length (subsets 3 n)
+module _ (n : ℕ) (ws : List ℕ) (i : ℕ) (p : Places) (t : Tally) (asked : Part (upToThree n) ws i p t) where
+  first-in : i < subsetCount (upToThree n)
   first-in = omega (arith, asked .some, asked .within)
 
   pub index-few : i + length ws ≤ 1333333
   index-few = omega (arith, asked .within, count-le n (asked .few))
 
-  pub asks-single : Standing n i p
+  pub asks-single : Standing (upToThree n) i p
   asks-single = record { few = asked .few; within = first-in; there = asked .there }
 
   -- one weight
   pub one-weight : length ws ≤ 1 → (w : Secret) → valueOf w ≡ getD ws 0 0
-      → (r : Won) → (wonBy r ≡ winner (valueOf w) i (counted t)) × (shown (r .best .at) ≡ placesAt n i) × (r .next ≡ placesAt n (i + 1)) → Ensured n ws i t r
+      → (r : Won) → (wonBy r ≡ winner (valueOf w) i (counted t)) × (shown (r .best .at) ≡ placesAt (upToThree n) i) × (r .next ≡ placesAt (upToThree n) (i + 1)) → Ensured n ws i t r
   one-weight h w ew r e =
       let l : 1 ≡ length ws = omega (arith, asked .some) in (
         e .0 ∙ ap (λ (x : ℕ). winner x i (counted t)) ew ∙ one-left i ws (counted t) (asked .some) h,
-        e .1 ∙ ap (placesAt n) (sym (ap (λ (x : Winner). x .number) (e .0))),
-        e .2 ∙ ap (λ (k : ℕ). placesAt n (i + k)) l,
+        e .1 ∙ ap (placesAt (upToThree n)) (sym (ap (λ (x : Winner). x .number) (e .0))),
+        e .2 ∙ ap (λ (k : ℕ). placesAt (upToThree n) (i + k)) l,
       )
 
   module _ (more : 1 < length ws) where
-    pub asks-left : Part n (take (length ws / 2) ws) i p t
+    pub asks-left : Part (upToThree n) (take (length ws / 2) ws) i p t
     asks-left = record {
       few = asked .few;
       some = omega (arith, length-left ws);
@@ -92,12 +92,12 @@ module _ (n : ℕ) (ws : List ℕ) (i : ℕ) (p : Places) (t : Tally) (asked : P
           ap (λ (w : Winner). w .tally .products) (el .0)
           ∙ won-products i (take (length ws / 2) ws) (counted t) (asks-left .some) ∙ ap (λ (k : ℕ). t .products + 5 * (k - 1)) (length-left ws)
 
-      pub asks-right : Part n (rightOf ws) (i + length ws / 2) (l .next) (l .tally)
+      pub asks-right : Part (upToThree n) (rightOf ws) (i + length ws / 2) (l .next) (l .tally)
       asks-right = record {
         few = asked .few;
         some = omega (arith, right-length ws);
         within = omega (arith, asked .within, right-length ws);
-        there = el .2 ∙ ap (λ (k : ℕ). placesAt n (i + k)) (length-left ws);
+        there = el .2 ∙ ap (λ (k : ℕ). placesAt (upToThree n) (i + k)) (length-left ws);
         room = record {
           comparisons = omega (arith, asked .room .comparisons, right-length ws, left-comparisons);
           products = omega (arith, asked .room .products, right-length ws, left-products);
@@ -113,13 +113,13 @@ module _ (n : ℕ) (ws : List ℕ) (i : ℕ) (p : Places) (t : Tally) (asked : P
         right-products =
             ap (λ (w : Winner). w .tally .products) (er .0) ∙ won-products (i + length ws / 2) (rightOf ws) (counted (l .tally)) (asks-right .some)
 
-        pub left-room : Room 1 5 (l .tally)
+        pub left-room : TallyRoom 1 5 (l .tally)
         left-room = record {
           comparisons = omega (arith, asked .room .comparisons, left-comparisons);
           products = omega (arith, asked .room .products, left-products);
         }
 
-        pub join-room : Room 1 5 (r .tally)
+        pub join-room : TallyRoom 1 5 (r .tally)
         join-room = record {
           comparisons = omega (arith, asked .room .comparisons, right-length ws, left-comparisons, right-comparisons);
           products = omega (arith, asked .room .products, right-length ws, left-products, right-products);
@@ -139,7 +139,7 @@ module _ (n : ℕ) (ws : List ℕ) (i : ℕ) (p : Places) (t : Tally) (asked : P
         both b eb u eu = (
           by-case (ltb (valueOf (l .best .weight)) (valueOf (r .best .weight))) eb ∙ winners-are,
           at-case (ltb (valueOf (l .best .weight)) (valueOf (r .best .weight))) eb,
-          er .2 ∙ ap (placesAt n) (omega (arith, right-length ws)),
+          er .2 ∙ ap (placesAt (upToThree n)) (omega (arith, right-length ws)),
         )
           where
             by-case : (z : Bool) → b ≡ cond z (r .best) (l .best)
@@ -147,6 +147,6 @@ module _ (n : ℕ) (ws : List ℕ) (i : ℕ) (p : Places) (t : Tally) (asked : P
             by-case true e = ap (λ (x : Best). winner (valueOf (x .weight)) (valueOf (x .number)) (counted u)) e ∙ ap (winner (valueOf (r .best .weight)) (valueOf (r .best .number))) (raised 1 5 (r .tally) u eu)
             by-case false e = ap (λ (x : Best). winner (valueOf (x .weight)) (valueOf (x .number)) (counted u)) e ∙ ap (winner (valueOf (l .best .weight)) (valueOf (l .best .number))) (raised 1 5 (r .tally) u eu)
 
-            at-case : (z : Bool) → b ≡ cond z (r .best) (l .best) → shown (b .at) ≡ placesAt n (valueOf (b .number))
-            at-case true e = ap (λ (x : Best). shown (x .at)) e ∙ er .1 ∙ ap (λ (x : Best). placesAt n (valueOf (x .number))) (sym e)
-            at-case false e = ap (λ (x : Best). shown (x .at)) e ∙ el .1 ∙ ap (λ (x : Best). placesAt n (valueOf (x .number))) (sym e)
+            at-case : (z : Bool) → b ≡ cond z (r .best) (l .best) → shown (b .at) ≡ placesAt (upToThree n) (valueOf (b .number))
+            at-case true e = ap (λ (x : Best). shown (x .at)) e ∙ er .1 ∙ ap (λ (x : Best). placesAt (upToThree n) (valueOf (x .number))) (sym e)
+            at-case false e = ap (λ (x : Best). shown (x .at)) e ∙ el .1 ∙ ap (λ (x : Best). placesAt (upToThree n) (valueOf (x .number))) (sym e)

@@ -4,8 +4,9 @@ use mathlib.Core.Path.{_≡_}
 use mathlib.Core.List.{List}
 use lib.ListN.{length}
 use Rattle.greedy.specs.Rounds as Rounds
-use Rattle.exchange.specs.Subsets.{subsets}
-use Rattle.gates.specs.Counts.{counted, Room}
+use Rattle.exchange.specs.Subsets.{Scope, order, subsetCount}
+use Rattle.exchange.specs.Input.{noFloor}
+use Rattle.gates.specs.Counts.{counted, TallyRoom}
 use Rattle.gates.specs.Secrets.{valueOf}
 use Rattle.gates.specs.declared.Tally.{Tally}
 use Rattle.cursor.specs.Cursor.{placesAt}
@@ -18,36 +19,36 @@ abbrev pub wonBy : Won → Rounds.Winner
 wonBy r = Rounds.winner (valueOf (r .best .weight)) (valueOf (r .best .number)) (counted (r .tally))
 
 -- the definitions' choice
-abbrev pub chosenBy : Chosen → Rounds.Chosen
-chosenBy r = record { number = valueOf (r .number); tally = counted (r .tally) }
+abbrev pub choiceMade : Chosen → Rounds.Chosen
+choiceMade r = record { number = valueOf (r .number); tally = counted (r .tally) }
 
 -- the choice of a round that begins with the tally t
-abbrev pub choiceOf : ℕ → List ℕ → Tally → Rounds.Chosen
-choiceOf n weights t = Rounds.chosenIn 0 (subsets 3 n) weights (counted t)
+abbrev pub choiceOf : Scope → List ℕ → Tally → Rounds.Chosen
+choiceOf q weights t = Rounds.chosenIn noFloor (order q) weights (counted t)
 
 -- the cursor stands at the subset of this number
-pub record Standing (n number : ℕ) (p : Places) : Type 0 where
-  pub few : n ≤ 200
-  pub within : number < length (subsets 3 n)
-  pub there : p ≡ placesAt n number
+pub record Standing (q : Scope) (number : ℕ) (p : Places) : Type 0 where
+  pub few : q .pairs ≤ 200
+  pub within : number < subsetCount q
+  pub there : p ≡ placesAt q number
 
 -- a part of the weights, whose first number is `first`, where the cursor stands
-pub record Part (n : ℕ) (weights : List ℕ) (first : ℕ) (p : Places) (t : Tally) : Type 0 where
-  pub few : n ≤ 200
+pub record Part (q : Scope) (weights : List ℕ) (first : ℕ) (p : Places) (t : Tally) : Type 0 where
+  pub few : q .pairs ≤ 200
   pub some : 0 < length weights
-  pub within : first + length weights ≤ length (subsets 3 n)
-  pub there : p ≡ placesAt n first
-  pub room : Room (length weights) (5 * length weights) t
+  pub within : first + length weights ≤ subsetCount q
+  pub there : p ≡ placesAt q first
+  pub room : TallyRoom (length weights) (5 * length weights) t
 
 -- all weights, and there are some
-pub record Whole (n : ℕ) (weights : List ℕ) (t : Tally) : Type 0 where
-  pub few : n ≤ 200
+pub record Whole (q : Scope) (weights : List ℕ) (t : Tally) : Type 0 where
+  pub few : q .pairs ≤ 200
   pub some : 0 < length weights
-  pub whole : length weights ≡ length (subsets 3 n)
-  pub room : Room (length weights) (5 * length weights) t
+  pub whole : length weights ≡ subsetCount q
+  pub room : TallyRoom (length weights) (5 * length weights) t
 
 -- round k: all weights, and a place for its choice
-pub record Turn (n : ℕ) (weights choices : List ℕ) (k : ℕ) (t : Tally) : Type 0 where
-  pub all : Whole n weights t
+pub record Turn (q : Scope) (weights choices : List ℕ) (k : ℕ) (t : Tally) : Type 0 where
+  pub all : Whole q weights t
   pub within : k < length choices
   pub rounds : t .rounds + 1 < 2 ^ 64

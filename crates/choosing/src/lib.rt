@@ -10,11 +10,15 @@ ghost use Prim.Native.Nat.{_+_, _^_, _<_};
 ghost use lib.Dec.{ltb};
 ghost use lib.ListN.{length, set};
 ghost use Rattle.greedy.specs.Rounds.{winner, byHalves, choosing};
-ghost use Rattle.exchange.specs.Subsets.{subsets};
-ghost use Rattle.gates.specs.Counts.{counted, Room, Raised};
+ghost use Rattle.exchange.specs.Subsets.{upToThree, order};
+ghost use Rattle.exchange.specs.Input.{noFloor};
+ghost use Rattle.gates.specs.Counts.{counted, TallyRoom, Raised};
 ghost use Rattle.gates.specs.Secrets.{valueOf};
-ghost use Rattle.cursor.specs.Cursor.{InRange, places, shown, placesAt};
-ghost use Rattle.choosing.specs.Parts.{wonBy, chosenBy, choiceOf, Standing, Part, Whole, Turn};
+ghost use Rattle.cursor.specs.Cursor.{OnSubset, places, shown, placesAt};
+ghost use Rattle.choosing.specs.Parts.{wonBy, choiceMade, choiceOf, Standing, Part, Whole, Turn};
+
+// What a subset must weigh more than to be chosen.
+const FLOOR: usize = 0;
 
 // A winner: its weight, its number and its places.
 pub struct Best {
@@ -51,7 +55,7 @@ pub struct Placed {
 
 // The heavier of two winners, the left on a tie: 1 comparison and 5 products.
 fn join(a: Best, b: Best, t: Tally) -> Joined
-    requires { ⌜ Room 1 5 t ⌝ }
+    requires { ⌜ TallyRoom 1 5 t ⌝ }
     ensures { λ r. ⌜ (r .best ≡ cond (ltb (valueOf (a .weight)) (valueOf (b .weight))) b a) × Raised 1 5 t (r .tally) ⌝ }
 {
     let right = gates::comparison(a.weight, b.weight, t);
@@ -80,7 +84,7 @@ fn join(a: Best, b: Best, t: Tally) -> Joined
 
 // A subset's places, as secrets.
 fn hidden(n: usize, p: Places) -> SecretPlaces
-    requires { ⌜ InRange n p ⌝ }
+    requires { ⌜ OnSubset n p ⌝ }
     ensures { λ r. ⌜ shown r ≡ p ⌝ }
 {
     let u = gates::known(p.u);
@@ -91,8 +95,11 @@ fn hidden(n: usize, p: Places) -> SecretPlaces
 
 // The winner of a part that is one subset, of this weight and number, where the cursor stands at u, v, w.
 fn single(n: usize, weight: Secret, number: usize, u: usize, v: usize, w: usize, t: Tally) -> Won
-    requires { ⌜ Standing n number (places u v w) ⌝ }
-    ensures { λ r. ⌜ (wonBy r ≡ winner (valueOf weight) number (counted t)) × (shown (r .best .at) ≡ placesAt n number) × (r .next ≡ placesAt n (number + 1)) ⌝ }
+    requires { ⌜ Standing (upToThree n) number (places u v w) ⌝ }
+    ensures { λ r.
+        ⌜ (wonBy r ≡ winner (valueOf weight) number (counted t))
+        × (shown (r .best .at) ≡ placesAt (upToThree n) number)
+        × (r .next ≡ placesAt (upToThree n) (number + 1)) ⌝ }
 {
     let p = Places { u: u, v: v, w: w };
     let at = hidden(n, p);
@@ -121,8 +128,11 @@ fn choose_part(
     w: usize,
     t: Tally,
 ) -> Won
-    requires { ⌜ Part n (now weights) first (places u v w) t ⌝ }
-    ensures { λ r. ⌜ (wonBy r ≡ byHalves (length (now (weights .entry))) first (now (weights .entry)) (counted t)) × (shown (r .best .at) ≡ placesAt n (valueOf (r .best .number))) × (r .next ≡ placesAt n (first + length (now (weights .entry)))) ⌝ }
+    requires { ⌜ Part (upToThree n) (now weights) first (places u v w) t ⌝ }
+    ensures { λ r.
+        ⌜ (wonBy r ≡ byHalves (length (now (weights .entry))) first (now (weights .entry)) (counted t))
+        × (shown (r .best .at) ≡ placesAt (upToThree n) (valueOf (r .best .number)))
+        × (r .next ≡ placesAt (upToThree n) (first + length (now (weights .entry)))) ⌝ }
 {
     if weights.len() <= 1 {
         return single(n, gates::load_u32(weights, 0), first, u, v, w, t);
@@ -140,8 +150,11 @@ fn choose_halves(
     w: usize,
     t: Tally,
 ) -> Won
-    requires { ⌜ Part n (now weights) first (places u v w) t × (1 < length (now weights)) ⌝ }
-    ensures { λ r. ⌜ (wonBy r ≡ byHalves (length (now (weights .entry))) first (now (weights .entry)) (counted t)) × (shown (r .best .at) ≡ placesAt n (valueOf (r .best .number))) × (r .next ≡ placesAt n (first + length (now (weights .entry)))) ⌝ }
+    requires { ⌜ Part (upToThree n) (now weights) first (places u v w) t × (1 < length (now weights)) ⌝ }
+    ensures { λ r.
+        ⌜ (wonBy r ≡ byHalves (length (now (weights .entry))) first (now (weights .entry)) (counted t))
+        × (shown (r .best .at) ≡ placesAt (upToThree n) (valueOf (r .best .number)))
+        × (r .next ≡ placesAt (upToThree n) (first + length (now (weights .entry)))) ⌝ }
 {
     let half = weights.len() / 2;
     let left = choose_part(n, &weights[..half], first, u, v, w, t);
@@ -165,15 +178,18 @@ fn choose_halves(
     }
 }
 
-// The final test: the winner, or none where it weighs 0. 1 comparison and 4 products; `none` is the number of all subsets.
+// The final test: the winner, or none where it is not above the floor. 1 comparison and 4 products; `none` is the number of all subsets.
 fn final_test(n: usize, none: usize, best: Best, t: Tally) -> Chosen
-    requires { ⌜ (n < 2 ^ 32) × (none < 2 ^ 32) × Room 1 4 t ⌝ }
-    ensures { λ r. ⌜ (valueOf (r .number) ≡ cond (ltb 0 (valueOf (best .weight))) (valueOf (best .number)) none) × (shown (r .at) ≡ cond (ltb 0 (valueOf (best .weight))) (shown (best .at)) (places n n n)) × Raised 1 4 t (r .tally) ⌝ }
+    requires { ⌜ (n < 2 ^ 32) × (none < 2 ^ 32) × TallyRoom 1 4 t ⌝ }
+    ensures { λ r.
+        ⌜ (valueOf (r .number) ≡ cond (ltb noFloor (valueOf (best .weight))) (valueOf (best .number)) none)
+        × (shown (r .at) ≡ cond (ltb noFloor (valueOf (best .weight))) (shown (best .at)) (places n n n))
+        × Raised 1 4 t (r .tally) ⌝ }
 {
-    let zero = gates::known(0);
+    let floor = gates::known(FLOOR);
     let none = gates::known(none);
     let nowhere = gates::known(n);
-    let some = gates::comparison(zero, best.weight, t);
+    let some = gates::comparison(floor, best.weight, t);
     let number = gates::pick(some.value, best.number, none, some.tally);
     let u = gates::pick(some.value, best.at.u, nowhere, number.tally);
     let v = gates::pick(some.value, best.at.v, nowhere, u.tally);
@@ -193,8 +209,10 @@ fn final_test(n: usize, none: usize, best: Best, t: Tally) -> Chosen
 
 // The choice: "the lowest-numbered subset of greatest weight; if that weight is 0 the choice is n, meaning none".
 fn choice(n: usize, weights: &[u32], t: Tally) -> Chosen
-    requires { ⌜ Whole n (now weights) t ⌝ }
-    ensures { λ r. ⌜ (chosenBy r ≡ choosing 0 (subsets 3 n) (now (weights .entry)) (counted t)) × (shown (r .at) ≡ placesAt n (valueOf (r .number))) ⌝ }
+    requires { ⌜ Whole (upToThree n) (now weights) t ⌝ }
+    ensures { λ r.
+        ⌜ (choiceMade r ≡ choosing noFloor (order (upToThree n)) (now (weights .entry)) (counted t))
+        × (shown (r .at) ≡ placesAt (upToThree n) (valueOf (r .number))) ⌝ }
 {
     let start = cursor::first(n);
     let won = choose_part(n, weights, 0, start.u, start.v, start.w, t);
@@ -204,8 +222,11 @@ fn choice(n: usize, weights: &[u32], t: Tally) -> Chosen
 
 // Round k begins, and its choice is stored.
 fn chosen_in_round(n: usize, weights: &[u32], choices: &mut [u32], k: usize, t: Tally) -> Placed
-    requires { ⌜ Turn n (now weights) (now choices) k t ⌝ }
-    ensures { λ r. ⌜ (now (choices .exit) ≡ set (now (choices .entry)) k (choiceOf n (now (weights .entry)) t .number)) × (counted (r .tally) ≡ choiceOf n (now (weights .entry)) t .tally) × (shown (r .at) ≡ placesAt n (choiceOf n (now (weights .entry)) t .number)) ⌝ }
+    requires { ⌜ Turn (upToThree n) (now weights) (now choices) k t ⌝ }
+    ensures { λ r.
+        ⌜ (now (choices .exit) ≡ set (now (choices .entry)) k (choiceOf (upToThree n) (now (weights .entry)) t .number))
+        × (counted (r .tally) ≡ choiceOf (upToThree n) (now (weights .entry)) t .tally)
+        × (shown (r .at) ≡ placesAt (upToThree n) (choiceOf (upToThree n) (now (weights .entry)) t .number)) ⌝ }
 {
     let chosen = choice(n, weights, gates::begin_round(t));
     gates::store_u32(choices, k, chosen.number);
@@ -225,8 +246,12 @@ pub fn choose(
     k: usize,
     tally: &mut Tally,
 ) -> SecretPlaces
-    requires { ⌜ Turn n (now weights) (now choices) k (now tally) ⌝ }
-    ensures { λ r. ⌜ (now (choices .exit) ≡ set (now (choices .entry)) k (choiceOf n (now (weights .entry)) (now (tally .entry)) .number)) × (counted (now (tally .exit)) ≡ choiceOf n (now (weights .entry)) (now (tally .entry)) .tally) × (shown r ≡ placesAt n (choiceOf n (now (weights .entry)) (now (tally .entry)) .number)) ⌝ }
+    requires { ⌜ Turn (upToThree n) (now weights) (now choices) k (now tally) ⌝ }
+    ensures { λ r.
+        let c = choiceOf (upToThree n) (now (weights .entry)) (now (tally .entry)) in
+        ⌜ (now (choices .exit) ≡ set (now (choices .entry)) k (c .number))
+        × (counted (now (tally .exit)) ≡ c .tally)
+        × (shown r ≡ placesAt (upToThree n) (c .number)) ⌝ }
 {
     let old = *tally;
     let made = chosen_in_round(n, weights, choices, k, old);

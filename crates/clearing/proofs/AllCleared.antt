@@ -15,18 +15,18 @@ use Rattle.laws.proofs.Whole.{filled-whole, filling-next}
 use Rattle.greedy.specs.Tally as Tallies
 use Rattle.greedy.specs.Tally.{raise}
 use Rattle.greedy.specs.Places.{meets}
-use Rattle.greedy.specs.Rounds.{clear, clearing, clearBefore, clearingBefore}
+use Rattle.greedy.specs.Rounds.{clear, clearingTally, clearBefore, clearingTallyBefore}
 use Rattle.greedy.proofs.Tallied.{clear-length, clearing-append}
-use Rattle.exchange.specs.Subsets.{subsets}
-use Rattle.gates.specs.Counts.{counted, Room}
+use Rattle.exchange.specs.Subsets.{upToThree, order, subsetCount, subsets}
+use Rattle.gates.specs.Counts.{counted, TallyRoom}
 use Rattle.gates.specs.declared.SecretPlaces.{SecretPlaces}
 use Rattle.gates.specs.declared.Tally.{Tally}
-use Rattle.cursor.specs.Cursor.{InRange, placesAt, shown, subsetAt}
+use Rattle.cursor.specs.Cursor.{OnSubset, placesAt, shown, subsetAt}
 use Rattle.cursor.specs.declared.Places.{Places}
 use Rattle.cursor.proofs.Order.{Subset, two, three, is-subset, in-range}
 use Rattle.cursor.proofs.Number.{count-le}
 use Rattle.cursor.proofs.Standing.{stands-at}
-use Rattle.clearing.specs.Clearing.{Clearing}
+use Rattle.clearing.specs.Preconditions.{Clearing}
 
 -- ## The tally
 
@@ -37,13 +37,13 @@ size-le (three p q r) = omega arith
 
 -- the first i subsets
 module _ (n : ℕ) (few : n ≤ 200) (t : Tallies.Tally) where
-  next-tally : (i : ℕ) → i < length (subsets 3 n) → clearing (take (suc i) (subsets 3 n)) t ≡ raise 0 (length (getD (subsets 3 n) i [])) (clearing (take i (subsets 3 n)) t)
-  unfolding clearing
+  next-tally : (i : ℕ) → i < subsetCount (upToThree n) → clearingTally (take (suc i) (order (upToThree n))) t ≡ raise 0 (length (getD (order (upToThree n)) i [])) (clearingTally (take i (order (upToThree n))) t)
+  unfolding clearingTally
   next-tally i h =
-      ap (λ (ss : List (List ℕ)). clearing ss t) (take-suc (subsets 3 n) i [] h) ∙ clearing-append (take i (subsets 3 n)) (getD (subsets 3 n) i [] ∷ []) t
+      ap (λ (ss : List (List ℕ)). clearingTally ss t) (take-suc (order (upToThree n)) i [] h) ∙ clearing-append (take i (order (upToThree n))) (getD (order (upToThree n)) i [] ∷ []) t
 
-  pub upto-le : (i : ℕ) → i ≤ length (subsets 3 n) → let u = clearing (take i (subsets 3 n)) t in (u .comparisons ≡ t .comparisons) × (u .products ≤ t .products + 3 * i) × (u .rounds ≡ t .rounds)
-  unfolding clearing raise
+  pub upto-le : (i : ℕ) → i ≤ subsetCount (upToThree n) → let u = clearingTally (take i (order (upToThree n))) t in (u .comparisons ≡ t .comparisons) × (u .products ≤ t .products + 3 * i) × (u .rounds ≡ t .rounds)
+  unfolding clearingTally raise
   upto-le zero h = (refl, omega arith, refl)
   upto-le (suc i) h =
       let ih = upto-le i (omega arith) in
@@ -53,10 +53,10 @@ module _ (n : ℕ) (few : n ≤ 200) (t : Tallies.Tally) where
         ap (λ (x : Tallies.Tally). x .rounds) e ∙ ih .2,
       )
 
-  pub clearing-le : let u = clearing (subsets 3 n) t in (u .comparisons ≡ t .comparisons) × (u .products ≤ t .products + 3 * length (subsets 3 n)) × (u .rounds ≡ t .rounds)
+  pub clearing-le : let u = clearingTally (order (upToThree n)) t in (u .comparisons ≡ t .comparisons) × (u .products ≤ t .products + 3 * subsetCount (upToThree n)) × (u .rounds ≡ t .rounds)
   clearing-le =
-      let e = take-all (length (subsets 3 n)) (subsets 3 n) (omega arith) in
-      rw e at (upto-le (length (subsets 3 n)) (omega arith))
+      let e = take-all (subsetCount (upToThree n)) (order (upToThree n)) (omega arith) in
+      rw e at (upto-le (subsetCount (upToThree n)) (omega arith))
 
 -- ## The weights
 
@@ -78,44 +78,44 @@ clear-all c ss old e =
 -- ## The loop of `all_cleared`, before the subset of number i
 
 pub record Cleared (n : ℕ) (old : List ℕ) (choice : SecretPlaces) (t : Tally) (weights : List ℕ) (p : Places) (u : Tally) (i : ℕ) : Type 0 where
-  pub upto : i ≤ length (subsets 3 n)
-  pub there : p ≡ placesAt n i
-  pub filling : Filling i (clearedAt (subsetAt n (shown choice)) (subsets 3 n) old) old weights
-  pub tally : counted u ≡ clearing (take i (subsets 3 n)) (counted t)
+  pub upto : i ≤ subsetCount (upToThree n)
+  pub there : p ≡ placesAt (upToThree n) i
+  pub filling : Filling i (clearedAt (subsetAt n (shown choice)) (order (upToThree n)) old) old weights
+  pub tally : counted u ≡ clearingTally (take i (order (upToThree n))) (counted t)
 
-module _ (n : ℕ) (old : List ℕ) (choice : SecretPlaces) (t : Tally) (asked : Clearing n old t) where
+module _ (n : ℕ) (old : List ℕ) (choice : SecretPlaces) (t : Tally) (asked : Clearing (upToThree n) old t) where
   f : ℕ → ℕ
-  f = clearedAt (subsetAt n (shown choice)) (subsets 3 n) old
+  f = clearedAt (subsetAt n (shown choice)) (order (upToThree n)) old
 
-  pub begins : (p : Places) → p ≡ placesAt n 0 → Cleared n old choice t old p t 0
-  unfolding clearing
+  pub begins : (p : Places) → p ≡ placesAt (upToThree n) 0 → Cleared n old choice t old p t 0
+  unfolding clearingTally
   begins p e = record { upto = omega arith; there = e; filling = filling-none _ old; tally = refl }
 
   module _ (weights : List ℕ) (p : Places) (u : Tally) (i : ℕ) (inv : Cleared n old choice t weights p u i) where
     pub kept : length weights ≡ length old
     kept = inv .filling .kept
 
-    pub ends : length weights ≤ i → (weights ≡ clear (subsetAt n (shown choice)) (subsets 3 n) old) × (counted u ≡ clearing (subsets 3 n) (counted t))
+    pub ends : length weights ≤ i → (weights ≡ clear (subsetAt n (shown choice)) (order (upToThree n)) old) × (counted u ≡ clearingTally (order (upToThree n)) (counted t))
     unfolding f
     ends h =
-        let e : i ≡ length (subsets 3 n) = omega (arith, kept, asked .whole, inv .upto) in (
-          filling-all i (length (subsets 3 n)) f old weights (inv .filling) e
-              ∙ filled-whole (table (length (subsets 3 n)) f) old (omega (arith, length-table (length (subsets 3 n)) f, asked .whole))
-              ∙ clear-all (subsetAt n (shown choice)) (subsets 3 n) old (asked .whole),
-          inv .tally ∙ ap (λ (ss : List (List ℕ)). clearing ss (counted t)) (take-all i (subsets 3 n) (omega arith)),
+        let e : i ≡ subsetCount (upToThree n) = omega (arith, kept, asked .whole, inv .upto) in (
+          filling-all i (subsetCount (upToThree n)) f old weights (inv .filling) e
+              ∙ filled-whole (table (subsetCount (upToThree n)) f) old (omega (arith, length-table (subsetCount (upToThree n)) f, asked .whole))
+              ∙ clear-all (subsetAt n (shown choice)) (order (upToThree n)) old (asked .whole),
+          inv .tally ∙ ap (λ (ss : List (List ℕ)). clearingTally ss (counted t)) (take-all i (order (upToThree n)) (omega arith)),
         )
 
     module _ (h : i < length weights) where
-      pub below : i < length (subsets 3 n)
+      pub below : i < subsetCount (upToThree n)
       below = omega (arith, kept, asked .whole)
 
       pub below-few : i < 1333333
       below-few = omega (arith, below, count-le n (asked .few))
 
-      pub ranged : InRange n p
+      pub ranged : OnSubset n p
       ranged = in-range n i (asked .few) below p (inv .there)
 
-      pub room : Room 0 3 u
+      pub room : TallyRoom 0 3 u
       room =
           let le = upto-le n (asked .few) (counted t) i (omega (arith, below)) in
           record {
@@ -123,14 +123,14 @@ module _ (n : ℕ) (old : List ℕ) (choice : SecretPlaces) (t : Tally) (asked :
             products = omega (arith, ap (λ (x : Tallies.Tally). x .products) (inv .tally), le .1, asked .room .products);
           }
 
-      subset-is : subsetAt n p ≡ getD (subsets 3 n) i []
+      subset-is : subsetAt n p ≡ getD (order (upToThree n)) i []
       subset-is = stands-at n i (asked .few) below p (inv .there)
 
       module _ (y : ℕ) (ey : y ≡ getD weights i 0) (x : ℕ) (eyx : x ≡ cond (meets (subsetAt n p) (subsetAt n (shown choice))) 0 y) where
         ex : x ≡ cond (meets (subsetAt n p) (subsetAt n (shown choice))) 0 (getD weights i 0)
         ex = eyx ∙ ap (cond (meets (subsetAt n p) (subsetAt n (shown choice))) 0) ey
 
-        pub again : (ws : List ℕ) → ws ≡ set weights i x → (v : Tally) → counted v ≡ clearing (subsetAt n p ∷ []) (counted u) → (q : Places) → q ≡ placesAt n (i + 1)
+        pub again : (ws : List ℕ) → ws ≡ set weights i x → (v : Tally) → counted v ≡ clearingTally (subsetAt n p ∷ []) (counted u) → (q : Places) → q ≡ placesAt (upToThree n) (i + 1)
             → Cleared n old choice t ws q v (i + 1)
         unfolding f
         again ws ews v ev q eq = subst (λ (z : List ℕ). Cleared n old choice t z q v (i + 1)) (sym ews) record {
@@ -140,19 +140,19 @@ module _ (n : ℕ) (old : List ℕ) (choice : SecretPlaces) (t : Tally) (asked :
               (ex ∙ ap₂ (λ (s : List ℕ) (y : ℕ). cond (meets s (subsetAt n (shown choice))) 0 y) subset-is (filling-next i f old weights (inv .filling)))
               (omega (arith, kept));
           tally = ev
-              ∙ ap (λ (c : List ℕ). clearing (c ∷ []) (counted u)) subset-is
-              ∙ ap (clearing (getD (subsets 3 n) i [] ∷ [])) (inv .tally)
-              ∙ sym (clearing-append (take i (subsets 3 n)) (getD (subsets 3 n) i [] ∷ []) (counted t))
-              ∙ ap (λ (ss : List (List ℕ)). clearing ss (counted t)) (sym (take-suc (subsets 3 n) i [] below) ∙ ap (λ (k : ℕ). take k (subsets 3 n)) (sym (add-one i)));
+              ∙ ap (λ (c : List ℕ). clearingTally (c ∷ []) (counted u)) subset-is
+              ∙ ap (clearingTally (getD (order (upToThree n)) i [] ∷ [])) (inv .tally)
+              ∙ sym (clearing-append (take i (order (upToThree n))) (getD (order (upToThree n)) i [] ∷ []) (counted t))
+              ∙ ap (λ (ss : List (List ℕ)). clearingTally ss (counted t)) (sym (take-suc (order (upToThree n)) i [] below) ∙ ap (λ (k : ℕ). take k (order (upToThree n))) (sym (add-one i)));
         }
 
 -- ## Where so many rounds are left
 
-pub none-left : (m : ℕ) → m < 1 → (c : List ℕ) (ss : List (List ℕ)) (ws : List ℕ) (t : Tallies.Tally) → (ws ≡ clearBefore m c ss ws) × (t ≡ clearingBefore m ss t)
+pub none-left : (m : ℕ) → m < 1 → (c : List ℕ) (ss : List (List ℕ)) (ws : List ℕ) (t : Tallies.Tally) → (ws ≡ clearBefore m c ss ws) × (t ≡ clearingTallyBefore m ss t)
 none-left zero l c ss ws t = (refl, refl)
 none-left (suc m) l c ss ws t = absurd (not-suc-le-zero (le-of-suc-le-suc l))
 
 pub some-left : (m : ℕ) → 1 ≤ m → (c : List ℕ) (ss : List (List ℕ)) (ws vs : List ℕ) (t u : Tallies.Tally)
-    → (vs ≡ clear c ss ws) × (u ≡ clearing ss t) → (vs ≡ clearBefore m c ss ws) × (u ≡ clearingBefore m ss t)
+    → (vs ≡ clear c ss ws) × (u ≡ clearingTally ss t) → (vs ≡ clearBefore m c ss ws) × (u ≡ clearingTallyBefore m ss t)
 some-left zero l c ss ws vs t u e = absurd (not-suc-le-zero l)
 some-left (suc m) l c ss ws vs t u e = e

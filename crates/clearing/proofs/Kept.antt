@@ -11,8 +11,8 @@ use lib.ListN.{length}
 use Rattle.laws.specs.Below.{either, one}
 use Rattle.greedy.specs.Tally.{Tally, raise}
 use Rattle.greedy.specs.Places.{among, meets}
-use Rattle.greedy.specs.Rounds.{clearing}
-use Rattle.cursor.specs.Cursor.{InRange, below, subsetAt}
+use Rattle.greedy.specs.Rounds.{clearingTally}
+use Rattle.cursor.specs.Cursor.{OnSubset, below, subsetAt}
 use Rattle.cursor.specs.declared.Places.{Places}
 use Rattle.cursor.proofs.Standing.{range-two, range-triple}
 
@@ -63,7 +63,7 @@ cond-le true x = omega arith
 cond-le false x = omega arith
 
 -- the product with what place a keeps
-module _ (n x : ℕ) (p c : Places) (range : InRange n p) (small : x < 2 ^ 32) where
+module _ (n x : ℕ) (p c : Places) (range : OnSubset n p) (small : x < 2 ^ 32) where
   in-u : p .u < n
   in-u = omega (arith, range .uv, range .vw, range .wn)
 
@@ -124,13 +124,13 @@ module _ (n x : ℕ) (p c : Places) (range : InRange n p) (small : x < 2 ^ 32) w
 
 -- ## The tally of one subset
 
-clearing-one : (s : List ℕ) (t : Tally) → clearing (s ∷ []) t ≡ raise 0 (length s) t
-unfolding clearing
+clearing-one : (s : List ℕ) (t : Tally) → clearingTally (s ∷ []) t ≡ raise 0 (length s) t
+unfolding clearingTally
 clearing-one s t = refl
 
-module _ (n : ℕ) (p : Places) (range : InRange n p) (t : Tally) where
-  pub tally-two : p .w ≡ n → raise 0 2 t ≡ clearing (subsetAt n p ∷ []) t
-  tally-two e = sym (ap (λ (s : List ℕ). clearing (s ∷ []) t) (range-two n p range e) ∙ clearing-one (p .u ∷ p .v ∷ []) t)
+module _ (n : ℕ) (p : Places) (range : OnSubset n p) (t : Tally) where
+  pub tally-two : p .w ≡ n → raise 0 2 t ≡ clearingTally (subsetAt n p ∷ []) t
+  tally-two e = sym (ap (λ (s : List ℕ). clearingTally (s ∷ []) t) (range-two n p range e) ∙ clearing-one (p .u ∷ p .v ∷ []) t)
 
-  pub tally-triple : (p .w ≡ n → ⊥) → raise 0 3 t ≡ clearing (subsetAt n p ∷ []) t
-  tally-triple e = sym (ap (λ (s : List ℕ). clearing (s ∷ []) t) (range-triple n p range e) ∙ clearing-one (p .u ∷ p .v ∷ p .w ∷ []) t)
+  pub tally-triple : (p .w ≡ n → ⊥) → raise 0 3 t ≡ clearingTally (subsetAt n p ∷ []) t
+  tally-triple e = sym (ap (λ (s : List ℕ). clearingTally (s ∷ []) t) (range-triple n p range e) ∙ clearing-one (p .u ∷ p .v ∷ p .w ∷ []) t)

@@ -1,2 +1,2 @@
 -- What clearing asks of its arguments.
-pub mod Clearing
+pub mod Preconditions

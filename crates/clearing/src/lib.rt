@@ -10,16 +10,18 @@ ghost use mathlib.Core.Bool.{cond};
 ghost use mathlib.Core.List.{[], _∷_};
 ghost use Rattle.greedy.specs.Places.{meets};
 ghost use Rattle.greedy.specs.Rounds as Rounds;
-ghost use Rattle.exchange.specs.Subsets.{subsets};
-ghost use Rattle.gates.specs.Counts.{counted, Room};
+ghost use Rattle.exchange.specs.Subsets.{upToThree, order};
+ghost use Rattle.gates.specs.Counts.{counted, TallyRoom};
 ghost use Rattle.gates.specs.Secrets.{valueOf};
-ghost use Rattle.cursor.specs.Cursor.{InRange, shown, subsetAt};
-ghost use Rattle.clearing.specs.Clearing.{Clearing};
+ghost use Rattle.cursor.specs.Cursor.{OnSubset, shown, subsetAt};
+ghost use Rattle.clearing.specs.Preconditions.{Clearing};
 
 // The weight x of the subset at the cursor after the choice: 2 products for a two, 3 for a triple.
 fn weight_after(n: usize, x: Secret, p: Places, choice: SecretPlaces, t: Tally) -> Gated
-    requires { ⌜ InRange n p × Room 0 3 t ⌝ }
-    ensures { λ r. ⌜ (valueOf (r .value) ≡ cond (meets (subsetAt n p) (subsetAt n (shown choice))) 0 (valueOf x)) × (counted (r .tally) ≡ Rounds.clearing (subsetAt n p ∷ []) (counted t)) ⌝ }
+    requires { ⌜ OnSubset n p × TallyRoom 0 3 t ⌝ }
+    ensures { λ r.
+        ⌜ (valueOf (r .value) ≡ cond (meets (subsetAt n p) (subsetAt n (shown choice))) 0 (valueOf x))
+        × (counted (r .tally) ≡ Rounds.clearingTally (subsetAt n p ∷ []) (counted t)) ⌝ }
 {
     let first = gates::product(x, gates::demux_readout(p.u, choice), t);
     let second = gates::product(first.value, gates::demux_readout(p.v, choice), first.tally);
@@ -35,8 +37,10 @@ fn weight_after(n: usize, x: Secret, p: Places, choice: SecretPlaces, t: Tally) 
 
 // Every subset sharing a place with the choice gets weight 0.
 fn all_cleared(n: usize, weights: &mut [u32], choice: SecretPlaces, t: Tally) -> Tally
-    requires { ⌜ Clearing n (now weights) t ⌝ }
-    ensures { λ r. ⌜ (now (weights .exit) ≡ Rounds.clear (subsetAt n (shown choice)) (subsets 3 n) (now (weights .entry))) × (counted r ≡ Rounds.clearing (subsets 3 n) (counted t)) ⌝ }
+    requires { ⌜ Clearing (upToThree n) (now weights) t ⌝ }
+    ensures { λ r.
+        ⌜ (now (weights .exit) ≡ Rounds.clear (subsetAt n (shown choice)) (order (upToThree n)) (now (weights .entry)))
+        × (counted r ≡ Rounds.clearingTally (order (upToThree n)) (counted t)) ⌝ }
 {
     let mut p = cursor::first(n);
     let mut tally = t;
@@ -54,8 +58,10 @@ fn all_cleared(n: usize, weights: &mut [u32], choice: SecretPlaces, t: Tally) ->
 
 // The same where rounds are left; after the last, nothing.
 fn cleared(n: usize, weights: &mut [u32], choice: SecretPlaces, left: usize, t: Tally) -> Tally
-    requires { ⌜ Clearing n (now weights) t ⌝ }
-    ensures { λ r. ⌜ (now (weights .exit) ≡ Rounds.clearBefore left (subsetAt n (shown choice)) (subsets 3 n) (now (weights .entry))) × (counted r ≡ Rounds.clearingBefore left (subsets 3 n) (counted t)) ⌝ }
+    requires { ⌜ Clearing (upToThree n) (now weights) t ⌝ }
+    ensures { λ r.
+        ⌜ (now (weights .exit) ≡ Rounds.clearBefore left (subsetAt n (shown choice)) (order (upToThree n)) (now (weights .entry)))
+        × (counted r ≡ Rounds.clearingTallyBefore left (order (upToThree n)) (counted t)) ⌝ }
 {
     if left < 1 {
         return t;
@@ -65,8 +71,10 @@ fn cleared(n: usize, weights: &mut [u32], choice: SecretPlaces, left: usize, t: 
 
 // The step: it raises the lent tally.
 pub fn clear(n: usize, weights: &mut [u32], choice: SecretPlaces, left: usize, tally: &mut Tally)
-    requires { ⌜ Clearing n (now weights) (now tally) ⌝ }
-    ensures { λ _. ⌜ (now (weights .exit) ≡ Rounds.clearBefore left (subsetAt n (shown choice)) (subsets 3 n) (now (weights .entry))) × (counted (now (tally .exit)) ≡ Rounds.clearingBefore left (subsets 3 n) (counted (now (tally .entry)))) ⌝ }
+    requires { ⌜ Clearing (upToThree n) (now weights) (now tally) ⌝ }
+    ensures { λ _.
+        ⌜ (now (weights .exit) ≡ Rounds.clearBefore left (subsetAt n (shown choice)) (order (upToThree n)) (now (weights .entry)))
+        × (counted (now (tally .exit)) ≡ Rounds.clearingTallyBefore left (order (upToThree n)) (counted (now (tally .entry)))) ⌝ }
 {
     let old = *tally;
     *tally = cleared(n, weights, choice, left, old);

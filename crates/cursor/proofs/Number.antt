@@ -5,7 +5,8 @@ use mathlib.Core.Path.{_≡_}
 use native.Mathlib.Nat.{mul-le-mul}
 use native.Mathlib.Omega.{arith}
 use lib.ListN.{length}
-use Rattle.exchange.specs.Subsets.{subsets}
+use Rattle.laws.proofs.Products.{square-le}
+use Rattle.exchange.specs.Subsets.{upToThree, order, subsetCount}
 use Rattle.exchange.specs.Promises.{howMany}
 use Rattle.exchange.proofs.Tallied.{tallied}
 
@@ -18,17 +19,14 @@ cubes (suc (suc c)) T P e f =
     let q : suc (suc c) - 2 ≡ c = omega arith in
     omega (arith, rw (p, q) at e, rw p at f)
 
-pub six-times : (n : ℕ) → 6 * length (subsets 3 n) + n ≡ n * n * n
+pub six-times : (n : ℕ) → 6 * subsetCount (upToThree n) + n ≡ n * n * n
 six-times n =
     let t = tallied 0 n (λ i j. 0) (λ i j. 0) [] in
-    omega (arith, cubes n (howMany 3 (subsets 3 n)) (howMany 2 (subsets 3 n)) (t .triples) (t .twos), t .all)
+    omega (arith, cubes n (howMany 3 (order (upToThree n))) (howMany 2 (order (upToThree n))) (t .triples) (t .twos), t .all)
 
 module _ (n : ℕ) (few : n ≤ 200) where
-  pub square-le : n * n ≤ 40000
-  square-le = mul-le-mul few few
-
   pub cube-le : n * n * n ≤ 8000000
-  cube-le = mul-le-mul square-le few
+  cube-le = mul-le-mul (square-le n few) few
 
-  pub count-le : length (subsets 3 n) ≤ 1333333
+  pub count-le : subsetCount (upToThree n) ≤ 1333333
   count-le = omega (arith, six-times n, cube-le)

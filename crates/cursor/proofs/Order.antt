@@ -9,8 +9,8 @@ use native.Mathlib.Omega.{arith}
 use native.Mathlib.Numerals.{add-one, towards-suc}
 use native.Mathlib.Nat.{le-of-suc-le-suc, not-suc-le-zero}
 use borrow.Author.Tests.{eq-eqb, ne-eqb, lt-ltb, le-ltb}
-use Rattle.exchange.specs.Subsets.{ascending, subsets}
-use Rattle.cursor.specs.Cursor.{InRange, places, placesOf, placesAt}
+use Rattle.exchange.specs.Subsets.{upToThree, order, subsetCount, ascending, subsets}
+use Rattle.cursor.specs.Cursor.{OnSubset, places, placesOf, placesAt}
 use Rattle.cursor.specs.declared.Places.{Places}
 
 -- the next subset, as the cursor finds it
@@ -67,7 +67,7 @@ pub data Subset (n : ℕ) : List ℕ → Type 0 where
 -- from p on the cursor meets the subsets of the list, one by one, and then stands at e
 abbrev Walks : ℕ → Places → List (List ℕ) → Places → Type 0
 Walks n p [] e = p ≡ e
-Walks n p (s ∷ ss) e = (p ≡ placesOf n s) × InRange n p × Subset n s × Walks n (nextOf n p) ss e
+Walks n p (s ∷ ss) e = (p ≡ placesOf n s) × OnSubset n p × Subset n s × Walks n (nextOf n p) ss e
 
 walks-append : (n : ℕ) (p m e : Places) (a b : List (List ℕ)) → Walks n p a m → Walks n m b e → Walks n p (a ++ b) e
 walks-append n p m e [] b f g = subst (λ (q : Places). Walks n q b e) (sym f) g
@@ -167,7 +167,7 @@ twos n u (suc c) e s =
     (subst (λ (q : Places). Walks n q (ascending 2 (suc u) (suc (suc c))) (places n n n)) (sym at) g)
 
 -- all subsets
-walks : (n : ℕ) → n ≤ 200 → Walks n (placesAt n 0) (subsets 3 n) (places n n n)
+walks : (n : ℕ) → n ≤ 200 → Walks n (placesAt (upToThree n) 0) (order (upToThree n)) (places n n n)
 unfolding ascending subsets placesAt placesOf
 walks zero s = refl
 walks (suc zero) s = refl
@@ -183,53 +183,53 @@ abbrev along : ℕ → List (List ℕ) → ℕ → Places
 along n ss k = placesOf n (getD ss k [])
 
 step : (n : ℕ) (p : Places) (ss : List (List ℕ)) (k : ℕ) → Walks n p ss (places n n n) → k < length ss
-    → InRange n (along n ss k) × Subset n (getD ss k []) × (nextOf n (along n ss k) ≡ along n ss (suc k))
+    → OnSubset n (along n ss k) × Subset n (getD ss k []) × (nextOf n (along n ss k) ≡ along n ss (suc k))
 unfolding placesOf
 step n p [] k f h = absurd (not-suc-le-zero h)
-step n p (s ∷ []) zero f h = (subst (InRange n) (f .0) (f .1), f .2, ap (nextOf n) (sym (f .0)) ∙ f .3)
-step n p (s ∷ t ∷ ss) zero f h = (subst (InRange n) (f .0) (f .1), f .2, ap (nextOf n) (sym (f .0)) ∙ f .3 .0)
+step n p (s ∷ []) zero f h = (subst (OnSubset n) (f .0) (f .1), f .2, ap (nextOf n) (sym (f .0)) ∙ f .3)
+step n p (s ∷ t ∷ ss) zero f h = (subst (OnSubset n) (f .0) (f .1), f .2, ap (nextOf n) (sym (f .0)) ∙ f .3 .0)
 step n p (s ∷ ss) (suc k) f h = step n (nextOf n p) ss k (f .3) (le-of-suc-le-suc h)
 
-module _ (n k : ℕ) (few : n ≤ 200) (h : k < length (subsets 3 n)) where
-  pub at-range : InRange n (placesAt n k)
+module _ (n k : ℕ) (few : n ≤ 200) (h : k < subsetCount (upToThree n)) where
+  pub at-range : OnSubset n (placesAt (upToThree n) k)
   unfolding placesAt
-  at-range = step n (placesAt n 0) (subsets 3 n) k (walks n few) h .0
+  at-range = step n (placesAt (upToThree n) 0) (order (upToThree n)) k (walks n few) h .0
 
-  pub is-subset : Subset n (getD (subsets 3 n) k [])
+  pub is-subset : Subset n (getD (order (upToThree n)) k [])
   unfolding placesAt
-  is-subset = step n (placesAt n 0) (subsets 3 n) k (walks n few) h .1
+  is-subset = step n (placesAt (upToThree n) 0) (order (upToThree n)) k (walks n few) h .1
 
-  pub next-at : nextOf n (placesAt n k) ≡ placesAt n (k + 1)
+  pub next-at : nextOf n (placesAt (upToThree n) k) ≡ placesAt (upToThree n) (k + 1)
   unfolding placesAt
-  next-at = step n (placesAt n 0) (subsets 3 n) k (walks n few) h .2 ∙ ap (placesAt n) (sym (add-one k))
+  next-at = step n (placesAt (upToThree n) 0) (order (upToThree n)) k (walks n few) h .2 ∙ ap (placesAt (upToThree n)) (sym (add-one k))
 
-  module _ (p : Places) (e : p ≡ placesAt n k) where
-    pub in-range : InRange n p
-    in-range = subst (InRange n) (sym e) at-range
+  module _ (p : Places) (e : p ≡ placesAt (upToThree n) k) where
+    pub in-range : OnSubset n p
+    in-range = subst (OnSubset n) (sym e) at-range
 
-    pub follows : nextOf n p ≡ placesAt n (k + 1)
+    pub follows : nextOf n p ≡ placesAt (upToThree n) (k + 1)
     follows = ap (nextOf n) e ∙ next-at
 
 -- ## The two ends
 
-pub past : (n k : ℕ) → length (subsets 3 n) ≤ k → placesAt n k ≡ places n n n
+pub past : (n k : ℕ) → subsetCount (upToThree n) ≤ k → placesAt (upToThree n) k ≡ places n n n
 unfolding placesAt placesOf
-past n k h = ap (placesOf n) (List·getD-eq-default (subsets 3 n) [] h)
+past n k h = ap (placesOf n) (List·getD-eq-default (order (upToThree n)) [] h)
 
-pub first-none : (n : ℕ) → n < 2 → places n n n ≡ placesAt n 0
+pub first-none : (n : ℕ) → n < 2 → places n n n ≡ placesAt (upToThree n) 0
 unfolding placesAt placesOf subsets ascending
 first-none zero h = refl
 first-none (suc zero) h = refl
 first-none (suc (suc c)) h = absurd (omega arith)
 
-pub first-some : (n : ℕ) → 2 ≤ n → places 0 1 2 ≡ placesAt n 0
+pub first-some : (n : ℕ) → 2 ≤ n → places 0 1 2 ≡ placesAt (upToThree n) 0
 unfolding placesAt placesOf subsets ascending
 first-some zero h = absurd (not-suc-le-zero h)
 first-some (suc zero) h = absurd (not-suc-le-zero (le-of-suc-le-suc h))
 first-some (suc (suc zero)) h = refl
 first-some (suc (suc (suc c))) h = refl
 
-pub some-subset : (n : ℕ) → 2 ≤ n → 0 < length (subsets 3 n)
+pub some-subset : (n : ℕ) → 2 ≤ n → 0 < subsetCount (upToThree n)
 unfolding subsets ascending
 some-subset zero h = absurd (not-suc-le-zero h)
 some-subset (suc zero) h = absurd (not-suc-le-zero (le-of-suc-le-suc h))

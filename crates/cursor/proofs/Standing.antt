@@ -7,8 +7,8 @@ use native.Mathlib.Nat.{le-refl}
 use native.Mathlib.Decide.{decLt}
 use borrow.Author.Tests.{lt-ltb, le-ltb}
 use lib.ListN.{length, getD, List·getD-eq-default}
-use Rattle.exchange.specs.Subsets.{subsets}
-use Rattle.cursor.specs.Cursor.{InRange, places, placesOf, placesAt, below, subsetAt}
+use Rattle.exchange.specs.Subsets.{upToThree, order, subsetCount}
+use Rattle.cursor.specs.Cursor.{OnSubset, places, placesOf, placesAt, below, subsetAt}
 use Rattle.cursor.specs.declared.Places.{Places}
 use Rattle.cursor.proofs.Order.{Subset, two, three, is-subset, past}
 
@@ -43,7 +43,7 @@ module _ (n : ℕ) (p : Places) where
       below-on n (p .u) (p .v ∷ p .w ∷ []) h
       ∙ ap (λ (l : List ℕ). p .u ∷ l) (below-on n (p .v) (p .w ∷ []) k ∙ ap (λ (l : List ℕ). p .v ∷ l) (below-on n (p .w) [] l))
 
-  module _ (range : InRange n p) where
+  module _ (range : OnSubset n p) where
     pub range-two : p .w ≡ n → subsetAt n p ≡ p .u ∷ p .v ∷ []
     range-two e = at-two (omega (arith, range .uv, range .vw)) (omega (arith, range .vw)) e
 
@@ -51,7 +51,7 @@ module _ (n : ℕ) (p : Places) where
     range-triple e = at-triple (omega arith) (omega arith) (omega (arith, range .wn))
 
 -- the cursor at the subset of number k stands there
-pub stands-at : (n k : ℕ) → n ≤ 200 → k < length (subsets 3 n) → (p : Places) → p ≡ placesAt n k → subsetAt n p ≡ getD (subsets 3 n) k []
+pub stands-at : (n k : ℕ) → n ≤ 200 → k < subsetCount (upToThree n) → (p : Places) → p ≡ placesAt (upToThree n) k → subsetAt n p ≡ getD (order (upToThree n)) k []
 unfolding placesAt
 stands-at n k few h p e = ap (subsetAt n) e ∙ stands n _ (is-subset n k few h)
 
@@ -61,10 +61,10 @@ unfolding subsetAt below
 at-none n = below-off n n (n ∷ n ∷ []) (le-refl n) ∙ below-off n n (n ∷ []) (le-refl n) ∙ below-off n n [] (le-refl n)
 
 -- past the last too
-pub stands-all : (n k : ℕ) → n ≤ 200 → (p : Places) → p ≡ placesAt n k → subsetAt n p ≡ getD (subsets 3 n) k []
-stands-all n k few p e = elim (decLt k (length (subsets 3 n))) [
+pub stands-all : (n k : ℕ) → n ≤ 200 → (p : Places) → p ≡ placesAt (upToThree n) k → subsetAt n p ≡ getD (order (upToThree n)) k []
+stands-all n k few p e = elim (decLt k (subsetCount (upToThree n))) [
   | yes h ↦ stands-at n k few h p e
   | no h ↦
-      let past-last : length (subsets 3 n) ≤ k = omega arith in
-      ap (subsetAt n) (e ∙ past n k past-last) ∙ at-none n ∙ sym (List·getD-eq-default (subsets 3 n) [] past-last)
+      let past-last : subsetCount (upToThree n) ≤ k = omega arith in
+      ap (subsetAt n) (e ∙ past n k past-last) ∙ at-none n ∙ sym (List·getD-eq-default (order (upToThree n)) [] past-last)
 ]

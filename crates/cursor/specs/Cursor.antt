@@ -4,7 +4,7 @@ use mathlib.Core.Bool.{cond}
 use mathlib.Core.List.{List, [], _∷_}
 use lib.Dec.{ltb}
 use lib.ListN.{getD}
-use Rattle.exchange.specs.Subsets.{subsets}
+use Rattle.exchange.specs.Subsets.{Scope, order}
 use Rattle.gates.specs.Secrets.{valueOf}
 use Rattle.gates.specs.declared.SecretPlaces.{SecretPlaces}
 use Rattle.cursor.specs.declared.Places.{Places}
@@ -21,8 +21,8 @@ unfoldable pub placesOf : ℕ → List ℕ → Places
 placesOf n s = places (getD s 0 n) (getD s 1 n) (getD s 2 n)
 
 -- the cursor at the subset of number k; past the last, at none
-unfoldable pub placesAt : ℕ → ℕ → Places
-placesAt n k = placesOf n (getD (subsets 3 n) k [])
+unfoldable pub placesAt : Scope → ℕ → Places
+placesAt q k = placesOf (q .pairs) (getD (order q) k [])
 
 -- those of a list that are below n
 unfoldable pub below : ℕ → List ℕ → List ℕ
@@ -34,7 +34,7 @@ unfoldable pub subsetAt : ℕ → Places → List ℕ
 subsetAt n p = below n (p .u ∷ p .v ∷ p .w ∷ [])
 
 -- a cursor that stands at a subset of at most 200 places
-pub record InRange (n : ℕ) (p : Places) : Type 0 where
+pub record OnSubset (n : ℕ) (p : Places) : Type 0 where
   pub uv : p .u < p .v
   pub vw : p .v < p .w
   pub wn : p .w ≤ n

@@ -2,8 +2,8 @@
 ghost use mathlib.Core.Path.{_≡_};
 ghost use Prim.Native.Nat.{ℕ, _+_, _<_, _≤_};
 ghost use lib.ListN.{length};
-ghost use Rattle.exchange.specs.Subsets.{subsets};
-ghost use Rattle.cursor.specs.Cursor.{InRange, placesAt};
+ghost use Rattle.exchange.specs.Subsets.{upToThree, order, subsetCount, subsets};
+ghost use Rattle.cursor.specs.Cursor.{OnSubset, placesAt};
 
 // A cursor: the places of a subset in order, n where there is none. A two has w = n; n, n, n is no subset.
 pub struct Places {
@@ -14,7 +14,7 @@ pub struct Places {
 
 // The subset of number 0.
 pub fn first(n: usize) -> Places
-    ensures { λ r. ⌜ r ≡ placesAt n 0 ⌝ }
+    ensures { λ r. ⌜ r ≡ placesAt (upToThree n) 0 ⌝ }
 {
     if n < 2 {
         Places { u: n, v: n, w: n }
@@ -25,8 +25,8 @@ pub fn first(n: usize) -> Places
 
 // The subset of the next number.
 pub fn next(n: usize, p: Places) -> Places
-    requires { ⌜ InRange n p ⌝ }
-    ensures { λ r. ⌜ ((k : ℕ) → k < length (subsets 3 n) → p ≡ placesAt n k → r ≡ placesAt n (k + 1)) ⌝ }
+    requires { ⌜ OnSubset n p ⌝ }
+    ensures { λ r. ⌜ ((k : ℕ) → k < subsetCount (upToThree n) → p ≡ placesAt (upToThree n) k → r ≡ placesAt (upToThree n) (k + 1)) ⌝ }
 {
     let u = p.u;
     let v = p.v;
@@ -66,8 +66,8 @@ pub fn next(n: usize, p: Places) -> Places
 
 // The subset of number k, or none.
 pub fn at(n: usize, k: usize) -> Places
-    requires { ⌜ (n ≤ 200) × (k ≤ length (subsets 3 n)) ⌝ }
-    ensures { λ r. ⌜ r ≡ placesAt n k ⌝ }
+    requires { ⌜ (n ≤ 200) × (k ≤ subsetCount (upToThree n)) ⌝ }
+    ensures { λ r. ⌜ r ≡ placesAt (upToThree n) k ⌝ }
 {
     let mut p = first(n);
     let mut i: usize = 0;
@@ -81,7 +81,7 @@ pub fn at(n: usize, k: usize) -> Places
 // How many subsets there are: as many as there are triples among one place more, (n + 1) × n × (n − 1) / 6.
 pub fn count(n: usize) -> usize
     requires { ⌜ n ≤ 200 ⌝ }
-    ensures { λ r. ⌜ r ≡ length (subsets 3 n) ⌝ }
+    ensures { λ r. ⌜ r ≡ subsetCount (upToThree n) ⌝ }
 {
     (n * n * n - n) / 6
 }

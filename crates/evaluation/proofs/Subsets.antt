@@ -6,14 +6,14 @@ use mathlib.Core.Path.{_≡_, refl, sym, ap, ap₂, subst, _∙_}
 use native.Mathlib.Omega.{arith}
 use lib.Dec.{ltb, eqb}
 use lib.ListN.{getD}
-use Rattle.exchange.specs.Subsets.{entry, weigh, eachFirst, orders, cycles, firstOf, heaviest, pairsAt, bestCycle, subsetWeight, evaluating}
+use Rattle.exchange.specs.Subsets.{entry, weigh, eachFirst, orders, cycles, firstOf, heaviest, pairsAt, bestCycle, subsetWeight, evaluationTally}
 use Rattle.laws.specs.Below.{one}
 use Rattle.greedy.specs.Tally.{Tally, raise}
 use Rattle.gates.proofs.Gates.{pick-by}
-use Rattle.cursor.specs.Cursor.{InRange, subsetAt}
+use Rattle.cursor.specs.Cursor.{OnSubset, subsetAt}
 use Rattle.cursor.specs.declared.Places.{Places}
 use Rattle.cursor.proofs.Standing.{range-two, range-triple}
-use Rattle.evaluation.specs.Readable.{Readable, Shuffled, Pairs}
+use Rattle.entries.specs.Preconditions.{Readable, Shuffled, Pairs}
 use Rattle.evaluation.specs.Entries.{Between, cycleWeight, larger}
 use Rattle.evaluation.specs.declared.EdgeEntries.{EdgeEntries}
 use Rattle.evaluation.proofs.Cycles.{weighs-two, weighs-three}
@@ -59,7 +59,7 @@ module _ (m w : ℕ → ℕ → ℕ) (s : List ℕ) where
 
 -- ## What `weight_at` asks of the steps that it calls, and what it has of them
 
-module _ (n : ℕ) (M W s : List ℕ) (p : Places) (readable : Readable n M W) (shuffled : Shuffled n s) (range : InRange n p) where
+module _ (n : ℕ) (M W s : List ℕ) (p : Places) (readable : Readable n M W) (shuffled : Shuffled n s) (range : OnSubset n p) where
   pub asks-two : Pairs n M W (getD s (p .u) 0) (getD s (p .v) 0) (getD s (p .v) 0)
   asks-two = record {
     readable = readable;
@@ -100,20 +100,20 @@ module _ (n : ℕ) (M W s : List ℕ) (p : Places) (readable : Readable n M W) (
 
 -- ## The tally of one subset
 
-evaluating-two : (u v : ℕ) (t : Tally) → evaluating ((u ∷ v ∷ []) ∷ []) t ≡ raise 0 2 t
-unfolding evaluating
+evaluating-two : (u v : ℕ) (t : Tally) → evaluationTally ((u ∷ v ∷ []) ∷ []) t ≡ raise 0 2 t
+unfolding evaluationTally
 evaluating-two u v t = refl
 
-evaluating-triple : (u v x : ℕ) (t : Tally) → evaluating ((u ∷ v ∷ x ∷ []) ∷ []) t ≡ raise 1 7 t
-unfolding evaluating
+evaluating-triple : (u v x : ℕ) (t : Tally) → evaluationTally ((u ∷ v ∷ x ∷ []) ∷ []) t ≡ raise 1 7 t
+unfolding evaluationTally
 evaluating-triple u v x t = refl
 
-module _ (n : ℕ) (p : Places) (range : InRange n p) (t : Tally) where
-  pub tally-two : p .w ≡ n → raise 0 2 t ≡ evaluating (subsetAt n p ∷ []) t
-  tally-two e = sym (ap (λ (s : List ℕ). evaluating (s ∷ []) t) (range-two n p range e) ∙ evaluating-two _ _ t)
+module _ (n : ℕ) (p : Places) (range : OnSubset n p) (t : Tally) where
+  pub tally-two : p .w ≡ n → raise 0 2 t ≡ evaluationTally (subsetAt n p ∷ []) t
+  tally-two e = sym (ap (λ (s : List ℕ). evaluationTally (s ∷ []) t) (range-two n p range e) ∙ evaluating-two _ _ t)
 
-  pub tally-triple : (p .w ≡ n → ⊥) → raise 1 7 t ≡ evaluating (subsetAt n p ∷ []) t
-  tally-triple e = sym (ap (λ (s : List ℕ). evaluating (s ∷ []) t) (range-triple n p range e) ∙ evaluating-triple _ _ _ t)
+  pub tally-triple : (p .w ≡ n → ⊥) → raise 1 7 t ≡ evaluationTally (subsetAt n p ∷ []) t
+  tally-triple e = sym (ap (λ (s : List ℕ). evaluationTally (s ∷ []) t) (range-triple n p range e) ∙ evaluating-triple _ _ _ t)
 
 -- ## What `triple` has of the two cycles
 

@@ -9,7 +9,7 @@ use Rattle.gates.specs.Secrets.{valueOf}
 use Rattle.evaluation.specs.declared.EdgeEntries.{EdgeEntries}
 
 -- M(i, j) is 0 or 1, and W(i, j) has 16 bits
-pub record Typed (e : EdgeEntries) : Type 0 where
+pub record EdgeInRange (e : EdgeEntries) : Type 0 where
   pub zeroOrOne : valueOf (e .m) ≤ 1
   pub sixteen : valueOf (e .w) < 2 ^ 16
 

@@ -1,3 +1,3 @@
 -- What evaluation asks of its arguments; a cycle's weight by its edges' entries.
-pub mod Readable
+pub mod Preconditions
 pub mod Entries

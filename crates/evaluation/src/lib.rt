@@ -5,14 +5,15 @@ use gates::Gated;
 use gates::Secret;
 use gates::Tally;
 ghost use mathlib.Core.Path.{_≡_};
-ghost use mathlib.Core.List.{[], _∷_, map};
+ghost use mathlib.Core.List.{[], _∷_};
 ghost use Prim.Native.Nat.{_<_};
-ghost use Rattle.exchange.specs.Subsets.{subsets, entry, subsetWeight, evaluating};
-ghost use Rattle.gates.specs.Counts.{counted, Room, Raised};
+ghost use Rattle.exchange.specs.Subsets.{upToThree, order, entry, subsetWeight, subsetWeights, evaluationTally};
+ghost use Rattle.gates.specs.Counts.{counted, TallyRoom, Raised};
 ghost use Rattle.gates.specs.Secrets.{valueOf};
-ghost use Rattle.cursor.specs.Cursor.{InRange, subsetAt};
-ghost use Rattle.evaluation.specs.Readable.{Readable, Shuffled, Evaluating};
-ghost use Rattle.evaluation.specs.Entries.{Typed, Between, cycleWeight, larger};
+ghost use Rattle.cursor.specs.Cursor.{OnSubset, subsetAt};
+ghost use Rattle.entries.specs.Preconditions.{Readable, Shuffled};
+ghost use Rattle.evaluation.specs.Preconditions.{Evaluating};
+ghost use Rattle.evaluation.specs.Entries.{EdgeInRange, Between, cycleWeight, larger};
 
 // An edge's entries of M and W.
 pub struct EdgeEntries {
@@ -23,7 +24,7 @@ pub struct EdgeEntries {
 // The entries of the edge from donor i to patient j.
 fn edge(n: usize, m: &[u8], w: &[u16], i: usize, j: usize) -> EdgeEntries
     requires { ⌜ Readable n (now m) (now w) × (i < n) × (j < n) ⌝ }
-    ensures { λ r. ⌜ Between n (now (m .entry)) (now (w .entry)) i j r × Typed r ⌝ }
+    ensures { λ r. ⌜ Between n (now (m .entry)) (now (w .entry)) i j r × EdgeInRange r ⌝ }
 {
     let there = gates::load_u8(m, i * n + j);
     let weight = gates::load_u16(w, i * n + j);
@@ -35,7 +36,7 @@ fn edge(n: usize, m: &[u8], w: &[u16], i: usize, j: usize) -> EdgeEntries
 
 // The weight of the cycle a → b → a: 2 products.
 fn two(ab: EdgeEntries, ba: EdgeEntries, t: Tally) -> Gated
-    requires { ⌜ Typed ab × Typed ba × Room 0 2 t ⌝ }
+    requires { ⌜ EdgeInRange ab × EdgeInRange ba × TallyRoom 0 2 t ⌝ }
     ensures { λ r. ⌜ (valueOf (r .value) ≡ cycleWeight (ab ∷ ba ∷ [])) × Raised 0 2 t (r .tally) ⌝ }
 {
     let there = gates::product(ab.m, ba.m, t);
@@ -45,7 +46,7 @@ fn two(ab: EdgeEntries, ba: EdgeEntries, t: Tally) -> Gated
 
 // The weight of the cycle a → b → c → a: 3 products.
 fn three(ab: EdgeEntries, bc: EdgeEntries, ca: EdgeEntries, t: Tally) -> Gated
-    requires { ⌜ Typed ab × Typed bc × Typed ca × Room 0 3 t ⌝ }
+    requires { ⌜ EdgeInRange ab × EdgeInRange bc × EdgeInRange ca × TallyRoom 0 3 t ⌝ }
     ensures { λ r. ⌜ (valueOf (r .value) ≡ cycleWeight (ab ∷ bc ∷ ca ∷ [])) × Raised 0 3 t (r .tally) ⌝ }
 {
     let two = gates::product(ab.m, bc.m, t);
@@ -64,8 +65,10 @@ fn triple(
     ba: EdgeEntries,
     t: Tally,
 ) -> Gated
-    requires { ⌜ (Typed ab × Typed bc × Typed ca) × (Typed ac × Typed cb × Typed ba) × Room 1 7 t ⌝ }
-    ensures { λ r. ⌜ (valueOf (r .value) ≡ larger (cycleWeight (ab ∷ bc ∷ ca ∷ [])) (cycleWeight (ac ∷ cb ∷ ba ∷ []))) × Raised 1 7 t (r .tally) ⌝ }
+    requires { ⌜ (EdgeInRange ab × EdgeInRange bc × EdgeInRange ca) × (EdgeInRange ac × EdgeInRange cb × EdgeInRange ba) × TallyRoom 1 7 t ⌝ }
+    ensures { λ r.
+        ⌜ (valueOf (r .value) ≡ larger (cycleWeight (ab ∷ bc ∷ ca ∷ [])) (cycleWeight (ac ∷ cb ∷ ba ∷ [])))
+        × Raised 1 7 t (r .tally) ⌝ }
 {
     let first = three(ab, bc, ca, t);
     let second = three(ac, cb, ba, first.tally);
@@ -75,8 +78,10 @@ fn triple(
 
 // The weight of the subset at the cursor. Place p holds pair s(p).
 fn weight_at(n: usize, m: &[u8], w: &[u16], s: &[u16], p: Places, t: Tally) -> Gated
-    requires { ⌜ Readable n (now m) (now w) × Shuffled n (now s) × InRange n p × Room 1 7 t ⌝ }
-    ensures { λ r. ⌜ (valueOf (r .value) ≡ subsetWeight (entry (now (m .entry)) n) (entry (now (w .entry)) n) (now (s .entry)) (subsetAt n p)) × (counted (r .tally) ≡ evaluating (subsetAt n p ∷ []) (counted t)) ⌝ }
+    requires { ⌜ Readable n (now m) (now w) × Shuffled n (now s) × OnSubset n p × TallyRoom 1 7 t ⌝ }
+    ensures { λ r.
+        ⌜ (valueOf (r .value) ≡ subsetWeight (entry (now (m .entry)) n) (entry (now (w .entry)) n) (now (s .entry)) (subsetAt n p))
+        × (counted (r .tally) ≡ evaluationTally (subsetAt n p ∷ []) (counted t)) ⌝ }
 {
     let u = p.u;
     let v = p.v;
@@ -98,8 +103,10 @@ fn weight_at(n: usize, m: &[u8], w: &[u16], s: &[u16], p: Places, t: Tally) -> G
 
 // The weight of each subset, in the published order.
 fn evaluated(n: usize, m: &[u8], w: &[u16], s: &[u16], weights: &mut [u32], t: Tally) -> Tally
-    requires { ⌜ Evaluating n (now m) (now w) (now s) (now weights) t ⌝ }
-    ensures { λ r. ⌜ (now (weights .exit) ≡ map (subsetWeight (entry (now (m .entry)) n) (entry (now (w .entry)) n) (now (s .entry))) (subsets 3 n)) × (counted r ≡ evaluating (subsets 3 n) (counted t)) ⌝ }
+    requires { ⌜ Evaluating (upToThree n) (now m) (now w) (now s) (now weights) t ⌝ }
+    ensures { λ r.
+        ⌜ (now (weights .exit) ≡ subsetWeights (upToThree n) (entry (now (m .entry)) n) (entry (now (w .entry)) n) (now (s .entry)))
+        × (counted r ≡ evaluationTally (order (upToThree n)) (counted t)) ⌝ }
 {
     let mut p = cursor::first(n);
     let mut tally = t;
@@ -116,8 +123,10 @@ fn evaluated(n: usize, m: &[u8], w: &[u16], s: &[u16], weights: &mut [u32], t: T
 
 // The step: it raises the lent tally.
 pub fn evaluate(n: usize, m: &[u8], w: &[u16], s: &[u16], weights: &mut [u32], tally: &mut Tally)
-    requires { ⌜ Evaluating n (now m) (now w) (now s) (now weights) (now tally) ⌝ }
-    ensures { λ _. ⌜ (now (weights .exit) ≡ map (subsetWeight (entry (now (m .entry)) n) (entry (now (w .entry)) n) (now (s .entry))) (subsets 3 n)) × (counted (now (tally .exit)) ≡ evaluating (subsets 3 n) (counted (now (tally .entry)))) ⌝ }
+    requires { ⌜ Evaluating (upToThree n) (now m) (now w) (now s) (now weights) (now tally) ⌝ }
+    ensures { λ _.
+        ⌜ (now (weights .exit) ≡ subsetWeights (upToThree n) (entry (now (m .entry)) n) (entry (now (w .entry)) n) (now (s .entry)))
+        × (counted (now (tally .exit)) ≡ evaluationTally (order (upToThree n)) (counted (now (tally .entry)))) ⌝ }
 {
     let old = *tally;
     *tally = evaluated(n, m, w, s, weights, old);

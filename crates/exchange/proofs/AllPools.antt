@@ -12,18 +12,18 @@ use Rattle.refusal.specs.Answer.{unless}
 use Rattle.pool.specs.Faults.{shuffleFault, roomFault}
 use Rattle.greedy.specs.Places.{among, meets}
 use Rattle.greedy.specs.Tally.{raise, nextRound}
-use Rattle.greedy.specs.Rounds.{join, byHalves, choosing, clear, clearing, rounds}
-use Rattle.exchange.specs.Subsets.{ascending, subsets, eachFirst, orders, cycles, along, edges, entry, productOf, sumOf, weigh, firstOf, heaviest, pairsAt, bestCycle, subsetWeight, evaluating}
+use Rattle.greedy.specs.Rounds.{join, byHalves, choosing, clear, clearingTally, rounds}
+use Rattle.exchange.specs.Subsets.{ascending, subsets, eachFirst, orders, cycles, along, edges, entry, productOf, sumOf, weigh, firstOf, heaviest, pairsAt, bestCycle, subsetWeight, evaluationTally}
 use Rattle.exchange.specs.Resolution.{resolved, recordOf, recipientBy, donorBy, recipientTable, donorTable, total}
-use Rattle.exchange.specs.Planning.{tableFault, shortFault, planFault, leftBy, plannedBy, filledLent, planning}
+use Rattle.exchange.specs.Planning.{tableFault, shortToRead, shortToFill, planFault, leftBy, plannedBy, planFrom, filledLent, planning}
 use Rattle.exchange.specs.Pools.{read, tableOf, blank, foundIn, found, k8edges, PoolsComeOut, FirstFaultTold, PastUnchanged, RivalOfK8}
 use Rattle.exchange.specs.Rivals.{Exchange}
 
 computed : PoolsComeOut × FirstFaultTold × PastUnchanged
 unfolding flatMap table either anyBelow countBelow one filled refuse _then_ unless shuffleFault roomFault among meets raise nextRound join
-    byHalves choosing clear clearing rounds ascending subsets eachFirst orders cycles along edges entry productOf sumOf weigh firstOf
-    heaviest pairsAt bestCycle subsetWeight evaluating resolved recordOf recipientBy donorBy recipientTable donorTable total tableFault
-    shortFault planFault leftBy plannedBy filledLent planning read tableOf blank foundIn found
+    byHalves choosing clear clearingTally rounds ascending subsets eachFirst orders cycles along edges entry productOf sumOf weigh firstOf
+    heaviest pairsAt bestCycle subsetWeight evaluationTally resolved recordOf recipientBy donorBy recipientTable donorTable total tableFault
+    shortToRead shortToFill planFault leftBy plannedBy planFrom filledLent planning read tableOf blank foundIn found
 computed = (refl, refl, refl)
 
 pub pools : PoolsComeOut

@@ -12,13 +12,14 @@ use Rattle.greedy.specs.Tally.{tally}
 use Rattle.greedy.specs.Places.{firstAt}
 use Rattle.greedy.proofs.Counts.{times, NoneTwice, AllBelow, Alike, one-same, split-at, times-append, alike-length}
 use Rattle.greedy.proofs.Bound.{places, value, credit, Family, charge, charge-append, charge-once, charge-alike, subset-charge, credit-most, chosen-apart}
-use Rattle.exchange.specs.Subsets.{subsets, cycles, edges, productOf, sumOf, weigh, heaviest, pairsAt, bestCycle, subsetWeight, evaluating}
+use Rattle.exchange.specs.Subsets.{subsets, cycles, edges, productOf, sumOf, weigh, heaviest, pairsAt, bestCycle, subsetWeight, evaluationTally}
 use Rattle.exchange.specs.Resolution.{resolved, total}
+use Rattle.exchange.specs.Input.{given}
 use Rattle.exchange.specs.Planning.{roundCount, leftBy, plannedBy}
 use Rattle.exchange.specs.Rivals.{Each, credited}
 use Rattle.exchange.proofs.Ordered.{Subset, subsets-all, each-at, each-mono, arrange, arrange-alike, subset-at, mem-map}
 use Rattle.exchange.proofs.Weighed.{weigh-rotate, mem-orders, heaviest-each, heaviest-alike}
-use Rattle.exchange.proofs.Seated.{Seated, seats, pairs-seats, seats-below, seats-times, pairs-times}
+use Rattle.exchange.proofs.Inverse.{Invertible, seats, pairs-seats, seats-below, seats-times, pairs-times}
 
 -- the weights as evaluated
 abbrev pub weightsOf : ℕ → ℕ → (ℕ → ℕ → ℕ) → (ℕ → ℕ → ℕ) → List ℕ → List ℕ
@@ -97,7 +98,7 @@ pub record Rival (f l n : ℕ) (m w : ℕ → ℕ → ℕ) (c : List ℕ) : Type
   pub above : (weigh m w c ≡ 0) ⊎ (f < weigh m w c)
 
 -- the subset of a cycle of pairs: it has the pairs' places, and weighs at least as much
-module _ (l n : ℕ) (m w : ℕ → ℕ → ℕ) (s : List ℕ) (sh : Seated n s) where
+module _ (l n : ℕ) (m w : ℕ → ℕ → ℕ) (s : List ℕ) (sh : Invertible n s) where
   seated : (c : List ℕ) → AllBelow n c → weigh m w c ≡ score m w s (seats s c)
   seated c b = ap (weigh m w) (sym (pairs-seats n s sh c b))
 
@@ -125,14 +126,14 @@ module _ (l n : ℕ) (m w : ℕ → ℕ → ℕ) (s : List ℕ) (sh : Seated n s
           let size : length q ≡ length t = sym (alike-length n t q bq (λ p. sym (like p))) in
           (i, like, omega (arith, seated c b, weight-at l n m w s i, bestCycle-most m w s q t like size))
 
-module _ (f l n : ℕ) (m w : ℕ → ℕ → ℕ) (s : List ℕ) (sh : Seated n s) where
+module _ (f l n : ℕ) (m w : ℕ → ℕ → ℕ) (s : List ℕ) (sh : Invertible n s) where
   -- what the chosen subsets bear for the pairs of c
   bears : List ℕ → ℕ
-  bears c = charge (subsets l n) (weightsOf l n m w s) (leftBy f l n m w s .choices) (seats s c)
+  bears c = charge (subsets l n) (weightsOf l n m w s) (leftBy (given f l n m w s) .choices) (seats s c)
 
   bears-append : (c d : List ℕ) → bears (c ++ d) ≡ bears c + bears d
   unfolding bears
-  bears-append c d = rw map-append (charge-append (subsets l n) (weightsOf l n m w s) (leftBy f l n m w s .choices) (seats s c) (seats s d))
+  bears-append c d = rw map-append (charge-append (subsets l n) (weightsOf l n m w s) (leftBy (given f l n m w s) .choices) (seats s c) (seats s d))
 
   cycle-bears : (c : List ℕ) → NoneTwice c → Rival f l n m w c → weigh m w c ≤ bears c
   unfolding bears leftBy
@@ -143,8 +144,8 @@ module _ (f l n : ℕ) (m w : ℕ → ℕ → ℕ) (s : List ℕ) (sh : Seated n
       go (inl z) at = omega arith
       go (inr z) (i, like, k) = omega (
         arith,
-        charge-alike (subsets l n) (weightsOf l n m w s) (leftBy f l n m w s .choices) (seats s c) (getD (subsets l n) i []) like,
-        subset-charge f n (roundCount n) (subsets l n) (weightsOf l n m w s) (evaluating (subsets l n) (tally 0 0 0)) (family l n m w s) (omega arith) i (omega arith),
+        charge-alike (subsets l n) (weightsOf l n m w s) (leftBy (given f l n m w s) .choices) (seats s c) (getD (subsets l n) i []) like,
+        subset-charge f n (roundCount n) (subsets l n) (weightsOf l n m w s) (evaluationTally (subsets l n) (tally 0 0 0)) (family l n m w s) (omega arith) i (omega arith),
       )
 
   total-bears : (cs : List (List ℕ)) → Each (Rival f l n m w) cs → NoneTwice (joined cs) → total m w cs ≤ bears (joined cs)
@@ -162,14 +163,14 @@ module _ (f l n : ℕ) (m w : ℕ → ℕ → ℕ) (s : List ℕ) (sh : Seated n
 
   -- the chosen subsets' weights, each times its number of places, are at least the weight of any rival set
   pub rivals-credit : (cs : List (List ℕ)) → Each (Rival f l n m w) cs → NoneTwice (joined cs)
-      → total m w cs ≤ credit (subsets l n) (weightsOf l n m w s) (leftBy f l n m w s .choices)
+      → total m w cs ≤ credit (subsets l n) (weightsOf l n m w s) (leftBy (given f l n m w s) .choices)
   unfolding bears
   rivals-credit cs h o =
       let b : AllBelow n (joined cs) = joined-below cs h in
       omega (
         arith,
         total-bears cs h o,
-        charge-once (subsets l n) (weightsOf l n m w s) (leftBy f l n m w s .choices) (seats s (joined cs))
+        charge-once (subsets l n) (weightsOf l n m w s) (leftBy (given f l n m w s) .choices) (seats s (joined cs))
             (λ p. omega (arith, seats-times n s sh (joined cs) b p, o (getD s p 0))),
       )
 
@@ -210,7 +211,7 @@ module _ (l n : ℕ) (m w : ℕ → ℕ → ℕ) (s : List ℕ) where
     | no h ↦ let k : length (subsets l n) ≤ c = omega arith in rw (le-ltb c (length (subsets l n)) k, past c k) (omega (arith, resolve-credited cs))
   ]
 
-  module _ (sh : Seated n s) where
+  module _ (sh : Invertible n s) where
     pub cycle-below : (c : ℕ) → AllBelow n (bestCycle m w s (getD (subsets l n) c []))
     cycle-below c p h = omega (arith, bestCycle-alike m w s (getD (subsets l n) c []) p, family l n m w s .below c p h)
 
@@ -235,20 +236,20 @@ module _ (l n : ℕ) (m w : ℕ → ℕ → ℕ) (s : List ℕ) where
 
 -- ---- what is promised of a plan
 
-module _ (f l n : ℕ) (m w : ℕ → ℕ → ℕ) (s : List ℕ) (sh : Seated n s) where
+module _ (f l n : ℕ) (m w : ℕ → ℕ → ℕ) (s : List ℕ) (sh : Invertible n s) where
   -- no pair is in two planned cycles, or twice in one
-  pub planned-apart : NoneTwice (joined (plannedBy f l n m w s))
+  pub planned-apart : NoneTwice (joined (plannedBy (given f l n m w s)))
   unfolding plannedBy leftBy
-  planned-apart a = le-trans (resolve-times l n m w s sh (leftBy f l n m w s .choices) a)
-      (chosen-apart f n (roundCount n) (subsets l n) (weightsOf l n m w s) (evaluating (subsets l n) (tally 0 0 0)) (family l n m w s) (firstAt a s))
+  planned-apart a = le-trans (resolve-times l n m w s sh (leftBy (given f l n m w s) .choices) a)
+      (chosen-apart f n (roundCount n) (subsets l n) (weightsOf l n m w s) (evaluationTally (subsets l n) (tally 0 0 0)) (family l n m w s) (firstAt a s))
 
   -- each planned cycle's weight times its number of pairs, added up, is at least the weight of any rival set
-  pub planned-credit : (cs : List (List ℕ)) → Each (Rival f l n m w) cs → NoneTwice (joined cs) → total m w cs ≤ credited m w (plannedBy f l n m w s)
+  pub planned-credit : (cs : List (List ℕ)) → Each (Rival f l n m w) cs → NoneTwice (joined cs) → total m w cs ≤ credited m w (plannedBy (given f l n m w s))
   unfolding plannedBy
   planned-credit cs h o = rw resolve-credited (rivals-credit f l n m w s sh cs h o)
 
   -- and l times the plan's weight is
-  pub planned-factor : (cs : List (List ℕ)) → Each (Rival f l n m w) cs → NoneTwice (joined cs) → total m w cs ≤ l * total m w (plannedBy f l n m w s)
+  pub planned-factor : (cs : List (List ℕ)) → Each (Rival f l n m w) cs → NoneTwice (joined cs) → total m w cs ≤ l * total m w (plannedBy (given f l n m w s))
   unfolding plannedBy
   planned-factor cs h o = rw resolve-total (le-trans (rivals-credit f l n m w s sh cs h o)
-      (credit-most l (subsets l n) (weightsOf l n m w s) (leftBy f l n m w s .choices) (size-most l n)))
+      (credit-most l (subsets l n) (weightsOf l n m w s) (leftBy (given f l n m w s) .choices) (size-most l n)))

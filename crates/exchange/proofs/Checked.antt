@@ -13,62 +13,15 @@ use Rattle.refusal.specs.Fault.{Fault, none, fault, refuse, _then_}
 use Rattle.refusal.specs.Answer.{Outcome, finished, refused, unless}
 use Rattle.refusal.proofs.Faults.{refuse-none, none-refuse, then-none, none-then, by-refuse, by-then, unless-none, unless-fault, finished-none, refused-fault}
 use Rattle.pool.specs.Faults.{shuffleFault, roomFault}
-use Rattle.pool.specs.Faultless.{EachOnce}
 use Rattle.pool.proofs.Pairs.{shuffle-none, shuffle-passed, shuffle-fault}
 use Rattle.pool.proofs.Reading.{room-none, room-passed, room-fault}
 use Rattle.exchange.specs.Subsets.{entry}
-use Rattle.exchange.specs.Planning.{Lent, Plan, tableFault, shortFault, planFault, planning}
+use Rattle.exchange.specs.Input.{Request}
+use Rattle.exchange.specs.Planning.{Lent, Plan, lengthsOf, tableFault, shortToRead, shortToFill, planFault, planning}
 use Rattle.exchange.specs.Promises.{Answered, AnswersRightly}
 use Rattle.exchange.specs.Faultless.{LongEnough, Compatibility, FaultlessInput, PlanFault, tooManyPairs, tooShort, notAShuffle, notCompatibility}
 
-module _ (n : ℕ) (M W s : List ℕ) (t : Lent) where
-  -- ## 9
-
-  long-none : LongEnough n M W s t → shortFault n M W s t ≡ none
-  unfolding shortFault
-  long-none h =
-      none-then _ _ (room-none _ _ (h .compatibility))
-      ∙ none-then _ _ (room-none _ _ (h .points))
-      ∙ none-then _ _ (room-none _ _ (h .shuffle))
-      ∙ none-then _ _ (room-none _ _ (h .weights))
-      ∙ none-then _ _ (room-none _ _ (h .choices))
-      ∙ none-then _ _ (room-none _ _ (h .donors))
-      ∙ none-then _ _ (room-none _ _ (h .recipients))
-      ∙ room-none _ _ (h .records)
-
-  long-passed : shortFault n M W s t ≡ none → LongEnough n M W s t
-  unfolding shortFault
-  long-passed e =
-      let a = then-none _ _ e in
-      let b = then-none _ _ (a .1) in
-      let c = then-none _ _ (b .1) in
-      let d = then-none _ _ (c .1) in
-      let f = then-none _ _ (d .1) in
-      let g = then-none _ _ (f .1) in
-      let h = then-none _ _ (g .1) in
-      record {
-        compatibility = room-passed _ _ (a .0);
-        points = room-passed _ _ (b .0);
-        shuffle = room-passed _ _ (c .0);
-        weights = room-passed _ _ (d .0);
-        choices = room-passed _ _ (f .0);
-        donors = room-passed _ _ (g .0);
-        recipients = room-passed _ _ (h .0);
-        records = room-passed _ _ (h .1);
-      }
-
-  long-fault : (P : ℕ → ℕ → Type 0) → ((LongEnough n M W s t → ⊥) → P 9 0) → (k o : ℕ) → shortFault n M W s t ≡ fault k o → P k o
-  unfolding shortFault
-  long-fault P nine =
-      by-then P _ _ (room-fault P _ _ (λ l. nine (λ h. omega (arith, l, h .compatibility))))
-      (λ _. by-then P _ _ (room-fault P _ _ (λ l. nine (λ h. omega (arith, l, h .points))))
-      (λ _. by-then P _ _ (room-fault P _ _ (λ l. nine (λ h. omega (arith, l, h .shuffle))))
-      (λ _. by-then P _ _ (room-fault P _ _ (λ l. nine (λ h. omega (arith, l, h .weights))))
-      (λ _. by-then P _ _ (room-fault P _ _ (λ l. nine (λ h. omega (arith, l, h .choices))))
-      (λ _. by-then P _ _ (room-fault P _ _ (λ l. nine (λ h. omega (arith, l, h .donors))))
-      (λ _. by-then P _ _ (room-fault P _ _ (λ l. nine (λ h. omega (arith, l, h .recipients))))
-      (λ _. room-fault P _ _ (λ l. nine (λ h. omega (arith, l, h .records))))))))))
-
+module _ (n : ℕ) (M : List ℕ) where
   -- ## 10
 
   -- a row's test
@@ -99,40 +52,109 @@ module _ (n : ℕ) (M W s : List ℕ) (t : Lent) where
   unfolding tableFault row
   table-fault P ten = by-refuse P 10 0 _ (λ e. ten (λ h. true-false e (no-row h)))
 
+module _ (r : Request) (t : Lent) where
+  n : ℕ
+  n = r .scope .pairs
+
+  M : List ℕ
+  M = r .compatibilities
+
+  -- ## 9
+
+  toRead : Fault
+  toRead = shortToRead n (length M) (length (r .weights)) (length (r .shuffle))
+
+  toFill : Fault
+  toFill = shortToFill (r .scope) (lengthsOf t)
+
+  read-none : LongEnough r t → toRead ≡ none
+  unfolding n M toRead shortToRead
+  read-none h =
+      none-then _ _ (room-none _ _ (h .compatibility)) ∙ none-then _ _ (room-none _ _ (h .points)) ∙ room-none _ _ (h .shuffle)
+
+  fill-none : LongEnough r t → toFill ≡ none
+  unfolding toFill shortToFill
+  fill-none h =
+      none-then _ _ (room-none _ _ (h .weights))
+      ∙ none-then _ _ (room-none _ _ (h .choices))
+      ∙ none-then _ _ (room-none _ _ (h .donors))
+      ∙ none-then _ _ (room-none _ _ (h .recipients))
+      ∙ room-none _ _ (h .records)
+
+  long-passed : toRead ≡ none → toFill ≡ none → LongEnough r t
+  unfolding n M toRead toFill shortToRead shortToFill
+  long-passed e f =
+      let a = then-none _ _ e in
+      let b = then-none _ _ (a .1) in
+      let c = then-none _ _ f in
+      let d = then-none _ _ (c .1) in
+      let g = then-none _ _ (d .1) in
+      let h = then-none _ _ (g .1) in
+      record {
+        compatibility = room-passed _ _ (a .0);
+        points = room-passed _ _ (b .0);
+        shuffle = room-passed _ _ (b .1);
+        weights = room-passed _ _ (c .0);
+        choices = room-passed _ _ (d .0);
+        donors = room-passed _ _ (g .0);
+        recipients = room-passed _ _ (h .0);
+        records = room-passed _ _ (h .1);
+      }
+
+  module _ (P : ℕ → ℕ → Type 0) (nine : (LongEnough r t → ⊥) → P 9 0) where
+    read-fault : (k o : ℕ) → toRead ≡ fault k o → P k o
+    unfolding n M toRead shortToRead
+    read-fault =
+        by-then P _ _ (room-fault P _ _ (λ l. nine (λ h. omega (arith, l, h .compatibility))))
+        (λ _. by-then P _ _ (room-fault P _ _ (λ l. nine (λ h. omega (arith, l, h .points))))
+        (λ _. room-fault P _ _ (λ l. nine (λ h. omega (arith, l, h .shuffle)))))
+
+    fill-fault : (k o : ℕ) → toFill ≡ fault k o → P k o
+    unfolding toFill shortToFill
+    fill-fault =
+        by-then P _ _ (room-fault P _ _ (λ l. nine (λ h. omega (arith, l, h .weights))))
+        (λ _. by-then P _ _ (room-fault P _ _ (λ l. nine (λ h. omega (arith, l, h .choices))))
+        (λ _. by-then P _ _ (room-fault P _ _ (λ l. nine (λ h. omega (arith, l, h .donors))))
+        (λ _. by-then P _ _ (room-fault P _ _ (λ l. nine (λ h. omega (arith, l, h .recipients))))
+        (λ _. room-fault P _ _ (λ l. nine (λ h. omega (arith, l, h .records)))))))
+
   -- ## All four
 
-  none-planned : FaultlessInput n M W s t → planFault n M W s t ≡ none
-  unfolding planFault
+  none-planned : FaultlessInput r t → planFault r (lengthsOf t) ≡ none
+  unfolding planFault n M toRead toFill
   none-planned h =
       none-then _ _ (none-refuse 4 0 _ (le-ltb 200 n (h .few)))
-      ∙ none-then _ _ (long-none (h .long))
+      ∙ none-then _ _ (read-none (h .long))
+      ∙ none-then _ _ (fill-none (h .long))
       ∙ none-then _ _ (shuffle-none 0 n _ (h .eachOnce))
-      ∙ table-none (h .compatible)
+      ∙ table-none n M (h .compatible)
 
-  pub checked : planFault n M W s t ≡ none → FaultlessInput n M W s t
-  unfolding planFault
+  pub checked : planFault r (lengthsOf t) ≡ none → FaultlessInput r t
+  unfolding planFault n M toRead toFill
   checked e =
       let a = then-none _ _ e in
       let b = then-none _ _ (a .1) in
       let c = then-none _ _ (b .1) in
+      let d = then-none _ _ (c .1) in
       record {
         few = ltb-false _ _ (refuse-none _ _ _ (a .0));
-        long = long-passed (b .0);
-        eachOnce = shuffle-passed 0 n _ (c .0);
-        compatible = table-passed (c .1);
+        long = long-passed (b .0) (c .0);
+        eachOnce = shuffle-passed 0 n _ (d .0);
+        compatible = table-passed n M (d .1);
       }
 
   -- the fault told is there, and none that is checked before it
-  plan-fault : (k o : ℕ) → planFault n M W s t ≡ fault k o → (o ≡ 0) × PlanFault n M W s t k
-  unfolding planFault
+  plan-fault : (k o : ℕ) → planFault r (lengthsOf t) ≡ fault k o → (o ≡ 0) × PlanFault r t k
+  unfolding planFault n M toRead toFill
   plan-fault =
-      let P : ℕ → ℕ → Type 0 = λ k o. (o ≡ 0) × PlanFault n M W s t k in
+      let P : ℕ → ℕ → Type 0 = λ k o. (o ≡ 0) × PlanFault r t k in
       by-then P _ _ (by-refuse P 4 0 _ (λ e. (refl, tooManyPairs (ltb-true _ _ e))))
       (λ a. let few : n ≤ 200 = ltb-false _ _ (refuse-none _ _ _ a) in
-      by-then P _ _ (long-fault P (λ h. (refl, tooShort few h)))
-      (λ b. let long = long-passed b in
+      by-then P _ _ (read-fault P (λ h. (refl, tooShort few h)))
+      (λ b. by-then P _ _ (fill-fault P (λ h. (refl, tooShort few h)))
+      (λ c. let long = long-passed b c in
       by-then P _ _ (shuffle-fault 0 n _ P (λ h. (refl, notAShuffle few long h)))
-      (λ c. table-fault P (λ h. (refl, notCompatibility few long (shuffle-passed 0 n _ c) h)))))
+      (λ d. table-fault n M P (λ h. (refl, notCompatibility few long (shuffle-passed 0 n _ d) h))))))
 
 -- ## Where a call is finished, there is no fault, and what was to be filled is filled
 
@@ -151,13 +173,13 @@ module _ {Result Lent : Type 0} (r : Result) (new old : Lent) where
 
 pub answers-rightly : AnswersRightly
 unfolding planning
-answers-rightly n M W s t =
+answers-rightly r t =
     record {
-      accepts = λ h. (_, ap (λ (o : Outcome Plan Lent). o .answer) (unless-none _ _ _ _ (none-planned n M W s t h)));
-      accepted = λ p e. checked n M W s t (finished-none _ _ _ _ e .0);
+      accepts = λ h. (_, ap (λ (o : Outcome Plan Lent). o .answer) (unless-none _ _ _ _ (none-planned r t h)));
+      accepted = λ p e. checked r t (finished-none _ _ _ _ e .0);
       refuses =
           λ k place e.
           let f = refused-fault _ _ _ _ e in
-          let d = plan-fault n M W s t k place f in
+          let d = plan-fault r t k place f in
           (d .0, d .1, ap (λ (o : Outcome Plan Lent). o .lent) (unless-fault _ _ _ _ k place f));
     }

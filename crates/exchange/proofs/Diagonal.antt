@@ -6,20 +6,22 @@ use mathlib.Core.Path.{_≡_, refl, ap, ap₂, _∙_}
 use native.Mathlib.Omega.{arith}
 use lib.Dec.{ltb}
 use lib.ListN.{length, getD, length-map}
+use Rattle.laws.specs.Lent.{filled}
 use Rattle.refusal.specs.Fault.{Fault, none, fault}
 use Rattle.refusal.specs.Answer.{finished, Outcome, outcome, unless}
 use Rattle.greedy.specs.Places.{firstAt}
 use Rattle.greedy.specs.Tally.{tally}
 use Rattle.greedy.specs.Rounds.{Left, rounds}
 use Rattle.greedy.proofs.Counts.{times, NoneTwice, AllBelow, Alike, one-same, one-eq, times-append, times-cons, alike-length}
-use Rattle.exchange.specs.Subsets.{subsets, cycles, Edge, along, edges, entry, productOf, sumOf, weigh, firstOf, heaviest, pairsAt, bestCycle, subsetWeight, evaluating}
-use Rattle.exchange.specs.Resolution.{resolved, total}
-use Rattle.exchange.specs.Planning.{Lent, Plan, plan, roundCount, planFault, shortFault, leftBy, plannedBy, filledLent, planning}
+use Rattle.exchange.specs.Subsets.{Scope, subsets, cycles, Edge, along, edges, entry, productOf, sumOf, weigh, firstOf, heaviest, pairsAt, bestCycle, subsetWeight, evaluationTally}
+use Rattle.exchange.specs.Resolution.{resolved, recordOf, recipientTable, donorTable, total}
+use Rattle.exchange.specs.Input.{Request, given}
+use Rattle.exchange.specs.Planning.{Lent, lent, Plan, plan, roundCount, lengthsOf, planFault, shortToRead, leftBy, plannedBy, planFrom, filledLent, planning}
 use Rattle.exchange.specs.Rivals.{Each, Exchange}
 use Rattle.exchange.specs.Promises.{DiagonalUnread}
 use Rattle.exchange.proofs.Ordered.{Subset, subsets-all, each-at, each-mono}
 use Rattle.exchange.proofs.Weighed.{each-cycle}
-use Rattle.exchange.proofs.Seated.{Seated, seated, pairs-below, pairs-times}
+use Rattle.exchange.proofs.Inverse.{Invertible, invertible, pairs-below, pairs-times}
 use Rattle.exchange.proofs.Charged.{bestCycle-alike}
 use Rattle.exchange.proofs.Sets.{Inside, pool-below, below-pool, edges-inside, different-once}
 use Rattle.exchange.proofs.Planned.{planned-set}
@@ -91,7 +93,7 @@ module _ (n : ℕ) (m k w v : ℕ → ℕ → ℕ) (alike : (i j : ℕ) → i < 
   total-agree l (c ∷ cs) h =
       ap₂ _+_ (weigh-agree c (h .0 .least) (different-once c (h .0 .different)) (pool-below n c (h .0 .pool))) (total-agree l cs (h .1))
 
-  module _ (f l : ℕ) (s : List ℕ) (sh : Seated n s) where
+  module _ (f l : ℕ) (s : List ℕ) (sh : Invertible n s) where
     -- a cycle of a subset's places
     score-agree : (c t : List ℕ) → Subset l n t → Alike c t → weigh m w (pairsAt s c) ≡ weigh k v (pairsAt s c)
     unfolding pairsAt
@@ -126,51 +128,69 @@ module _ (n : ℕ) (m k w v : ℕ → ℕ → ℕ) (alike : (i j : ℕ) → i < 
     resolved-agree (c ∷ cs) =
         ap₂ (λ (b : List ℕ) (r : List (List ℕ)). cond (ltb c (length (subsets l n))) (pairsAt s b ∷ r) r) (best-at c) (resolved-agree cs)
 
-    pub left-agree : leftBy f l n m w s ≡ leftBy f l n k v s
+    pub left-agree : leftBy (given f l n m w s) ≡ leftBy (given f l n k v s)
     unfolding leftBy
     left-agree =
-        ap (λ (ws : List ℕ). rounds f (roundCount n) (subsets l n) ws (evaluating (subsets l n) (tally 0 0 0)))
+        ap (λ (ws : List ℕ). rounds f (roundCount n) (subsets l n) ws (evaluationTally (subsets l n) (tally 0 0 0)))
         (weights-agree (subsets l n) (subsets-all l n))
 
-    pub planned-agree : plannedBy f l n m w s ≡ plannedBy f l n k v s
+    pub planned-agree : plannedBy (given f l n m w s) ≡ plannedBy (given f l n k v s)
     unfolding plannedBy
     planned-agree =
-        resolved-agree (leftBy f l n m w s .choices) ∙ ap (λ (r : Left). resolved k v s (subsets l n) (r .choices)) left-agree
+        resolved-agree (leftBy (given f l n m w s) .choices) ∙ ap (λ (r : Left). resolved k v s (subsets l n) (r .choices)) left-agree
 
 -- ---- the same answer
 
-fault-agree : (n : ℕ) (M W W′ s : List ℕ) (t : Lent) → length W ≡ length W′ → planFault n M W s t ≡ planFault n M W′ s t
-unfolding planFault shortFault
-fault-agree n M W W′ s t e = rw e
+module _ (q : Scope) (f : ℕ) (M W W′ s : List ℕ) (t : Lent) (e : length W ≡ length W′)
+    (agree : (i j : ℕ) → i < q .pairs → j < q .pairs → (i ≡ j → ⊥) → entry W (q .pairs) i j ≡ entry W′ (q .pairs) i j) where
+  -- planning with either table of weights
+  abbrev lends : List ℕ → Request
+  lends ws = record { scope = q; floor = f; compatibilities = M; weights = ws; shuffle = s }
 
--- what planning leaves with cycles cs of weight x, after rounds that left r; or the refusal
-abbrev ends : ℕ → Lent → Fault → ℕ → List (List ℕ) → Left → Outcome Plan Lent
-ends n t f x cs r = unless f (plan x (length cs) (r .tally)) (filledLent n r cs t) t
+  abbrev l : ℕ
+  l = q .largest
+
+  abbrev n : ℕ
+  n = q .pairs
+
+  abbrev m : ℕ → ℕ → ℕ
+  m = entry M n
+
+  abbrev w : ℕ → ℕ → ℕ
+  w = entry W n
+
+  abbrev v : ℕ → ℕ → ℕ
+  v = entry W′ n
+
+  fault-agree : planFault (lends W) (lengthsOf t) ≡ planFault (lends W′) (lengthsOf t)
+  unfolding planFault shortToRead
+  fault-agree = rw e
+
+  -- what planning leaves with cycles cs of weight x, after rounds that left r; or the refusal
+  abbrev ends : Fault → ℕ → List (List ℕ) → Left → Outcome Plan Lent
+  ends g x cs r =
+      unless g (plan x (length cs) (r .tally))
+      (lent (filled (r .weights) (t .weights)) (filled (r .choices) (t .choices)) (filled (donorTable n cs) (t .donors))
+      (filled (recipientTable n cs) (t .recipients)) (filled (map (recordOf n) cs) (t .records))) t
+
+  same-answer : planning (lends W) t ≡ planning (lends W′) t
+  unfolding planning planFrom filledLent unless
+  same-answer =
+      ap (λ (g : Fault). ends g (total m w (plannedBy (given f l n m w s))) (plannedBy (given f l n m w s)) (leftBy (given f l n m w s))) fault-agree
+      ∙ go (planFault (lends W′) (lengthsOf t)) refl
+    where
+      go : (g : Fault) → planFault (lends W′) (lengthsOf t) ≡ g
+          → ends g (total m w (plannedBy (given f l n m w s))) (plannedBy (given f l n m w s)) (leftBy (given f l n m w s))
+          ≡ ends g (total m v (plannedBy (given f l n m v s))) (plannedBy (given f l n m v s)) (leftBy (given f l n m v s))
+      go (fault k o) z = refl
+      go none z =
+          let k = checked (lends W′) t z in
+          let sh : Invertible n s = invertible n s (k .long .shuffle) (k .eachOnce) in
+          let set = planned-set f l n m v s sh (k .compatible .zeroOrOne) in
+          ap₂ (λ (cs : List (List ℕ)) (r : Left). ends none (total m w cs) cs r)
+          (planned-agree n m m w v (λ i j a b d. refl) agree f l s sh) (left-agree n m m w v (λ i j a b d. refl) agree f l s sh)
+          ∙ ap (λ (x : ℕ). ends none x (plannedBy (given f l n m v s)) (leftBy (given f l n m v s)))
+          (total-agree n m m w v (λ i j a b d. refl) agree l (plannedBy (given f l n m v s)) (set .exchanges))
 
 pub diagonal-unread : DiagonalUnread
-unfolding planning unless
-diagonal-unread n M W W′ s t e agree =
-    ap (λ (f : Fault). ends n t f (total m w (plannedBy 0 3 n m w s)) (plannedBy 0 3 n m w s) (leftBy 0 3 n m w s)) (fault-agree n M W W′ s t e)
-    ∙ go (planFault n M W′ s t) refl
-  where
-    m : ℕ → ℕ → ℕ
-    m = entry M n
-
-    w : ℕ → ℕ → ℕ
-    w = entry W n
-
-    v : ℕ → ℕ → ℕ
-    v = entry W′ n
-
-    go : (f : Fault) → planFault n M W′ s t ≡ f
-        → ends n t f (total m w (plannedBy 0 3 n m w s)) (plannedBy 0 3 n m w s) (leftBy 0 3 n m w s)
-        ≡ ends n t f (total m v (plannedBy 0 3 n m v s)) (plannedBy 0 3 n m v s) (leftBy 0 3 n m v s)
-    go (fault k o) q = refl
-    go none q =
-        let k = checked n M W′ s t q in
-        let sh : Seated n s = seated n s (k .long .shuffle) (k .eachOnce) in
-        let set = planned-set 0 3 n m v s sh (k .compatible .zeroOrOne) in
-        ap₂ (λ (cs : List (List ℕ)) (r : Left). ends n t none (total m w cs) cs r)
-        (planned-agree n m m w v (λ i j a b d. refl) agree 0 3 s sh) (left-agree n m m w v (λ i j a b d. refl) agree 0 3 s sh)
-        ∙ ap (λ (x : ℕ). ends n t none x (plannedBy 0 3 n m v s) (leftBy 0 3 n m v s))
-        (total-agree n m m w v (λ i j a b d. refl) agree 3 (plannedBy 0 3 n m v s) (set .exchanges))
+diagonal-unread = same-answer

@@ -8,7 +8,7 @@ use native.Mathlib.Nat.{mul-one, mul-assoc}
 use lib.Dec.{ltb}
 use lib.ListN.{getD}
 use Rattle.greedy.specs.Tally.{Tally}
-use Rattle.exchange.specs.Subsets.{eachFirst, orders, cycles, along, edges, productOf, sumOf, weigh, firstOf, heaviest, pairsAt, bestCycle, subsetWeight, evaluating}
+use Rattle.exchange.specs.Subsets.{eachFirst, orders, cycles, along, edges, productOf, sumOf, weigh, firstOf, heaviest, pairsAt, bestCycle, subsetWeight, evaluationTally}
 
 module _ (m w : ℕ → ℕ → ℕ) where
   pub weigh-two : (a b : ℕ) → weigh m w (a ∷ b ∷ []) ≡ m a b * m b a * (w a b + w b a)
@@ -39,7 +39,7 @@ module _ (m w : ℕ → ℕ → ℕ) where
         go false = refl
 
 -- the tally of one subset more
-pub evaluating-append : (ss us : List (List ℕ)) (t : Tally) → evaluating (ss ++ us) t ≡ evaluating us (evaluating ss t)
-unfolding evaluating
+pub evaluating-append : (ss us : List (List ℕ)) (t : Tally) → evaluationTally (ss ++ us) t ≡ evaluationTally us (evaluationTally ss t)
+unfolding evaluationTally
 evaluating-append [] us t = refl
 evaluating-append (s ∷ ss) us t = evaluating-append ss us _

@@ -1,12 +1,12 @@
 -- The theorems of this crate, from the leaves up. `Ordered` and `Published`: the published order. `Weighed` and `Evaluated`: the weights of
--- cycles and subsets. `Seated`: the shuffle and its inverse. `Charged`, `Sets` and `Planned`: the planned cycles against every rival set.
+-- cycles and subsets. `Inverse`: the shuffle and its inverse. `Charged`, `Sets` and `Planned`: the planned cycles against every rival set.
 -- `Tallied`: the closed form. `Loop` and `Shuffled`: Algorithm 1. `Partners`: donors and recipients. `Checked`: what planning checks.
 -- `Guaranteed`: the guarantee for every plan made. `Diagonal`: W(i, i) is not read. `AllPools`: k1 to k12.
 pub mod Ordered
 pub mod Published
 pub mod Weighed
 pub mod Evaluated
-pub mod Seated
+pub mod Inverse
 pub mod Charged
 pub mod Sets
 pub mod Planned

@@ -20,7 +20,7 @@ use Rattle.exchange.specs.Algorithm1 as Algorithm1
 use Rattle.exchange.specs.Promises.{GivingOrder, Consistent}
 use Rattle.exchange.specs.Rivals.{Each}
 use Rattle.exchange.proofs.Ordered.{each-append}
-use Rattle.exchange.proofs.Seated.{Seated, length-table}
+use Rattle.exchange.proofs.Inverse.{Invertible, length-table}
 use Rattle.exchange.proofs.Charged.{joined}
 use Rattle.exchange.proofs.Sets.{Inside, edges-inside, below-pool}
 use Rattle.exchange.proofs.Shuffled.{moved, edges-pairs}
@@ -366,7 +366,7 @@ module _ (n : ℕ) (cs : List (List ℕ)) (below : Each (AllBelow n) cs) (once :
 
 -- ---- the shuffle undone
 
-module _ (n : ℕ) (s : List ℕ) (sh : Seated n s) where
+module _ (n : ℕ) (s : List ℕ) (sh : Invertible n s) where
   eqb-node : (i p : ℕ) → i < n → p < n → eqb i (getD s p 0) ≡ eqb (firstAt i s) p
   eqb-node i p h k = elim (same? i (getD s p 0)) [
     | same e z ↦ eq-eqb i (getD s p 0) e ∙ sym (eq-eqb (firstAt i s) p (rw e (sh .place-seat p k)))

@@ -12,12 +12,13 @@ use borrow.Author.Tests.{lt-ltb, le-ltb}
 use Rattle.greedy.specs.Tally.{tally}
 use Rattle.greedy.proofs.Counts.{times, NoneTwice, one-same}
 use Rattle.greedy.proofs.Bound.{chosen-above}
-use Rattle.exchange.specs.Subsets.{subsets, weigh, pairsAt, bestCycle, evaluating}
+use Rattle.exchange.specs.Subsets.{subsets, weigh, pairsAt, bestCycle, evaluationTally}
 use Rattle.exchange.specs.Resolution.{resolved, total}
+use Rattle.exchange.specs.Input.{given}
 use Rattle.exchange.specs.Planning.{roundCount, leftBy, plannedBy}
 use Rattle.exchange.specs.Rivals.{Each, Different, Exchange, ExchangeSet, credited}
 use Rattle.exchange.proofs.Ordered.{each-mono}
-use Rattle.exchange.proofs.Seated.{Seated, pairs-below}
+use Rattle.exchange.proofs.Inverse.{Invertible, pairs-below}
 use Rattle.exchange.proofs.Charged.{weightsOf, joined, family, size-most, Rival, cycle-below, planned-size, planned-weight, planned-apart, planned-credit, planned-factor}
 use Rattle.exchange.proofs.Sets.{pool-below, below-pool, once-different, apart-once, once-each, once-apart, weigh-executable}
 
@@ -29,7 +30,7 @@ each-both P Q R g (x ∷ xs) h k = (g x (h .0) (k .0), each-both P Q R g xs (h .
 abbrev pub Counts : ℕ → (ℕ → ℕ → ℕ) → (ℕ → ℕ → ℕ) → List ℕ → Type 0
 Counts f m w c = (weigh m w c ≡ 0) ⊎ (f < weigh m w c)
 
-module _ (f l n : ℕ) (m w : ℕ → ℕ → ℕ) (s : List ℕ) (sh : Seated n s) where
+module _ (f l n : ℕ) (m w : ℕ → ℕ → ℕ) (s : List ℕ) (sh : Invertible n s) where
   -- a planned cycle: two to l pairs of the pool, above the floor
   abbrev Above : List ℕ → Type 0
   Above c = Rival f l n m w c × (f < weigh m w c)
@@ -60,13 +61,13 @@ module _ (f l n : ℕ) (m w : ℕ → ℕ → ℕ) (s : List ℕ) (sh : Seated n
         | no k ↦ let q : length (subsets l n) ≤ c = omega arith in rw (le-ltb c (length (subsets l n)) q) ih
       ]
 
-  planned-above : Each Above (plannedBy f l n m w s)
+  planned-above : Each Above (plannedBy (given f l n m w s))
   unfolding plannedBy leftBy
-  planned-above = resolve-each (leftBy f l n m w s .choices)
-      (chosen-above f n (roundCount n) (subsets l n) (weightsOf l n m w s) (evaluating (subsets l n) (tally 0 0 0)) (family l n m w s))
+  planned-above = resolve-each (leftBy (given f l n m w s) .choices)
+      (chosen-above f n (roundCount n) (subsets l n) (weightsOf l n m w s) (evaluationTally (subsets l n) (tally 0 0 0)) (family l n m w s))
 
   -- "all planned cycles are executable, no pair is in two of them"
-  pub planned-set : ((i j : ℕ) → i < n → j < n → m i j ≤ 1) → ExchangeSet l n m (plannedBy f l n m w s)
+  pub planned-set : ((i j : ℕ) → i < n → j < n → m i j ≤ 1) → ExchangeSet l n m (plannedBy (given f l n m w s))
   planned-set bits = record {
     exchanges = each-both Above NoneTwice (Exchange l n m)
         (λ c h o. record {
@@ -76,8 +77,8 @@ module _ (f l n : ℕ) (m w : ℕ → ℕ → ℕ) (s : List ℕ) (sh : Seated n
           different = once-different c o;
           executable = weigh-executable n m bits w c (below-pool n c (h .0 .below)) (omega arith);
         })
-        (plannedBy f l n m w s) planned-above (once-each (plannedBy f l n m w s) (planned-apart f l n m w s sh));
-    apart = once-apart (plannedBy f l n m w s) (planned-apart f l n m w s sh);
+        (plannedBy (given f l n m w s)) planned-above (once-each (plannedBy (given f l n m w s)) (planned-apart f l n m w s sh));
+    apart = once-apart (plannedBy (given f l n m w s)) (planned-apart f l n m w s sh);
   }
 
   module _ (cs : List (List ℕ)) (set : ExchangeSet l n m cs) (heavy : Each (Counts f m w) cs) where
@@ -89,11 +90,11 @@ module _ (f l n : ℕ) (m w : ℕ → ℕ → ℕ) (s : List ℕ) (sh : Seated n
     once = apart-once cs (each-mono (Exchange l n m) Different (λ c h. h .different) cs (set .exchanges)) (set .apart)
 
     -- each planned cycle's weight times its number of pairs, added up, is at least the weight of every such set
-    pub rival-credit : total m w cs ≤ credited m w (plannedBy f l n m w s)
+    pub rival-credit : total m w cs ≤ credited m w (plannedBy (given f l n m w s))
     rival-credit = planned-credit f l n m w s sh cs rivals once
 
     -- and so is l times the plan's weight
-    pub rival-factor : total m w cs ≤ l * total m w (plannedBy f l n m w s)
+    pub rival-factor : total m w cs ≤ l * total m w (plannedBy (given f l n m w s))
     rival-factor = planned-factor f l n m w s sh cs rivals once
 
 -- with floor 0 every cycle counts

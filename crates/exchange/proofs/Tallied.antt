@@ -13,7 +13,8 @@ use Rattle.greedy.specs.Tally.{Tally, tally, raise}
 use Rattle.greedy.specs.Rounds.{rounds}
 use Rattle.greedy.proofs.Choosing.{same-tally}
 use Rattle.greedy.proofs.Tallied.{sizes, after, rounds-tally}
-use Rattle.exchange.specs.Subsets.{ascending, subsets, subsetWeight, evaluating}
+use Rattle.exchange.specs.Subsets.{ascending, subsets, upToThree, subsetWeight, evaluationTally}
+use Rattle.exchange.specs.Input.{given}
 use Rattle.exchange.specs.Planning.{roundCount, leftBy}
 use Rattle.exchange.specs.Promises.{howMany, productsDue, tallyDue, TallyOf}
 use Rattle.exchange.specs.Rivals.{Each}
@@ -56,16 +57,16 @@ sizes-sized (s ∷ ss) h = elim (h .0) [
   | inr e ↦ omega (arith, sizes-sized ss (h .1), one-three s e .0, one-three s e .1)
 ]
 
-evaluating-two : (s : List ℕ) (ss : List (List ℕ)) (t : Tally) → length s ≡ 2 → evaluating (s ∷ ss) t ≡ evaluating ss (raise 0 2 t)
-unfolding evaluating
+evaluating-two : (s : List ℕ) (ss : List (List ℕ)) (t : Tally) → length s ≡ 2 → evaluationTally (s ∷ ss) t ≡ evaluationTally ss (raise 0 2 t)
+unfolding evaluationTally
 evaluating-two s ss t e = rw (eq-eqb (length s) 2 e)
 
-evaluating-three : (s : List ℕ) (ss : List (List ℕ)) (t : Tally) → length s ≡ 3 → evaluating (s ∷ ss) t ≡ evaluating ss (raise 1 7 t)
-unfolding evaluating
+evaluating-three : (s : List ℕ) (ss : List (List ℕ)) (t : Tally) → length s ≡ 3 → evaluationTally (s ∷ ss) t ≡ evaluationTally ss (raise 1 7 t)
+unfolding evaluationTally
 evaluating-three s ss t e = rw (ne-eqb (length s) 2 (omega arith))
 
-evaluating-sized : (ss : List (List ℕ)) → Each Sized ss → (t : Tally) → evaluating ss t ≡ raise (howMany 3 ss) (2 * howMany 2 ss + 7 * howMany 3 ss) t
-unfolding howMany evaluating raise
+evaluating-sized : (ss : List (List ℕ)) → Each Sized ss → (t : Tally) → evaluationTally ss t ≡ raise (howMany 3 ss) (2 * howMany 2 ss + 7 * howMany 3 ss) t
+unfolding howMany evaluationTally raise
 evaluating-sized [] h t = same-tally _ _ (omega arith) (omega arith) refl
 evaluating-sized (s ∷ ss) h t = elim (h .0) [
   | inl e ↦ evaluating-two s ss t e ∙ evaluating-sized ss (h .1) (raise 0 2 t)
@@ -183,7 +184,7 @@ module _ (f n : ℕ) (m w : ℕ → ℕ → ℕ) (s : List ℕ) where
   P : ℕ
   P = howMany 2 (subsets 3 n)
 
-  start : evaluating (subsets 3 n) (tally 0 0 0) ≡ raise T (2 * P + 7 * T) (tally 0 0 0)
+  start : evaluationTally (subsets 3 n) (tally 0 0 0) ≡ raise T (2 * P + 7 * T) (tally 0 0 0)
   unfolding T P
   start = evaluating-sized (subsets 3 n) (sized n) (tally 0 0 0)
 
@@ -211,7 +212,7 @@ module _ (f n : ℕ) (m w : ℕ → ℕ → ℕ) (s : List ℕ) where
       few (suc zero) h = (refl, refl)
       few (suc (suc k)) h = absurd (omega arith)
 
-  left-tally : leftBy f 3 n m w s .tally ≡ tallyDue T P (roundCount n)
+  left-tally : leftBy (given f 3 n m w s) .tally ≡ tallyDue T P (roundCount n)
   unfolding leftBy T P rounds
   left-tally = go (roundCount n) none some
     where
@@ -222,7 +223,7 @@ module _ (f n : ℕ) (m w : ℕ → ℕ → ℕ) (s : List ℕ) where
       ws = map (subsetWeight m w s) ss
 
       t : Tally
-      t = evaluating ss (tally 0 0 0)
+      t = evaluationTally ss (tally 0 0 0)
 
       go : (R : ℕ) → (R ≡ 0 → (T ≡ 0) × (P ≡ 0)) → (0 < R → 0 < T + P) → rounds f R ss ws t .tally ≡ tallyDue T P R
       go zero h k = start ∙ due-none T P (h refl)
@@ -230,7 +231,7 @@ module _ (f n : ℕ) (m w : ℕ → ℕ → ℕ) (s : List ℕ) where
           rounds-tally f (suc r) ss ws t (omega (arith, long, k (omega arith)))
           ∙ (rw (long, sizes-sized ss (sized n), start) (due-after T P (suc r) h))
 
-  pub tallied : TallyOf n (leftBy f 3 n m w s .tally)
+  pub tallied : TallyOf (upToThree n) (leftBy (given f 3 n m w s) .tally)
   unfolding T P
   tallied = record {
     sums = left-tally;

@@ -1,12 +1,13 @@
--- Algorithm 1 of arXiv 2302.13880, line by line; its `S` is the published order of subsets, and 0 is the floor f. Assumes nothing.
+-- Algorithm 1 of arXiv 2302.13880, line by line; its `S` is the published order of subsets, and its 0 the floor. Assumes nothing.
 use Prim.Native.Nat.{ℕ, zero, suc}
 use mathlib.Core.Bool.{Bool, false, cond}
 use mathlib.Core.List.{List, [], _∷_, map, flatMap}
 use lib.Dec.{ltb}
-use lib.ListN.{length, getD}
+use lib.ListN.{getD}
 use Rattle.laws.specs.Below.{table, either}
 use Rattle.greedy.specs.Places.{meets, firstAt}
-use Rattle.exchange.specs.Subsets.{subsets, cycles, edges, weigh, heaviest}
+use Rattle.exchange.specs.Subsets.{order, subsetCount, cycles, edges, weigh, heaviest}
+use Rattle.exchange.specs.Input.{Input}
 use Rattle.exchange.specs.Resolution.{recipientBy, donorBy}
 
 -- line 1, "Shuffle G": node p of the shuffled graph is pair s(p)
@@ -44,12 +45,12 @@ loop (suc k) f weight S =
     let next : Loop = loop k f weight (without heavy S) in
     cond (someAbove f weight S) (record { chosen = heavy ∷ next .chosen; rest = next .rest }) (record { chosen = []; rest = S })
 
-unfoldable pub looped : ℕ → ℕ → ℕ → (ℕ → ℕ → ℕ) → (ℕ → ℕ → ℕ) → List ℕ → Loop
-looped f l n m w s = loop (length (subsets l n)) f (subsetWeight s m w) (subsets l n)
+unfoldable pub looped : Input → Loop
+looped q = loop (subsetCount (q .scope)) (q .floor) (subsetWeight (q .shuffle) (q .compatible) (q .weight)) (order (q .scope))
 
 -- line 11, chosen_cycles: cycles of nodes of the shuffled graph
-unfoldable pub chosenCycles : ℕ → ℕ → ℕ → (ℕ → ℕ → ℕ) → (ℕ → ℕ → ℕ) → List ℕ → List (List ℕ)
-chosenCycles f l n m w s = map (subsetMap (shuffled s m) (shuffled s w)) (looped f l n m w s .chosen)
+unfoldable pub chosenCycles : Input → List (List ℕ)
+chosenCycles q = map (subsetMap (shuffled (q .shuffle) (q .compatible)) (shuffled (q .shuffle) (q .weight))) (looped q .chosen)
 
 -- ## Functionality 1: "the indices of donor and recipient for pair i", with the shuffle undone
 

@@ -5,33 +5,43 @@ use mathlib.Core.List.{List}
 use lib.ListN.{length, getD}
 use Rattle.pool.specs.Faultless.{EachOnce}
 use Rattle.exchange.specs.Subsets.{subsetCount, entry}
+use Rattle.exchange.specs.Input.{Request}
 use Rattle.exchange.specs.Planning.{Lent, roundCount}
 
 -- no lent table is too short
-pub record LongEnough (n : ℕ) (M W s : List ℕ) (t : Lent) : Type 0 where
-  pub compatibility : n * n ≤ length M
-  pub points : n * n ≤ length W
-  pub shuffle : n ≤ length s
-  pub weights : subsetCount n ≤ length (t .weights)
-  pub choices : roundCount n ≤ length (t .choices)
-  pub donors : n ≤ length (t .donors)
-  pub recipients : n ≤ length (t .recipients)
-  pub records : roundCount n ≤ length (t .records)
+pub record LongEnough (r : Request) (t : Lent) : Type 0 where
+  pub compatibility : r .scope .pairs * r .scope .pairs ≤ length (r .compatibilities)
+  pub points : r .scope .pairs * r .scope .pairs ≤ length (r .weights)
+  pub shuffle : r .scope .pairs ≤ length (r .shuffle)
+  pub weights : subsetCount (r .scope) ≤ length (t .weights)
+  pub choices : roundCount (r .scope .pairs) ≤ length (t .choices)
+  pub donors : r .scope .pairs ≤ length (t .donors)
+  pub recipients : r .scope .pairs ≤ length (t .recipients)
+  pub records : roundCount (r .scope .pairs) ≤ length (t .records)
 
 -- M entries are 0 or 1, and M(i, i) = 0
 pub record Compatibility (n : ℕ) (M : List ℕ) : Type 0 where
   pub zeroOrOne : (i j : ℕ) → i < n → j < n → entry M n i j ≤ 1
   pub own : (i : ℕ) → i < n → entry M n i i ≡ 0
 
-pub record FaultlessInput (n : ℕ) (M W s : List ℕ) (t : Lent) : Type 0 where
-  pub few : n ≤ 200
-  pub long : LongEnough n M W s t
-  pub eachOnce : EachOnce n (λ j. getD s j 0)
-  pub compatible : Compatibility n M
+-- the shuffle has each number once
+abbrev pub Shuffles : Request → Type 0
+Shuffles r = EachOnce (r .scope .pairs) (λ j. getD (r .shuffle) j 0)
+
+pub record FaultlessInput (r : Request) (t : Lent) : Type 0 where
+  pub few : r .scope .pairs ≤ 200
+  pub long : LongEnough r t
+  pub eachOnce : Shuffles r
+  pub compatible : Compatibility (r .scope .pairs) (r .compatibilities)
 
 -- "planning checks 4, 9, 8, 10": a refusal's fault is there, and none that is checked before it
-pub data PlanFault (n : ℕ) (M W s : List ℕ) (t : Lent) : ℕ → Type 0 where
-  tooManyPairs : 200 < n → PlanFault n M W s t 4
-  tooShort : n ≤ 200 → (LongEnough n M W s t → ⊥) → PlanFault n M W s t 9
-  notAShuffle : n ≤ 200 → LongEnough n M W s t → (EachOnce n (λ j. getD s j 0) → ⊥) → PlanFault n M W s t 8
-  notCompatibility : n ≤ 200 → LongEnough n M W s t → EachOnce n (λ j. getD s j 0) → (Compatibility n M → ⊥) → PlanFault n M W s t 10
+pub data PlanFault (r : Request) (t : Lent) : ℕ → Type 0 where
+  tooManyPairs : 200 < r .scope .pairs → PlanFault r t 4
+  tooShort : r .scope .pairs ≤ 200 → (LongEnough r t → ⊥) → PlanFault r t 9
+  notAShuffle : r .scope .pairs ≤ 200 → LongEnough r t → (Shuffles r → ⊥) → PlanFault r t 8
+  notCompatibility :
+      r .scope .pairs ≤ 200
+      → LongEnough r t
+      → Shuffles r
+      → (Compatibility (r .scope .pairs) (r .compatibilities) → ⊥)
+      → PlanFault r t 10

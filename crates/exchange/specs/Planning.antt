@@ -12,7 +12,8 @@ use Rattle.pool.specs.Faults.{shuffleFault, roomFault}
 use Rattle.records.specs.declared.Cycle.{Cycle}
 use Rattle.greedy.specs.Tally.{Tally, tally}
 use Rattle.greedy.specs.Rounds.{Left, rounds}
-use Rattle.exchange.specs.Subsets.{subsets, subsetCount, entry, subsetWeight, evaluating}
+use Rattle.exchange.specs.Subsets.{Scope, order, subsetCount, entry, subsetWeights, evaluationTally}
+use Rattle.exchange.specs.Input.{Input, Request, inputOf}
 use Rattle.exchange.specs.Resolution.{resolved, recordOf, recipientTable, donorTable, total}
 
 -- the tables lent to be filled
@@ -41,48 +42,70 @@ roundCount n = n / 2
 
 -- ## Turned back: "planning checks 4, 9, 8, 10" and gives the number; the place is 0
 
+-- how many entries each table to be filled has
+pub record Lengths : Type 0 where
+  pub weights : ℕ
+  pub choices : ℕ
+  pub donors : ℕ
+  pub recipients : ℕ
+  pub records : ℕ
+
+abbrev pub lengths : ℕ → ℕ → ℕ → ℕ → ℕ → Lengths
+lengths a b c d e = record { weights = a; choices = b; donors = c; recipients = d; records = e }
+
+abbrev pub lengthsOf : Lent → Lengths
+lengthsOf t = lengths (length (t .weights)) (length (t .choices)) (length (t .donors)) (length (t .recipients)) (length (t .records))
+
+-- "9 a lent table too short": those that are read, by their lengths
+unfoldable pub shortToRead : ℕ → ℕ → ℕ → ℕ → Fault
+shortToRead n m w s = roomFault m (n * n) then roomFault w (n * n) then roomFault s n
+
+-- then those to be filled
+unfoldable pub shortToFill : Scope → Lengths → Fault
+shortToFill q z =
+    roomFault (z .weights) (subsetCount q)
+    then roomFault (z .choices) (roundCount (q .pairs))
+    then roomFault (z .donors) (q .pairs)
+    then roomFault (z .recipients) (q .pairs)
+    then roomFault (z .records) (roundCount (q .pairs))
+
 -- "10 an M entry above 1, or M(i, i) not 0"
 unfoldable pub tableFault : ℕ → List ℕ → Fault
 tableFault n M =
     refuse 10 0 (anyBelow n (λ i. either (anyBelow n (λ j. ltb 1 (entry M n i j))) (not (eqb (entry M n i i) 0))))
 
--- "9 a lent table too short": those that are read, then those to be filled
-unfoldable pub shortFault : ℕ → List ℕ → List ℕ → List ℕ → Lent → Fault
-shortFault n M W s t =
-    roomFault (length M) (n * n)
-    then roomFault (length W) (n * n)
-    then roomFault (length s) n
-    then roomFault (length (t .weights)) (subsetCount n)
-    then roomFault (length (t .choices)) (roundCount n)
-    then roomFault (length (t .donors)) n
-    then roomFault (length (t .recipients)) n
-    then roomFault (length (t .records)) (roundCount n)
+unfoldable pub planFault : Request → Lengths → Fault
+planFault r z =
+    refuse 4 0 (ltb 200 (r .scope .pairs))
+    then shortToRead (r .scope .pairs) (length (r .compatibilities)) (length (r .weights)) (length (r .shuffle))
+    then shortToFill (r .scope) z
+    then shuffleFault 0 (r .scope .pairs) (λ j. getD (r .shuffle) j 0)
+    then tableFault (r .scope .pairs) (r .compatibilities)
 
-unfoldable pub planFault : ℕ → List ℕ → List ℕ → List ℕ → Lent → Fault
-planFault n M W s t =
-    refuse 4 0 (ltb 200 n) then shortFault n M W s t then shuffleFault 0 n (λ j. getD s j 0) then tableFault n M
-
--- ## The plan, with floor f and largest size l
+-- ## The plan
 
 -- evaluation, then all rounds; the tally "begins at 0"
-unfoldable pub leftBy : ℕ → ℕ → ℕ → (ℕ → ℕ → ℕ) → (ℕ → ℕ → ℕ) → List ℕ → Left
-leftBy f l n m w s =
-    rounds f (roundCount n) (subsets l n) (map (subsetWeight m w s) (subsets l n)) (evaluating (subsets l n) (tally 0 0 0))
+unfoldable pub leftBy : Input → Left
+leftBy q =
+    rounds (q .floor) (roundCount (q .scope .pairs)) (order (q .scope)) (subsetWeights (q .scope) (q .compatible) (q .weight) (q .shuffle))
+    (evaluationTally (order (q .scope)) (tally 0 0 0))
 
 -- the planned cycles
-unfoldable pub plannedBy : ℕ → ℕ → ℕ → (ℕ → ℕ → ℕ) → (ℕ → ℕ → ℕ) → List ℕ → List (List ℕ)
-plannedBy f l n m w s = resolved m w s (subsets l n) (leftBy f l n m w s .choices)
+unfoldable pub plannedBy : Input → List (List ℕ)
+plannedBy q = resolved (q .compatible) (q .weight) (q .shuffle) (order (q .scope)) (leftBy q .choices)
+
+-- the result
+unfoldable pub planFrom : Input → Plan
+planFrom q = plan (total (q .compatible) (q .weight) (plannedBy q)) (length (plannedBy q)) (leftBy q .tally)
 
 -- "n weights, left as after round R; R choices; donor and recipient tables, N each; what lies past these, and past the last record, is
 -- unchanged"
-unfoldable pub filledLent : ℕ → Left → List (List ℕ) → Lent → Lent
-filledLent n r cs t =
-    lent (filled (r .weights) (t .weights)) (filled (r .choices) (t .choices)) (filled (donorTable n cs) (t .donors))
-    (filled (recipientTable n cs) (t .recipients)) (filled (map (recordOf n) cs) (t .records))
+unfoldable pub filledLent : Input → Lent → Lent
+filledLent q t =
+    lent (filled (leftBy q .weights) (t .weights)) (filled (leftBy q .choices) (t .choices))
+    (filled (donorTable (q .scope .pairs) (plannedBy q)) (t .donors)) (filled (recipientTable (q .scope .pairs) (plannedBy q)) (t .recipients))
+    (filled (map (recordOf (q .scope .pairs)) (plannedBy q)) (t .records))
 
--- what planning answers for N, the tables M and W and the shuffle, and what it leaves
-unfoldable pub planning : ℕ → List ℕ → List ℕ → List ℕ → Lent → Outcome Plan Lent
-planning n M W s t =
-    let r : Left = leftBy 0 3 n (entry M n) (entry W n) s in
-    let cs : List (List ℕ) = plannedBy 0 3 n (entry M n) (entry W n) s in
-    unless (planFault n M W s t) (plan (total (entry M n) (entry W n) cs) (length cs) (r .tally)) (filledLent n r cs t) t
+-- what planning answers, and what it leaves
+unfoldable pub planning : Request → Lent → Outcome Plan Lent
+planning r t = unless (planFault r (lengthsOf t)) (planFrom (inputOf r)) (filledLent (inputOf r) t) t

@@ -9,10 +9,10 @@ use Rattle.laws.specs.Below.{table}
 use Rattle.refusal.specs.Answer.{Answer, finished, refused, Outcome, outcome}
 use Rattle.records.specs.declared.Cycle.{Cycle}
 use Rattle.greedy.specs.Tally.{Tally, tally}
-use Rattle.exchange.specs.Subsets.{subsetCount, entry}
-use Rattle.exchange.specs.Resolution.{total}
+use Rattle.exchange.specs.Subsets.{upToThree, subsetCount}
+use Rattle.exchange.specs.Input.{Input, inputOf, request}
 use Rattle.exchange.specs.Planning.{Lent, lent, Plan, plan, roundCount, planning}
-use Rattle.exchange.specs.Rivals.{ExchangeSet}
+use Rattle.exchange.specs.Rivals.{SetOf, weightIn}
 
 -- "Edges as donor→patient:weight"; `mark` is the edge's M entry
 pub record Arrow : Type 0 where
@@ -52,7 +52,7 @@ cycle a b c = record { first = a; second = b; third = c }
 -- lent tables of just the sizes due, their entries 0
 unfoldable pub blank : ℕ → Lent
 blank n =
-    lent (replicate (subsetCount n) 0) (replicate (roundCount n) 0) (replicate n 0) (replicate n 0)
+    lent (replicate (subsetCount (upToThree n)) 0) (replicate (roundCount n) 0) (replicate n 0) (replicate n 0)
     (replicate (roundCount n) (cycle 0 0 0))
 
 unfoldable pub foundIn : Answer Plan → Lent → Found
@@ -62,7 +62,9 @@ foundIn (refused k o) t = turned k
 unfoldable pub found : Case → Found
 found c =
     let o : Outcome Plan Lent =
-    planning (c .pairs) (tableOf (λ a. a .mark) (c .pairs) (c .edges)) (tableOf (λ a. a .weight) (c .pairs) (c .edges)) (c .shuffle) (blank (c .pairs)) in
+    planning
+    (request (c .pairs) (tableOf (λ a. a .mark) (c .pairs) (c .edges)) (tableOf (λ a. a .weight) (c .pairs) (c .edges)) (c .shuffle))
+    (blank (c .pairs)) in
     foundIn (o .answer) (o .lent)
 
 abbrev pub k3edges : List Arrow
@@ -129,12 +131,15 @@ FirstFaultTold = map found twoFaults ≡ map (λ (c : Case). c .due) twoFaults
 -- k3 again, in tables longer than is due: "what lies past these, and past the last record, is unchanged"
 abbrev pub PastUnchanged : Type 0
 PastUnchanged =
-    planning 2 (tableOf (λ a. a .mark) 2 k3edges) (tableOf (λ a. a .weight) 2 k3edges) (0 ∷ 1 ∷ 99 ∷ [])
+    planning (request 2 (tableOf (λ a. a .mark) 2 k3edges) (tableOf (λ a. a .weight) 2 k3edges) (0 ∷ 1 ∷ 99 ∷ []))
     (lent (99 ∷ 99 ∷ []) (99 ∷ 99 ∷ []) (99 ∷ 99 ∷ 99 ∷ []) (99 ∷ 99 ∷ 99 ∷ []) (cycle 99 99 99 ∷ cycle 99 99 99 ∷ []))
     ≡ outcome (finished (plan 12 1 (tally 1 6 1)))
     (lent (12 ∷ 99 ∷ []) (0 ∷ 99 ∷ []) (1 ∷ 0 ∷ 99 ∷ []) (1 ∷ 0 ∷ 99 ∷ []) (cycle 0 1 2 ∷ cycle 99 99 99 ∷ []))
 
+abbrev pub k8 : Input
+k8 = inputOf (request 6 (tableOf (λ a. a .mark) 6 k8edges) (tableOf (λ a. a .weight) 6 k8edges) (0 ∷ 1 ∷ 2 ∷ 3 ∷ 4 ∷ 5 ∷ []))
+
 -- "weight 6 against a rival 18": it is a rival set, and weighs 18
 pub record RivalOfK8 : Type 0 where
-  pub set : ExchangeSet 3 6 (entry (tableOf (λ a. a .mark) 6 k8edges) 6) k8rival
-  pub weight : total (entry (tableOf (λ a. a .mark) 6 k8edges) 6) (entry (tableOf (λ a. a .weight) 6 k8edges) 6) k8rival ≡ 18
+  pub set : SetOf k8 k8rival
+  pub weight : weightIn k8 k8rival ≡ 18

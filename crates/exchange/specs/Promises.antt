@@ -11,12 +11,13 @@ use Rattle.laws.specs.Below.{anyBelow, one, Once}
 use Rattle.refusal.specs.Answer.{finished, refused, Outcome}
 use Rattle.greedy.specs.Places.{among, meets}
 use Rattle.greedy.specs.Tally.{Tally, tally}
-use Rattle.exchange.specs.Subsets.{subsets, subsetCount, entry, subsetWeight, pairsAt}
-use Rattle.exchange.specs.Resolution.{pairsOf, total}
+use Rattle.exchange.specs.Subsets.{Scope, order, subsetCount, entry, subsetWeight, pairsAt}
+use Rattle.exchange.specs.Input.{Input, Request, inputOf, request}
+use Rattle.exchange.specs.Resolution.{pairsOf}
 use Rattle.exchange.specs.Planning.{Lent, Plan, roundCount, planning}
 use Rattle.exchange.specs.Algorithm1 as Algorithm1
 use Rattle.exchange.specs.Faultless.{FaultlessInput, PlanFault}
-use Rattle.exchange.specs.Rivals.{Each, ExchangeSet, credited}
+use Rattle.exchange.specs.Rivals.{Each, SetOf, weightIn, credited}
 
 -- ## The planned cycles
 
@@ -32,11 +33,11 @@ howMany k [] = 0
 howMany k (s ∷ ss) = one (eqb (length s) k) + howMany k ss
 
 -- "T is the number of triples, P that of twos"
-abbrev pub tripleCount : ℕ → ℕ
-tripleCount n = howMany 3 (subsets 3 n)
+abbrev pub tripleCount : Scope → ℕ
+tripleCount q = howMany 3 (order q)
 
-abbrev pub twoCount : ℕ → ℕ
-twoCount n = howMany 2 (subsets 3 n)
+abbrev pub twoCount : Scope → ℕ
+twoCount q = howMany 2 (order q)
 
 -- "products = 2P + 7T + R × (5n − 1) + (R − 1) × (2P + 3T) where R is at least 1, and 0 where R is 0"
 unfoldable pub productsDue : ℕ → ℕ → ℕ → ℕ
@@ -48,11 +49,11 @@ unfoldable pub tallyDue : ℕ → ℕ → ℕ → Tally
 tallyDue T P R = tally (T + R * (T + P)) (productsDue T P R) R
 
 -- "With N pairs, T triples and P twos to be formed from them": counted in the published order, and as binomials
-pub record TallyOf (n : ℕ) (t : Tally) : Type 0 where
-  pub sums : t ≡ tallyDue (tripleCount n) (twoCount n) (roundCount n)
-  pub triples : 6 * tripleCount n ≡ n * (n - 1) * (n - 2)
-  pub twos : 2 * twoCount n ≡ n * (n - 1)
-  pub all : subsetCount n ≡ tripleCount n + twoCount n
+pub record TallyOf (q : Scope) (t : Tally) : Type 0 where
+  pub sums : t ≡ tallyDue (tripleCount q) (twoCount q) (roundCount (q .pairs))
+  pub triples : 6 * tripleCount q ≡ q .pairs * (q .pairs - 1) * (q .pairs - 2)
+  pub twos : 2 * twoCount q ≡ q .pairs * (q .pairs - 1)
+  pub all : subsetCount q ≡ tripleCount q + twoCount q
 
 -- ## Donors and recipients
 
@@ -78,40 +79,40 @@ pub record Consistent (n : ℕ) (cs : List (List ℕ)) (donors recipients : List
   -- "For each chosen cycle", the partners are those of its order
   pub inOrder : Each (λ (c : List ℕ). GivingOrder c donors recipients) cs
 
--- ## The guarantee, for a plan p that was made and what it left in the lent tables
+-- ## The guarantee, for a plan p that was made from q and what it left in the lent tables
 
-pub record Guarantee (n : ℕ) (M W s : List ℕ) (p : Plan) (t : Lent) : Type 0 where
+pub record Guarantee (q : Input) (p : Plan) (t : Lent) : Type 0 where
   -- "all planned cycles are executable, no pair is in two of them"
-  pub exchanges : ExchangeSet 3 n (entry M n) (planned n p t)
+  pub exchanges : SetOf q (planned (q .scope .pairs) p t)
   -- "The plan's weight is the sum of their weights"
-  pub weight : p .weight ≡ total (entry M n) (entry W n) (planned n p t)
+  pub weight : p .weight ≡ weightIn q (planned (q .scope .pairs) p t)
   -- "three times the plan's weight is at least the weight of every other set of executable 2- and 3-cycles sharing no pair"
-  pub factor : (cs : List (List ℕ)) → ExchangeSet 3 n (entry M n) cs → total (entry M n) (entry W n) cs ≤ 3 * p .weight
+  pub factor : (cs : List (List ℕ)) → SetOf q cs → weightIn q cs ≤ q .scope .largest * p .weight
   -- and so is the sum of each planned cycle's weight times its number of pairs, which is no more than that
-  pub credit : (cs : List (List ℕ)) → ExchangeSet 3 n (entry M n) cs → total (entry M n) (entry W n) cs ≤ credited (entry M n) (entry W n) (planned n p t)
-  pub credit-most : credited (entry M n) (entry W n) (planned n p t) ≤ 3 * p .weight
+  pub credit : (cs : List (List ℕ)) → SetOf q cs → weightIn q cs ≤ credited (q .compatible) (q .weight) (planned (q .scope .pairs) p t)
+  pub credit-most : credited (q .compatible) (q .weight) (planned (q .scope .pairs) p t) ≤ q .scope .largest * p .weight
   -- "every such tally is"
-  pub tally : TallyOf n (p .tally)
+  pub tally : TallyOf (q .scope) (p .tally)
   -- "The plan equals that of Algorithm 1, in each pair's donor and recipient", and in its cycles
-  pub cycles : planned n p t ≡ map (pairsAt s) (Algorithm1.chosenCycles 0 3 n (entry M n) (entry W n) s)
-  pub donors : take n (t .donors) ≡ Algorithm1.donors n s (Algorithm1.chosenCycles 0 3 n (entry M n) (entry W n) s)
-  pub recipients : take n (t .recipients) ≡ Algorithm1.recipients n s (Algorithm1.chosenCycles 0 3 n (entry M n) (entry W n) s)
-  pub consistent : Consistent n (planned n p t) (t .donors) (t .recipients)
-  -- no subset is left that weighs more than 0 and meets no choice
+  pub cycles : planned (q .scope .pairs) p t ≡ map (pairsAt (q .shuffle)) (Algorithm1.chosenCycles q)
+  pub donors : take (q .scope .pairs) (t .donors) ≡ Algorithm1.donors (q .scope .pairs) (q .shuffle) (Algorithm1.chosenCycles q)
+  pub recipients : take (q .scope .pairs) (t .recipients) ≡ Algorithm1.recipients (q .scope .pairs) (q .shuffle) (Algorithm1.chosenCycles q)
+  pub consistent : Consistent (q .scope .pairs) (planned (q .scope .pairs) p t) (t .donors) (t .recipients)
+  -- no subset is left that weighs more than the floor and meets no choice
   pub met :
       (i : ℕ)
-      → 0 < subsetWeight (entry M n) (entry W n) s (getD (subsets 3 n) i [])
-      → anyBelow (roundCount n) (λ k. meets (getD (subsets 3 n) i []) (getD (subsets 3 n) (getD (t .choices) k 0) [])) ≡ true
+      → q .floor < subsetWeight (q .compatible) (q .weight) (q .shuffle) (getD (order (q .scope)) i [])
+      → anyBelow (roundCount (q .scope .pairs)) (λ k. meets (getD (order (q .scope)) i []) (getD (order (q .scope)) (getD (t .choices) k 0) [])) ≡ true
 
 -- ## Every answer: a plan for every input with none of the faults, and for no other; else a refusal, and all lent memory unchanged
 
-pub record Answered (n : ℕ) (M W s : List ℕ) (t : Lent) (o : Outcome Plan Lent) : Type 0 where
-  pub accepts : FaultlessInput n M W s t → (p : Plan) × (o .answer ≡ finished p)
-  pub accepted : (p : Plan) → o .answer ≡ finished p → FaultlessInput n M W s t
-  pub refuses : (k place : ℕ) → o .answer ≡ refused k place → (place ≡ 0) × PlanFault n M W s t k × (o .lent ≡ t)
+pub record Answered (r : Request) (t : Lent) (o : Outcome Plan Lent) : Type 0 where
+  pub accepts : FaultlessInput r t → (p : Plan) × (o .answer ≡ finished p)
+  pub accepted : (p : Plan) → o .answer ≡ finished p → FaultlessInput r t
+  pub refuses : (k place : ℕ) → o .answer ≡ refused k place → (place ≡ 0) × PlanFault r t k × (o .lent ≡ t)
 
 abbrev pub AnswersRightly : Type 0
-AnswersRightly = (n : ℕ) (M W s : List ℕ) (t : Lent) → Answered n M W s t (planning n M W s t)
+AnswersRightly = (r : Request) (t : Lent) → Answered r t (planning r t)
 
 -- ## No lent table grows or shrinks, whatever the answer
 
@@ -123,34 +124,45 @@ pub record SameLengths (t u : Lent) : Type 0 where
   pub records : length (u .records) ≡ length (t .records)
 
 abbrev pub LengthsStay : Type 0
-LengthsStay = (n : ℕ) (M W s : List ℕ) (t : Lent) → SameLengths t (planning n M W s t .lent)
+LengthsStay = (r : Request) (t : Lent) → SameLengths t (planning r t .lent)
 
--- ## Demands 2 and 3, for every plan made
+-- ## Demands 2 and 3, for every plan made of N pairs with document 01's sizes and floor
 
 abbrev pub Guaranteed : Type 0
 Guaranteed =
     (n : ℕ) (M W s : List ℕ) (t : Lent) (p : Plan)
-    → planning n M W s t .answer ≡ finished p
-    → Guarantee n M W s p (planning n M W s t .lent)
+    → planning (request n M W s) t .answer ≡ finished p
+    → Guarantee (inputOf (request n M W s)) p (planning (request n M W s) t .lent)
+
+-- ## The promise of a call that plans: o is its answer and what it leaves
+
+pub record PlansRightly (r : Request) (t : Lent) (o : Outcome Plan Lent) : Type 0 where
+  pub equal : o ≡ planning r t
+  pub answered : Answered r t o
+  pub guarantee : (p : Plan) → o .answer ≡ finished p → Guarantee (inputOf r) p (o .lent)
+
+abbrev pub PlanningIsRight : Type 0
+PlanningIsRight = (n : ℕ) (M W s : List ℕ) (t : Lent) (o : Outcome Plan Lent) → o ≡ planning (request n M W s) t → PlansRightly (request n M W s) t o
 
 -- "if they have equally many pairs and both plans are made, then both plans carry the same tally"
 abbrev pub SameTally : Type 0
 SameTally =
     (n : ℕ) (M W s : List ℕ) (t : Lent) (p : Plan) (M′ W′ s′ : List ℕ) (t′ : Lent) (p′ : Plan)
-    → planning n M W s t .answer ≡ finished p
-    → planning n M′ W′ s′ t′ .answer ≡ finished p′
+    → planning (request n M W s) t .answer ≡ finished p
+    → planning (request n M′ W′ s′) t′ .answer ≡ finished p′
     → p .tally ≡ p′ .tally
 
 -- "W(i, i) is not read": equally long weight tables with the same entries for different pairs have the same answer, and leave the same
 abbrev pub DiagonalUnread : Type 0
 DiagonalUnread =
-    (n : ℕ) (M W W′ s : List ℕ) (t : Lent)
+    (q : Scope) (f : ℕ) (M W W′ s : List ℕ) (t : Lent)
     → length W ≡ length W′
-    → ((i j : ℕ) → i < n → j < n → (i ≡ j → ⊥) → entry W n i j ≡ entry W′ n i j)
-    → planning n M W s t ≡ planning n M W′ s t
+    → ((i j : ℕ) → i < q .pairs → j < q .pairs → (i ≡ j → ⊥) → entry W (q .pairs) i j ≡ entry W′ (q .pairs) i j)
+    → planning (record { scope = q; floor = f; compatibilities = M; weights = W; shuffle = s }) t
+    ≡ planning (record { scope = q; floor = f; compatibilities = M; weights = W′; shuffle = s }) t
 
--- Algorithm 1's loop has ended: nothing above the floor is left, whatever the graph
+-- Algorithm 1's loop has ended: nothing above the floor is left, whatever the input
 abbrev pub LoopEnds : Type 0
 LoopEnds =
-    (f l n : ℕ) (m w : ℕ → ℕ → ℕ) (s : List ℕ)
-    → Algorithm1.someAbove f (Algorithm1.subsetWeight s m w) (Algorithm1.looped f l n m w s .rest) ≡ false
+    (q : Input)
+    → Algorithm1.someAbove (q .floor) (Algorithm1.subsetWeight (q .shuffle) (q .compatible) (q .weight)) (Algorithm1.looped q .rest) ≡ false

@@ -6,6 +6,8 @@ use mathlib.Core.List.{List, [], _∷_}
 use lib.ListN.{length}
 use Rattle.greedy.specs.Places.{among, meets}
 use Rattle.exchange.specs.Subsets.{Edge, edges, weigh}
+use Rattle.exchange.specs.Input.{Input}
+use Rattle.exchange.specs.Resolution.{total}
 
 -- every one of a list
 abbrev pub Each : {A : Type 0} → (A → Type 0) → List A → Type 0
@@ -38,6 +40,14 @@ Apart (c ∷ cs) = Each (λ (d : List ℕ). meets c d ≡ false) cs × Apart cs
 pub record ExchangeSet (l n : ℕ) (m : ℕ → ℕ → ℕ) (cs : List (List ℕ)) : Type 0 where
   pub exchanges : Each (Exchange l n m) cs
   pub apart : Apart cs
+
+-- those of planning's input
+abbrev pub SetOf : Input → List (List ℕ) → Type 0
+SetOf q cs = ExchangeSet (q .scope .largest) (q .scope .pairs) (q .compatible) cs
+
+-- what such a set weighs
+abbrev pub weightIn : Input → List (List ℕ) → ℕ
+weightIn q cs = total (q .compatible) (q .weight) cs
 
 -- the sum of each cycle's weight times its number of pairs
 unfoldable pub credited : (ℕ → ℕ → ℕ) → (ℕ → ℕ → ℕ) → List (List ℕ) → ℕ

@@ -1,5 +1,4 @@
--- "Subsets and their weights". l is the largest size, 3 in document 01; m and w give the compatibility and the weight of donor i for
--- patient j. Assumes nothing.
+-- "Subsets and their weights". l is the largest size; m and w give the compatibility and the weight of donor i for patient j. Assumes nothing.
 use Prim.Native.Nat.{ℕ, zero, suc, _+_, _*_}
 use mathlib.Core.Bool.{cond}
 use mathlib.Core.List.{List, [], _∷_, _++_, map}
@@ -22,9 +21,25 @@ subsets zero n = []
 subsets (suc zero) n = []
 subsets (suc (suc k)) n = ascending (suc (suc k)) 0 n ++ subsets (suc k) n
 
--- "n that of all subsets", with sizes to three
-abbrev pub subsetCount : ℕ → ℕ
-subsetCount n = length (subsets 3 n)
+-- which subsets are formed: of how many places, one for each pair, and of how many of them at most
+pub record Scope : Type 0 where
+  pub pairs : ℕ
+  pub largest : ℕ
+
+abbrev pub scope : ℕ → ℕ → Scope
+scope l n = record { pairs = n; largest = l }
+
+-- document 01's: twos and triples of n places
+abbrev pub upToThree : ℕ → Scope
+upToThree n = scope 3 n
+
+-- all of them, as they are numbered
+abbrev pub order : Scope → List (List ℕ)
+order q = subsets (q .largest) (q .pairs)
+
+-- "n that of all subsets"
+abbrev pub subsetCount : Scope → ℕ
+subsetCount q = length (order q)
 
 -- ## Cycles: lists of places, or of pairs, in giving order
 
@@ -97,9 +112,13 @@ bestCycle m w s t = heaviest (λ (c : List ℕ). weigh m w (pairsAt s c)) (cycle
 unfoldable pub subsetWeight : (ℕ → ℕ → ℕ) → (ℕ → ℕ → ℕ) → List ℕ → List ℕ → ℕ
 subsetWeight m w s t = weigh m w (pairsAt s (bestCycle m w s t))
 
+-- all of them, in the published order
+abbrev pub subsetWeights : Scope → (ℕ → ℕ → ℕ) → (ℕ → ℕ → ℕ) → List ℕ → List ℕ
+subsetWeights q m w s = map (subsetWeight m w s) (order q)
+
 -- ## Their tally
 
 -- "one comparison per triple evaluated"; "2 products per two evaluated, 7 per triple"
-unfoldable pub evaluating : List (List ℕ) → Tally → Tally
-evaluating [] t = t
-evaluating (s ∷ ss) t = evaluating ss (cond (eqb (length s) 2) (raise 0 2 t) (raise 1 7 t))
+unfoldable pub evaluationTally : List (List ℕ) → Tally → Tally
+evaluationTally [] t = t
+evaluationTally (s ∷ ss) t = evaluationTally ss (cond (eqb (length s) 2) (raise 0 2 t) (raise 1 7 t))

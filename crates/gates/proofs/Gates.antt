@@ -1,26 +1,19 @@
 -- The laws of the gates. Assumes nothing.
-use Prim.Native.Nat.{ℕ, zero, suc, _+_, _*_, _≤_}
+use Prim.Native.Nat.{ℕ, _+_, _≤_}
 use mathlib.Core.Bool.{Bool, true, false, cond}
 use mathlib.Core.Path.{_≡_, ap, _∙_}
-use native.Mathlib.Nat.{not-suc-le-zero, le-of-suc-le-suc, one-mul, zero-mul}
 use native.Mathlib.Omega.{arith}
 use lib.Dec.{eqb}
 use Rattle.laws.specs.Below.{one}
 use Rattle.greedy.specs.Tally as Tallies
 use Rattle.greedy.specs.Tally.{raise}
-use Rattle.gates.specs.Counts.{counted, Raised, Room}
+use Rattle.gates.specs.Counts.{counted, Raised, TallyRoom}
 use Rattle.gates.specs.Secrets.{valueOf}
 use Rattle.gates.specs.declared.Secret.{Secret}
 use Rattle.gates.specs.declared.Tally.{Tally}
 
--- ## A bit times a number
+-- ## A bit that is a test
 
-pub bit-times : (bit x : ℕ) → bit ≤ 1 → bit * x ≤ x
-bit-times zero x h = omega (arith, zero-mul x)
-bit-times (suc zero) x h = omega (arith, one-mul x)
-bit-times (suc (suc k)) x h = absurd (not-suc-le-zero (le-of-suc-le-suc h))
-
--- a bit that is a test
 pub bit-le : (t : Bool) (bit : ℕ) → bit ≡ one t → bit ≤ 1
 unfolding one
 bit-le true bit e = omega arith
@@ -59,5 +52,5 @@ raised c p t u h = tallies (h .comparisons) (h .products) (h .rounds)
 pub raised-then : {c p d q : ℕ} {t u v : Tally} → Raised c p t u → Raised d q u v → Raised (c + d) (p + q) t v
 raised-then h k = record { comparisons = omega arith; products = omega arith; rounds = k .rounds ∙ h .rounds }
 
-pub room-left : (c p d q : ℕ) (t u : Tally) → Room (c + d) (p + q) t → Raised c p t u → Room d q u
+pub room-left : (c p d q : ℕ) (t u : Tally) → TallyRoom (c + d) (p + q) t → Raised c p t u → TallyRoom d q u
 room-left c p d q t u room h = record { comparisons = omega arith; products = omega arith }

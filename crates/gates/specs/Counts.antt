@@ -19,6 +19,6 @@ pub record Raised (c p : ℕ) (t u : Tally) : Type 0 where
   pub rounds : u .rounds ≡ t .rounds
 
 -- t can be raised so: no count outgrows its 64 bits
-pub record Room (c p : ℕ) (t : Tally) : Type 0 where
+pub record TallyRoom (c p : ℕ) (t : Tally) : Type 0 where
   pub comparisons : t .comparisons + c < 2 ^ 64
   pub products : t .products + p < 2 ^ 64

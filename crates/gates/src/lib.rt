@@ -10,7 +10,7 @@ ghost use lib.ListN.{length, getD, set};
 ghost use Rattle.laws.specs.Below.{one};
 ghost use Rattle.greedy.specs.Tally.{nextRound, tally};
 ghost use Rattle.greedy.specs.Places.{among};
-ghost use Rattle.gates.specs.Counts.{counted, tallyOf, Room, Raised};
+ghost use Rattle.gates.specs.Counts.{counted, tallyOf, TallyRoom, Raised};
 ghost use Rattle.gates.specs.Secrets.{valueOf};
 
 // A secret: an entry of M or W, a weight, a choice's number or one of its places, or what gates make of them.
@@ -49,7 +49,7 @@ pub struct SecretPlaces {
 
 // One product more.
 fn product_counted(t: Tally) -> Tally
-    requires { ⌜ Room 0 1 t ⌝ }
+    requires { ⌜ TallyRoom 0 1 t ⌝ }
     ensures { λ r. ⌜ Raised 0 1 t r ⌝ }
 {
     Tally {
@@ -60,7 +60,7 @@ fn product_counted(t: Tally) -> Tally
 }
 
 pub fn product(a: Secret, b: Secret, t: Tally) -> Gated
-    requires { ⌜ (valueOf a * valueOf b < 2 ^ 32) × Room 0 1 t ⌝ }
+    requires { ⌜ (valueOf a * valueOf b < 2 ^ 32) × TallyRoom 0 1 t ⌝ }
     ensures { λ r. ⌜ (valueOf (r .value) ≡ valueOf a * valueOf b) × Raised 0 1 t (r .tally) ⌝ }
 {
     let counted = product_counted(t);
@@ -75,7 +75,7 @@ pub fn product(a: Secret, b: Secret, t: Tally) -> Gated
 
 // 1 where a is less than b, else 0.
 pub fn comparison(a: Secret, b: Secret, t: Tally) -> Gated
-    requires { ⌜ Room 1 0 t ⌝ }
+    requires { ⌜ TallyRoom 1 0 t ⌝ }
     ensures { λ r. ⌜ (valueOf (r .value) ≡ one (ltb (valueOf a) (valueOf b))) × Raised 1 0 t (r .tally) ⌝ }
 {
     let counted = Tally {
@@ -94,7 +94,7 @@ pub fn comparison(a: Secret, b: Secret, t: Tally) -> Gated
 
 // a where the bit is 1, b where it is 0: one product, bit × (a − b) + b, as the paper has it.
 pub fn pick(bit: Secret, a: Secret, b: Secret, t: Tally) -> Gated
-    requires { ⌜ (valueOf bit ≤ 1) × Room 0 1 t ⌝ }
+    requires { ⌜ (valueOf bit ≤ 1) × TallyRoom 0 1 t ⌝ }
     ensures { λ r. ⌜ (valueOf (r .value) ≡ cond (eqb (valueOf bit) 1) (valueOf a) (valueOf b)) × Raised 0 1 t (r .tally) ⌝ }
 {
     let counted = product_counted(t);

@@ -14,7 +14,7 @@ use borrow.Author.Tests.{ltb-true, ltb-false, le-ltb, le-leb, lt-leb}
 use Rattle.greedy.proofs.Counts.{times, shared, NoneTwice, AllBelow, Same, same, other, same?, times-append, shared-nil, shared-append, shared-join, shared-once, shared-both, shared-alike, shared-sym, meets-shared, Alike, pigeon}
 use Rattle.greedy.specs.Places.{meets, firstAt}
 use Rattle.greedy.specs.Tally.{Tally, nextRound}
-use Rattle.greedy.specs.Rounds.{choosing, clear, clearing, rounds}
+use Rattle.greedy.specs.Rounds.{choosing, clear, clearingTally, rounds}
 use Rattle.greedy.specs.Promises.{greatest, choice, Lowest, none, some, ChoiceIsLowest, picks, cleared, RoundsChoose, WeightsLeft}
 use Rattle.greedy.proofs.Choosing.{First, greatest-first, choosing-number}
 
@@ -30,7 +30,7 @@ choice-is f ss (x ∷ ws) = go (ltb f (greatest (x ∷ ws))) refl (greatest-firs
     go true e h = some (omega (arith, ltb-true f (greatest (x ∷ ws)) e, h .there)) (λ i. omega (arith, h .there, h .most i)) (λ i k. omega (arith, h .there, h .first i k))
     go false e h = none refl (λ i. omega (arith, ltb-false f (greatest (x ∷ ws)) e, h .most i))
 
--- ---- what clearing does
+-- ---- what clearingTally does
 
 module _ (c : List ℕ) where
   pub clear-miss : (ss : List (List ℕ)) (ws : List ℕ) (i : ℕ) → shared c (getD ss i []) ≡ 0 → getD (clear c ss ws) i 0 ≡ getD ws i 0
@@ -82,14 +82,14 @@ unfolding rounds picks
 rounds-picks f zero ss ws t = refl
 rounds-picks f (suc zero) ss ws t = ap (λ (c : ℕ). c ∷ []) (choosing-number f ss ws (nextRound t))
 rounds-picks f (suc (suc r)) ss ws t = rw (choosing-number f ss ws (nextRound t))
-    (ap (λ (l : List ℕ). choice f ss ws ∷ l) (rounds-picks f (suc r) ss (clear (getD ss (choice f ss ws) []) ss ws) (clearing ss (choosing f ss ws (nextRound t) .tally))))
+    (ap (λ (l : List ℕ). choice f ss ws ∷ l) (rounds-picks f (suc r) ss (clear (getD ss (choice f ss ws) []) ss ws) (clearingTally ss (choosing f ss ws (nextRound t) .tally))))
 
 -- "after each round but the last"
 pub rounds-weights : WeightsLeft
 unfolding rounds cleared
 rounds-weights f zero ss ws t = refl
 rounds-weights f (suc r) ss ws t = rw (choosing-number f ss ws (nextRound t))
-    (rounds-weights f r ss (clear (getD ss (choice f ss ws) []) ss ws) (clearing ss (choosing f ss ws (nextRound t) .tally)))
+    (rounds-weights f r ss (clear (getD ss (choice f ss ws) []) ss ws) (clearingTally ss (choosing f ss ws (nextRound t) .tally)))
 
 -- each chosen subset bears its weight for every place of its own that stands in l
 unfoldable pub charge : List (List ℕ) → List ℕ → List ℕ → List ℕ → ℕ

@@ -5,7 +5,7 @@ use mathlib.Core.Path.{_≡_, refl, ap, _∙_}
 use native.Mathlib.Omega.{arith}
 use lib.ListN.{length, getD}
 use Rattle.greedy.specs.Tally.{Tally, tally, raise, nextRound}
-use Rattle.greedy.specs.Rounds.{Chosen, choosing, clear, clearing, rounds}
+use Rattle.greedy.specs.Rounds.{Chosen, choosing, clear, clearingTally, rounds}
 use Rattle.greedy.proofs.Choosing.{same-tally, choosing-tally}
 
 -- the number of places of all subsets
@@ -13,13 +13,13 @@ unfoldable pub sizes : List (List ℕ) → ℕ
 sizes [] = 0
 sizes (s ∷ ss) = length s + sizes ss
 
-pub clearing-is : (ss : List (List ℕ)) (t : Tally) → clearing ss t ≡ raise 0 (sizes ss) t
-unfolding clearing sizes raise
+pub clearing-is : (ss : List (List ℕ)) (t : Tally) → clearingTally ss t ≡ raise 0 (sizes ss) t
+unfolding clearingTally sizes raise
 clearing-is [] t = same-tally _ _ (omega arith) (omega arith) refl
 clearing-is (s ∷ ss) t = clearing-is ss (raise 0 (length s) t) ∙ same-tally _ _ (omega arith) (omega arith) refl
 
-pub clearing-append : (ss us : List (List ℕ)) (t : Tally) → clearing (ss ++ us) t ≡ clearing us (clearing ss t)
-unfolding clearing
+pub clearing-append : (ss us : List (List ℕ)) (t : Tally) → clearingTally (ss ++ us) t ≡ clearingTally us (clearingTally ss t)
+unfolding clearingTally
 clearing-append [] us t = refl
 clearing-append (s ∷ ss) us t = clearing-append ss us (raise 0 (length s) t)
 
@@ -36,7 +36,7 @@ rounds-length f zero ss ws t = (refl, refl)
 rounds-length f (suc zero) ss ws t = (refl, refl)
 rounds-length f (suc (suc r)) ss ws t =
     let c : Chosen = choosing f ss ws (nextRound t) in
-    let h = rounds-length f (suc r) ss (clear (getD ss (c .number) []) ss ws) (clearing ss (c .tally)) in
+    let h = rounds-length f (suc r) ss (clear (getD ss (c .number) []) ss ws) (clearingTally ss (c .tally)) in
     (h .0 ∙ clear-length (getD ss (c .number) []) ss ws, ap suc (h .1))
 
 -- what r rounds over n weights add
@@ -69,5 +69,5 @@ rounds-tally f (suc zero) ss ws t h = choosing-tally f ss ws (nextRound t) h ∙
 rounds-tally f (suc (suc r)) ss ws t h =
     let c : Chosen = choosing f ss ws (nextRound t) in
     let e : length (clear (getD ss (c .number) []) ss ws) ≡ length ws = clear-length (getD ss (c .number) []) ss ws in
-    rounds-tally f (suc r) ss (clear (getD ss (c .number) []) ss ws) (clearing ss (c .tally)) (omega arith)
+    rounds-tally f (suc r) ss (clear (getD ss (c .number) []) ss ws) (clearingTally ss (c .tally)) (omega arith)
     ∙ (rw (e, clearing-is ss (c .tally), choosing-tally f ss ws (nextRound t) h) (after-step r (length ws) (sizes ss) t))

@@ -59,19 +59,19 @@ clear c [] ws = ws
 clear c (s ∷ ss) [] = []
 clear c (s ∷ ss) (x ∷ ws) = cond (meets s c) 0 x ∷ clear c ss ws
 
--- "in clearing 2 per two, 3 per triple": a product for each place of each subset
-unfoldable pub clearing : List (List ℕ) → Tally → Tally
-clearing [] t = t
-clearing (s ∷ ss) t = clearing ss (raise 0 (length s) t)
+-- "in clearingTally 2 per two, 3 per triple": a product for each place of each subset
+unfoldable pub clearingTally : List (List ℕ) → Tally → Tally
+clearingTally [] t = t
+clearingTally (s ∷ ss) t = clearingTally ss (raise 0 (length s) t)
 
 -- "After each round but the last": where r rounds are left
 abbrev pub clearBefore : ℕ → List ℕ → List (List ℕ) → List ℕ → List ℕ
 clearBefore zero c ss ws = ws
 clearBefore (suc r) c ss ws = clear c ss ws
 
-abbrev pub clearingBefore : ℕ → List (List ℕ) → Tally → Tally
-clearingBefore zero ss t = t
-clearingBefore (suc r) ss t = clearing ss t
+abbrev pub clearingTallyBefore : ℕ → List (List ℕ) → Tally → Tally
+clearingTallyBefore zero ss t = t
+clearingTallyBefore (suc r) ss t = clearingTally ss t
 
 -- ## The rounds
 
@@ -89,5 +89,5 @@ unfoldable pub rounds : ℕ → ℕ → List (List ℕ) → List ℕ → Tally �
 rounds f zero ss ws t = left ws [] t
 rounds f (suc r) ss ws t =
     let c : Chosen = chosenIn f ss ws t in
-    let rest : Left = rounds f r ss (clearBefore r (getD ss (c .number) []) ss ws) (clearingBefore r ss (c .tally)) in
+    let rest : Left = rounds f r ss (clearBefore r (getD ss (c .number) []) ss ws) (clearingTallyBefore r ss (c .tally)) in
     left (rest .weights) (c .number ∷ rest .choices) (rest .tally)

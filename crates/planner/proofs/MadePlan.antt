@@ -13,32 +13,36 @@ use Rattle.records.specs.declared.Cycle.{Cycle}
 use Rattle.greedy.specs.Tally as Tallies
 use Rattle.greedy.specs.Rounds.{Left, left}
 use Rattle.greedy.proofs.Tallied.{rounds-length}
-use Rattle.exchange.specs.Subsets.{subsets, subsetCount, entry, subsetWeight}
+use Rattle.exchange.specs.Subsets.{upToThree, order, subsetCount, entry, subsetWeight}
+use Rattle.exchange.specs.Input.{Input, input, inputOf, request}
 use Rattle.exchange.specs.Resolution.{recordOf, donorTable, recipientTable}
-use Rattle.exchange.specs.Planning.{lent, plan, roundCount, leftBy, plannedBy, filledLent}
+use Rattle.exchange.specs.Planning.{lent, plan, roundCount, leftBy, plannedBy, planFrom, filledLent}
 use Rattle.exchange.proofs.Guaranteed.{resolved-few}
 use Rattle.gates.specs.Counts.{counted, tallyOf}
 use Rattle.gates.specs.declared.Counts.{Counts}
 use Rattle.gates.specs.declared.Tally.{Tally}
-use Rattle.resolution.specs.Records.{chosenBy, noRecords, resultOf}
-use Rattle.resolution.specs.Asked.{Resolving}
+use Rattle.resolution.specs.Records.{cyclesOf, noRecords, resolvedCycles}
+use Rattle.resolution.specs.Preconditions.{Resolving}
 use Rattle.resolution.specs.declared.Resolved.{Resolved}
-use Rattle.planner.specs.Said.{answerOf}
-use Rattle.planner.specs.Checks.{Stepping, Checked, planOf, madeOf}
+use Rattle.planner.specs.Answers.{answerOf}
+use Rattle.planner.specs.Preconditions.{Stepping, Checked}
 use Rattle.planner.specs.declared.Planning.the-variants.{Made}
+
+abbrev q : ℕ → List ℕ → List ℕ → List ℕ → Input
+q n M W s = inputOf (request n M W s)
 
 -- ## What is left has the length due
 
-left-lengths : (n : ℕ) (m w : ℕ → ℕ → ℕ) (s : List ℕ) → (length (leftBy 0 3 n m w s .weights) ≡ subsetCount n) × (length (leftBy 0 3 n m w s .choices) ≡ roundCount n)
+left-lengths : (n : ℕ) (m w : ℕ → ℕ → ℕ) (s : List ℕ) → (length (leftBy (input n m w s) .weights) ≡ subsetCount (upToThree n)) × (length (leftBy (input n m w s) .choices) ≡ roundCount n)
 unfolding leftBy
 left-lengths n m w s =
-    let e = rounds-length 0 (roundCount n) (subsets 3 n) (map (subsetWeight m w s) (subsets 3 n)) _ in
-    (e .0 ∙ length-map (subsets 3 n) (subsetWeight m w s), e .1)
+    let e = rounds-length 0 (roundCount n) (order (upToThree n)) (map (subsetWeight m w s) (order (upToThree n))) _ in
+    (e .0 ∙ length-map (order (upToThree n)) (subsetWeight m w s), e .1)
 
 -- there are no more cycles than rounds
-planned-few : (n : ℕ) (m w : ℕ → ℕ → ℕ) (s : List ℕ) → length (plannedBy 0 3 n m w s) ≤ roundCount n
+planned-few : (n : ℕ) (m w : ℕ → ℕ → ℕ) (s : List ℕ) → length (plannedBy (input n m w s)) ≤ roundCount n
 unfolding plannedBy
-planned-few n m w s = omega (arith, resolved-few m w s (subsets 3 n) (leftBy 0 3 n m w s .choices), left-lengths n m w s .1)
+planned-few n m w s = omega (arith, resolved-few m w s (order (upToThree n)) (leftBy (input n m w s) .choices), left-lengths n m w s .1)
 
 -- a part of a lent table, from its start
 pub front : (k : ℕ) (l : List ℕ) → k ≤ length l → k ≡ length (take k l)
@@ -49,14 +53,14 @@ past : (k : ℕ) (new old : List ℕ) → length new ≡ k → new ++ drop k old
 unfolding filled
 past k new old e = ap (λ (j : ℕ). new ++ drop j old) (sym e)
 
-module _ (n : ℕ) (M W s weights choices donors recipients : List ℕ) (asked : Checked n M W s weights choices donors recipients) (all : ℕ) (ea : all ≡ subsetCount n) where
+module _ (n : ℕ) (M W s weights choices donors recipients : List ℕ) (asked : Checked (request n M W s) weights choices donors recipients) (all : ℕ) (ea : all ≡ subsetCount (upToThree n)) where
   pub weights-front : all ≡ length (take all weights)
   weights-front = front all weights (omega (arith, asked .inWeights))
 
   pub choices-front : n / 2 ≡ length (take (n / 2) choices)
   choices-front = front (n / 2) choices (asked .inChoices)
 
-  pub asks-steps : Stepping n M W s (take all weights) (take (n / 2) choices)
+  pub asks-steps : Stepping (request n M W s) (take all weights) (take (n / 2) choices)
   asks-steps = record {
     readable = asked .readable;
     shuffled = asked .shuffled;
@@ -64,11 +68,11 @@ module _ (n : ℕ) (M W s weights choices donors recipients : List ℕ) (asked :
     all = sym choices-front;
   }
 
-  module _ (ws cs : List ℕ) (u : Tally) (e : left ws cs (counted u) ≡ leftBy 0 3 n (entry M n) (entry W n) s) where
-    weights-are : ws ≡ leftBy 0 3 n (entry M n) (entry W n) s .weights
+  module _ (ws cs : List ℕ) (u : Tally) (e : left ws cs (counted u) ≡ leftBy (q n M W s)) where
+    weights-are : ws ≡ leftBy (q n M W s) .weights
     weights-are = ap (λ (x : Left). x .weights) e
 
-    choices-are : cs ≡ leftBy 0 3 n (entry M n) (entry W n) s .choices
+    choices-are : cs ≡ leftBy (q n M W s) .choices
     choices-are = ap (λ (x : Left). x .choices) e
 
     choices-long : length cs ≡ n / 2
@@ -97,31 +101,31 @@ module _ (n : ℕ) (M W s weights choices donors recipients : List ℕ) (asked :
     }
 
     module _ (found : Resolved) (ds rs : List ℕ)
-        (f : (found ≡ resultOf n M W (chosenBy n M W s again)) × (ds ≡ donorTable n (chosenBy n M W s again)) × (rs ≡ recipientTable n (chosenBy n M W s again))) where
-      cycles-are : chosenBy n M W s again ≡ plannedBy 0 3 n (entry M n) (entry W n) s
+        (f : (found ≡ resolvedCycles n M W (cyclesOf n M W s again)) × (ds ≡ donorTable n (cyclesOf n M W s again)) × (rs ≡ recipientTable n (cyclesOf n M W s again))) where
+      cycles-are : cyclesOf n M W s again ≡ plannedBy (q n M W s)
       unfolding plannedBy
-      cycles-are = ap (chosenBy n M W s) (choices-again ∙ choices-are)
+      cycles-are = ap (cyclesOf n M W s) (choices-again ∙ choices-are)
 
-      found-is : found ≡ resultOf n M W (plannedBy 0 3 n (entry M n) (entry W n) s)
-      found-is = f .0 ∙ ap (resultOf n M W) cycles-are
+      found-is : found ≡ resolvedCycles n M W (plannedBy (q n M W s))
+      found-is = f .0 ∙ ap (resolvedCycles n M W) cycles-are
 
-      number-is : found .cycles ≡ length (plannedBy 0 3 n (entry M n) (entry W n) s)
+      number-is : found .cycles ≡ length (plannedBy (q n M W s))
       number-is = ap (λ (x : Resolved). x .cycles) found-is
 
       plans : {a a′ b b′ : ℕ} {c c′ : Tallies.Tally} → a ≡ a′ → b ≡ b′ → c ≡ c′ → plan a b c ≡ plan a′ b′ c′
       plans a b c = cc
 
-      pub plan-is : (v : Counts) → tallyOf v ≡ counted u → answerOf (Made (record { weight = found .weight; cycles = found .cycles; tally = v })) ≡ finished (planOf n M W s)
-      unfolding planOf answerOf
+      pub plan-is : (v : Counts) → tallyOf v ≡ counted u → answerOf (Made (record { weight = found .weight; cycles = found .cycles; tally = v })) ≡ finished (planFrom (q n M W s))
+      unfolding planFrom answerOf
       plan-is v ev = ap finished (plans (ap (λ (x : Resolved). x .weight) found-is) number-is (ev ∙ ap (λ (x : Left). x .tally) e))
 
       pub cycles-few : found .cycles ≤ n / 2
       cycles-few = omega (arith, number-is, planned-few n (entry M n) (entry W n) s)
 
       -- the first records are those of the cycles
-      records-are : take (found .cycles) (found .records) ≡ map (recordOf n) (plannedBy 0 3 n (entry M n) (entry W n) s)
+      records-are : take (found .cycles) (found .records) ≡ map (recordOf n) (plannedBy (q n M W s))
       records-are =
-          let cs = plannedBy 0 3 n (entry M n) (entry W n) s in
+          let cs = plannedBy (q n M W s) in
           ap (λ (x : Resolved). take (x .cycles) (x .records)) found-is
           ∙ ap (λ (k : ℕ). take k (filled (map (recordOf n) cs) (noRecords n))) (sym (length-map cs (recordOf n)))
           ∙ take-filled (map (recordOf n) cs) (noRecords n)
@@ -131,11 +135,11 @@ module _ (n : ℕ) (M W s weights choices donors recipients : List ℕ) (asked :
 
       pub lent-is : (old : List Cycle)
           → lent (ws ++ drop all weights) (cs ++ drop (n / 2) choices) (ds ++ drop n donors) (rs ++ drop n recipients) (filled (take (found .cycles) (found .records)) old)
-          ≡ madeOf n M W s (lent weights choices donors recipients old)
-      unfolding madeOf filledLent donorTable recipientTable
+          ≡ filledLent (q n M W s) (lent weights choices donors recipients old)
+      unfolding filledLent donorTable recipientTable
       lent-is old =
-          let ed : ds ≡ donorTable n (plannedBy 0 3 n (entry M n) (entry W n) s) = f .1 ∙ ap (donorTable n) cycles-are in
-          let er : rs ≡ recipientTable n (plannedBy 0 3 n (entry M n) (entry W n) s) = f .2 ∙ ap (recipientTable n) cycles-are in
+          let ed : ds ≡ donorTable n (plannedBy (q n M W s)) = f .1 ∙ ap (donorTable n) cycles-are in
+          let er : rs ≡ recipientTable n (plannedBy (q n M W s)) = f .2 ∙ ap (recipientTable n) cycles-are in
           all-lent
           (past all ws weights weights-long ∙ ap (λ (l : List ℕ). filled l weights) weights-are)
           (past (n / 2) cs choices choices-long ∙ ap (λ (l : List ℕ). filled l choices) choices-are)

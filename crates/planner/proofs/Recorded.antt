@@ -1,24 +1,18 @@
 -- The call that writes the records to a lent table: what it has from `plan_by_value`, once they are written. Assumes nothing.
 use Prim.Native.Nat.{ℕ}
 use mathlib.Core.List.{List}
-use mathlib.Core.Path.{_≡_, refl, sym, ap, subst, _∙_}
+use mathlib.Core.Path.{_≡_, refl, sym, subst}
 use lib.ListN.{length}
-use Rattle.refusal.specs.Answer.{finished, outcome}
+use Rattle.refusal.specs.Answer.{outcome}
 use Rattle.records.specs.declared.Cycle.{Cycle}
-use Rattle.exchange.specs.Planning.{lent, Plan, planning}
-use Rattle.exchange.specs.Promises.{Guarantee}
-use Rattle.planner.specs.Said.{answerOf, written}
+use Rattle.exchange.specs.Input.{Request}
+use Rattle.exchange.specs.Planning.{Lent}
+use Rattle.exchange.specs.Promises.{PlansRightly}
+use Rattle.planner.specs.Answers.{answerOf}
+use Rattle.planner.specs.ByValue.{written, PlansByValue}
 use Rattle.planner.specs.declared.Work.{Work}
 
-module _ (n : ℕ) (M W s weights choices donors recipients weights′ choices′ donors′ recipients′ : List ℕ) (r : Work) (records records′ : List Cycle)
-    (e : records′ ≡ written r records) where
-  pub recorded : ((old : List Cycle) → length old ≡ length records
-      → outcome (answerOf (r .planning)) (lent weights′ choices′ donors′ recipients′ (written r old)) ≡ planning n M W s (lent weights choices donors recipients old))
-      → outcome (answerOf (r .planning)) (lent weights′ choices′ donors′ recipients′ records′) ≡ planning n M W s (lent weights choices donors recipients records)
-  recorded h = ap (λ (l : List Cycle). outcome (answerOf (r .planning)) (lent weights′ choices′ donors′ recipients′ l)) e ∙ h records refl
-
-  pub recorded-guarantee : ((old : List Cycle) → length old ≡ length records
-      → (p : Plan) → answerOf (r .planning) ≡ finished p → Guarantee n M W s p (lent weights′ choices′ donors′ recipients′ (written r old)))
-      → (p : Plan) → answerOf (r .planning) ≡ finished p → Guarantee n M W s p (lent weights′ choices′ donors′ recipients′ records′)
-  recorded-guarantee h p f =
-      subst (λ (l : List Cycle). Guarantee n M W s p (lent weights′ choices′ donors′ recipients′ l)) (sym e) (h records refl p f)
+pub recorded : (a : Request) (entry exit : List Cycle → Lent) (r : Work) (records records′ : List Cycle) → records′ ≡ written r records
+    → PlansByValue a entry exit (length records) r → PlansRightly a (entry records) (outcome (answerOf (r .planning)) (exit records′))
+recorded a entry exit r records records′ e h =
+    subst (λ (l : List Cycle). PlansRightly a (entry records) (outcome (answerOf (r .planning)) (exit l))) (sym e) (h .plans records refl)

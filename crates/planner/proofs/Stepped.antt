@@ -7,21 +7,22 @@ use native.Mathlib.Omega.{arith}
 use lib.ListN.{length, length-map}
 use Rattle.greedy.specs.Tally as Tallies
 use Rattle.greedy.specs.Rounds.{Left, rounds}
-use Rattle.exchange.specs.Subsets.{subsets, entry, subsetWeight, evaluating}
+use Rattle.exchange.specs.Subsets.{upToThree, order, subsetCount, entry, subsetWeight, evaluationTally}
+use Rattle.exchange.specs.Input.{noFloor, inputOf, request}
 use Rattle.exchange.specs.Planning.{roundCount, leftBy}
 use Rattle.gates.specs.Counts.{counted}
 use Rattle.gates.specs.declared.Tally.{Tally}
 use Rattle.cursor.proofs.Number.{count-le}
-use Rattle.evaluation.specs.Readable.{Evaluating}
+use Rattle.evaluation.specs.Preconditions.{Evaluating}
 use Rattle.evaluation.proofs.AllWeights.{evaluating-le}
-use Rattle.rounds.specs.Rounding.{Rounding}
-use Rattle.planner.specs.Checks.{Stepping}
+use Rattle.rounds.specs.Preconditions.{Rounding}
+use Rattle.planner.specs.Preconditions.{Stepping}
 
-module _ (n : ℕ) (M W s weights choices : List ℕ) (asked : Stepping n M W s weights choices) (zeros : Tally) (none : counted zeros ≡ Tallies.tally 0 0 0) where
-  few : length (subsets 3 n) ≤ 1333333
+module _ (n : ℕ) (M W s weights choices : List ℕ) (asked : Stepping (request n M W s) weights choices) (zeros : Tally) (none : counted zeros ≡ Tallies.tally 0 0 0) where
+  few : subsetCount (upToThree n) ≤ 1333333
   few = count-le n (asked .readable .few)
 
-  pub asks-evaluate : Evaluating n M W s weights zeros
+  pub asks-evaluate : Evaluating (upToThree n) M W s weights zeros
   asks-evaluate = record {
     readable = asked .readable;
     shuffled = asked .shuffled;
@@ -33,13 +34,13 @@ module _ (n : ℕ) (M W s weights choices : List ℕ) (asked : Stepping n M W s 
   }
 
   module _ (evaluated : List ℕ) (t : Tally)
-      (e : (evaluated ≡ map (subsetWeight (entry M n) (entry W n) s) (subsets 3 n)) × (counted t ≡ evaluating (subsets 3 n) (counted zeros))) where
-    long : length evaluated ≡ length (subsets 3 n)
-    long = ap length (e .0) ∙ length-map (subsets 3 n) (subsetWeight (entry M n) (entry W n) s)
+      (e : (evaluated ≡ map (subsetWeight (entry M n) (entry W n) s) (order (upToThree n))) × (counted t ≡ evaluationTally (order (upToThree n)) (counted zeros))) where
+    long : length evaluated ≡ subsetCount (upToThree n)
+    long = ap length (e .0) ∙ length-map (order (upToThree n)) (subsetWeight (entry M n) (entry W n) s)
 
-    pub asks-rounds : Rounding n evaluated choices t
+    pub asks-rounds : Rounding (upToThree n) evaluated choices t
     asks-rounds =
-        let le = evaluating-le (subsets 3 n) (counted zeros) in
+        let le = evaluating-le (order (upToThree n)) (counted zeros) in
         let half : length choices ≤ 100 = omega (arith, asked .all, asked .readable .few) in
         let some : length evaluated ≤ 1333333 = omega (arith, long, few) in
         let eight : 8 * length evaluated ≤ 8 * 1333333 = omega (arith, some) in
@@ -56,8 +57,8 @@ module _ (n : ℕ) (M W s weights choices : List ℕ) (asked : Stepping n M W s 
           };
         }
 
-    pub stepped : (l : Left) → l ≡ rounds 0 (length choices) (subsets 3 n) evaluated (counted t) → l ≡ leftBy 0 3 n (entry M n) (entry W n) s
+    pub stepped : (l : Left) → l ≡ rounds noFloor (length choices) (order (upToThree n)) evaluated (counted t) → l ≡ leftBy (inputOf (request n M W s))
     unfolding leftBy
     stepped l el =
-        el ∙ ap (λ (k : ℕ). rounds 0 k (subsets 3 n) evaluated (counted t)) (asked .all)
-        ∙ ap₂ (λ (ws : List ℕ) (u : Tallies.Tally). rounds 0 (roundCount n) (subsets 3 n) ws u) (e .0) (e .1 ∙ ap (evaluating (subsets 3 n)) none)
+        el ∙ ap (λ (k : ℕ). rounds noFloor k (order (upToThree n)) evaluated (counted t)) (asked .all)
+        ∙ ap₂ (λ (ws : List ℕ) (u : Tallies.Tally). rounds noFloor (roundCount n) (order (upToThree n)) ws u) (e .0) (e .1 ∙ ap (evaluationTally (order (upToThree n))) none)

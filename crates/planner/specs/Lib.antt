@@ -1,4 +1,5 @@
--- `Said`: the answer of planning in document 01's numbers, and its records. `Checks`: the checks by lengths, and what the steps ask of their
--- arguments.
-pub mod Said
-pub mod Checks
+-- `Answers`: the answer of planning in document 01's numbers. `Preconditions`: what the steps ask of their arguments. `ByValue`: planning with its
+-- records by value.
+pub mod Answers
+pub mod Preconditions
+pub mod ByValue

@@ -5,21 +5,17 @@ use records::Cycle;
 use refusal::Refusal;
 use refusal::Verdict;
 ghost use mathlib.Core.Path.{_≡_};
-ghost use mathlib.Core.List.{List};
-ghost use Prim.Native.Nat.{_*_, _/_, _≤_, _<_};
-ghost use lib.Dec.{ltb};
-ghost use lib.ListN.{length};
-ghost use Rattle.laws.specs.Below.{anyBelow};
-ghost use Rattle.refusal.specs.Fault.{refuse, _then_};
-ghost use Rattle.refusal.specs.Answer.{finished, refused, outcome};
-ghost use Rattle.refusal.specs.Number.{numberOf, faultAt};
+ghost use Rattle.refusal.specs.Answer.{refused, outcome};
+ghost use Rattle.refusal.specs.Number.{numberOf};
 ghost use Rattle.greedy.specs.Rounds.{left};
-ghost use Rattle.exchange.specs.Subsets.{entry};
-ghost use Rattle.exchange.specs.Planning.{Plan, lent, leftBy, tableFault, planning};
-ghost use Rattle.exchange.specs.Promises.{Guarantee};
+ghost use Rattle.exchange.specs.Input.{inputOf, request};
+ghost use Rattle.exchange.specs.Planning.{lent, leftBy};
+ghost use Rattle.exchange.specs.Lent.{lentPlan};
+ghost use Rattle.exchange.specs.Promises.{PlansRightly};
 ghost use Rattle.gates.specs.Counts.{counted};
-ghost use Rattle.planner.specs.Said.{answerOf, written};
-ghost use Rattle.planner.specs.Checks.{shortToRead, shortToFill, faultsIn, Stepping, Checked, planOf, madeOf};
+ghost use Rattle.planner.specs.Answers.{answerOf};
+ghost use Rattle.planner.specs.Preconditions.{Stepping, Checked};
+ghost use Rattle.planner.specs.ByValue.{Makes, PlansByValue};
 
 // "The result carries the plan's weight, number of cycles and tally."
 pub struct Planned {
@@ -40,123 +36,6 @@ pub struct Work {
     pub records: [Cycle; 100],
 }
 
-// 4, then 9 of the tables that are read, by their lengths.
-fn readable(n: usize, m: usize, w: usize, shuffle: usize) -> Verdict
-    ensures { λ r. ⌜ faultAt 0 r ≡ (refuse 4 0 (ltb 200 n) then shortToRead n m w shuffle) ⌝ }
-{
-    if n > 200 {
-        return Verdict::Faulty(Refusal::TooManyPairs);
-    }
-    if m < n * n {
-        return Verdict::Faulty(Refusal::TooShort);
-    }
-    if w < n * n {
-        return Verdict::Faulty(Refusal::TooShort);
-    }
-    if shuffle < n {
-        return Verdict::Faulty(Refusal::TooShort);
-    }
-    Verdict::Sound
-}
-
-// 9 of the tables that are to be filled, by their lengths; of the records, by how many there is room for.
-fn fillable(
-    n: usize,
-    weights: usize,
-    choices: usize,
-    donors: usize,
-    recipients: usize,
-    room: usize,
-) -> Verdict
-    requires { ⌜ n ≤ 200 ⌝ }
-    ensures { λ r. ⌜ faultAt 0 r ≡ shortToFill n weights choices donors recipients room ⌝ }
-{
-    if weights < cursor::count(n) {
-        return Verdict::Faulty(Refusal::TooShort);
-    }
-    if choices < n / 2 {
-        return Verdict::Faulty(Refusal::TooShort);
-    }
-    if donors < n {
-        return Verdict::Faulty(Refusal::TooShort);
-    }
-    if recipients < n {
-        return Verdict::Faulty(Refusal::TooShort);
-    }
-    if room < n / 2 {
-        return Verdict::Faulty(Refusal::TooShort);
-    }
-    Verdict::Sound
-}
-
-// Is an entry of row i above 1?
-fn above_one(n: usize, m: &[u8], i: usize) -> bool
-    requires { ⌜ (i < n) × (n ≤ 200) × (n * n ≤ length (now m)) ⌝ }
-    ensures { λ r. ⌜ r ≡ anyBelow n (λ j. ltb 1 (entry (now (m .entry)) n i j)) ⌝ }
-{
-    let mut j: usize = 0;
-    while j < n {
-        if resolution::compatible(m, n, i, j) > 1 {
-            return true;
-        }
-        j += 1;
-    }
-    false
-}
-
-// 10: an M entry above 1, or M(i, i) not 0.
-fn compatibility(n: usize, m: &[u8]) -> Verdict
-    requires { ⌜ (n ≤ 200) × (n * n ≤ length (now m)) ⌝ }
-    ensures { λ r. ⌜ faultAt 0 r ≡ tableFault n (now (m .entry)) ⌝ }
-{
-    let mut i: usize = 0;
-    while i < n {
-        if above_one(n, m, i) {
-            return Verdict::Faulty(Refusal::NotCompatibility);
-        }
-        if resolution::compatible(m, n, i, i) != 0 {
-            return Verdict::Faulty(Refusal::NotCompatibility);
-        }
-        i += 1;
-    }
-    Verdict::Sound
-}
-
-// "Planning checks 4, 9, 8, 10."
-fn judge(
-    n: usize,
-    m: &[u8],
-    w: &[u16],
-    shuffle: &[u16],
-    weights: usize,
-    choices: usize,
-    donors: usize,
-    recipients: usize,
-    room: usize,
-) -> Verdict
-    ensures { λ r. ⌜ faultAt 0 r ≡ faultsIn n (now (m .entry)) (now (w .entry)) (now (shuffle .entry)) weights choices donors recipients room ⌝ }
-{
-    match readable(n, m.len(), w.len(), shuffle.len()) {
-        Verdict::Faulty(why) => {
-            return Verdict::Faulty(why);
-        }
-        Verdict::Sound => {}
-    }
-    match fillable(n, weights, choices, donors, recipients, room) {
-        Verdict::Faulty(why) => {
-            return Verdict::Faulty(why);
-        }
-        Verdict::Sound => {}
-    }
-    match checks::shuffle(shuffle, n) {
-        Verdict::Faulty(why) => {
-            return Verdict::Faulty(why);
-        }
-        Verdict::Sound => {}
-    }
-    compatibility(n, m)
-}
-
 // Evaluation, then all rounds; one tally, which begins at 0, is lent to both.
 fn steps(
     n: usize,
@@ -166,8 +45,10 @@ fn steps(
     weights: &mut [u32],
     choices: &mut [u32],
 ) -> Tally
-    requires { ⌜ Stepping n (now m) (now w) (now s) (now weights) (now choices) ⌝ }
-    ensures { λ r. ⌜ left (now (weights .exit)) (now (choices .exit)) (counted r) ≡ leftBy 0 3 n (entry (now (m .entry)) n) (entry (now (w .entry)) n) (now (s .entry)) ⌝ }
+    requires { ⌜ Stepping (request n (now m) (now w) (now s)) (now weights) (now choices) ⌝ }
+    ensures { λ r.
+        let a = request n (now (m .entry)) (now (w .entry)) (now (s .entry)) in
+        ⌜ left (now (weights .exit)) (now (choices .exit)) (counted r) ≡ leftBy (inputOf a) ⌝ }
 {
     let mut tally = gates::nothing_done();
     evaluation::evaluate(n, m, w, s, weights, &mut tally);
@@ -186,8 +67,12 @@ fn make(
     donors: &mut [u16],
     recipients: &mut [u16],
 ) -> Work
-    requires { ⌜ Checked n (now m) (now w) (now s) (now weights) (now choices) (now donors) (now recipients) ⌝ }
-    ensures { λ r. ⌜ (answerOf (r .planning) ≡ finished (planOf n (now (m .entry)) (now (w .entry)) (now (s .entry)))) × (r .cycles ≤ n / 2) × ((old : List Cycle) → lent (now (weights .exit)) (now (choices .exit)) (now (donors .exit)) (now (recipients .exit)) (written r old) ≡ madeOf n (now (m .entry)) (now (w .entry)) (now (s .entry)) (lent (now (weights .entry)) (now (choices .entry)) (now (donors .entry)) (now (recipients .entry)) old)) ⌝ }
+    requires { ⌜ Checked (request n (now m) (now w) (now s)) (now weights) (now choices) (now donors) (now recipients) ⌝ }
+    ensures { λ r.
+        let a = request n (now (m .entry)) (now (w .entry)) (now (s .entry)) in
+        let old = lent (now (weights .entry)) (now (choices .entry)) (now (donors .entry)) (now (recipients .entry)) in
+        let new = lent (now (weights .exit)) (now (choices .exit)) (now (donors .exit)) (now (recipients .exit)) in
+        ⌜ Makes a old new r ⌝ }
 {
     let all = cursor::count(n);
     let rounds = n / 2;
@@ -245,11 +130,13 @@ pub fn plan_by_value(
     recipients: &mut [u16],
     room: usize,
 ) -> Work
-    ensures { λ r. ⌜ ((old : List Cycle) → length old ≡ room → outcome (answerOf (r .planning)) (lent (now (weights .exit)) (now (choices .exit)) (now (donors .exit)) (now (recipients .exit)) (written r old)) ≡ planning n (now (m .entry)) (now (w .entry)) (now (shuffle .entry)) (lent (now (weights .entry)) (now (choices .entry)) (now (donors .entry)) (now (recipients .entry)) old)) ⌝ }
-    ensures few { λ r. ⌜ (r .cycles ≤ room) × (r .cycles ≤ 100) ⌝ }
-    ensures guarantee { λ r. ⌜ ((old : List Cycle) → length old ≡ room → (p : Plan) → answerOf (r .planning) ≡ finished p → Guarantee n (now (m .entry)) (now (w .entry)) (now (shuffle .entry)) p (lent (now (weights .exit)) (now (choices .exit)) (now (donors .exit)) (now (recipients .exit)) (written r old))) ⌝ }
+    ensures { λ r.
+        let a = request n (now (m .entry)) (now (w .entry)) (now (shuffle .entry)) in
+        let old = lent (now (weights .entry)) (now (choices .entry)) (now (donors .entry)) (now (recipients .entry)) in
+        let new = lent (now (weights .exit)) (now (choices .exit)) (now (donors .exit)) (now (recipients .exit)) in
+        ⌜ PlansByValue a old new room r ⌝ }
 {
-    match judge(
+    match validation::judge(
         n,
         m,
         w,
@@ -277,8 +164,10 @@ pub fn plan(
     recipients: &mut [u16],
     records: &mut [Cycle],
 ) -> Planning
-    ensures { λ r. ⌜ outcome (answerOf r) (lent (now (weights .exit)) (now (choices .exit)) (now (donors .exit)) (now (recipients .exit)) (now (records .exit))) ≡ planning n (now (m .entry)) (now (w .entry)) (now (shuffle .entry)) (lent (now (weights .entry)) (now (choices .entry)) (now (donors .entry)) (now (recipients .entry)) (now (records .entry))) ⌝ }
-    ensures guarantee { λ r. ⌜ ((p : Plan) → answerOf r ≡ finished p → Guarantee n (now (m .entry)) (now (w .entry)) (now (shuffle .entry)) p (lent (now (weights .exit)) (now (choices .exit)) (now (donors .exit)) (now (recipients .exit)) (now (records .exit)))) ⌝ }
+    ensures { λ r.
+        let a = request n (now (m .entry)) (now (w .entry)) (now (shuffle .entry)) in
+        let t = lentPlan weights choices donors recipients records in
+        ⌜ PlansRightly a (t .entry) (outcome (answerOf r) (t .exit)) ⌝ }
 {
     let room = records.len();
     let work = plan_by_value(n, m, w, shuffle, weights, choices, donors, recipients, room);

@@ -6,8 +6,9 @@ ghost use mathlib.Core.Path.{_≡_};
 ghost use Prim.Native.Nat.{_≤_, _<_};
 ghost use lib.ListN.{length, replicate};
 ghost use Rattle.refusal.specs.Answer.{outcome};
+ghost use Rattle.exchange.specs.Input.{request};
 ghost use Rattle.exchange.specs.Planning.{lent, planning};
-ghost use Rattle.planner.specs.Said.{answerOf};
+ghost use Rattle.planner.specs.Answers.{answerOf};
 
 fn print(text: &[u8]) {
     io::write_all(1, text);
@@ -130,7 +131,12 @@ fn plan(
     donors: &mut [u16],
     recipients: &mut [u16],
 ) -> Planned
-    ensures { λ r. ⌜ outcome (answerOf (r .answer)) (lent (now (weights .exit)) (now (choices .exit)) (now (donors .exit)) (now (recipients .exit)) (r .records)) ≡ planning n (now (m .entry)) (now (w .entry)) (now (shuffle .entry)) (lent (now (weights .entry)) (now (choices .entry)) (now (donors .entry)) (now (recipients .entry)) (replicate 101 (record { first = 99; second = 99; third = 99 }))) ⌝ }
+    ensures { λ r.
+        let a = request n (now (m .entry)) (now (w .entry)) (now (shuffle .entry)) in
+        let old = lent (now (weights .entry)) (now (choices .entry)) (now (donors .entry)) (now (recipients .entry)) in
+        let new = lent (now (weights .exit)) (now (choices .exit)) (now (donors .exit)) (now (recipients .exit)) in
+        ⌜ outcome (answerOf (r .answer)) (new (r .records))
+        ≡ planning a (old (replicate 101 (record { first = 99; second = 99; third = 99 }))) ⌝ }
 {
     let mut records = fresh();
     let answer = planner::plan(

@@ -9,7 +9,7 @@ use lib.Seq.{take-suc}
 use Rattle.laws.specs.Lent.{filled}
 use Rattle.laws.proofs.Lent.{length-filled, filled-next}
 use Rattle.records.specs.declared.Cycle.{Cycle}
-use Rattle.records.specs.Held.{recordAt, Puttable, Writable}
+use Rattle.records.specs.Copying.{recordAt, Puttable, Writable}
 
 -- a loop that writes the records: k of them are written
 pub record Written (cycles : ℕ) (records old out : List Cycle) (k : ℕ) : Type 0 where

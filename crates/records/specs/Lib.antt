@@ -1,2 +1,2 @@
 -- Records held in an array, and what the functions that copy them ask.
-pub mod Held
+pub mod Copying

@@ -3,7 +3,7 @@ ghost use mathlib.Core.Path.{_≡_};
 ghost use Prim.Native.Nat.{_<_};
 ghost use lib.ListN.{length, set, take};
 ghost use Rattle.laws.specs.Lent.{filled};
-ghost use Rattle.records.specs.Held.{recordAt, Puttable, Writable};
+ghost use Rattle.records.specs.Copying.{recordAt, Puttable, Writable};
 
 // "three pair numbers in giving order from the lowest place, the third N for a two"
 #[repr(C)]

@@ -13,16 +13,16 @@ use Rattle.laws.specs.Lent.{stored, filled}
 use Rattle.laws.proofs.Below.{length-table}
 use Rattle.laws.proofs.Lent.{length-filled, stored-none, stored-one, stored-filled, stored-then}
 use Rattle.records.specs.declared.Cycle.{Cycle}
-use Rattle.exchange.specs.Subsets.{Edge, subsets, entry, edges, weigh, pairsAt, bestCycle, subsetWeight}
+use Rattle.exchange.specs.Subsets.{upToThree, order, subsetCount, Edge, entry, edges, weigh, pairsAt, bestCycle, subsetWeight}
 use Rattle.exchange.specs.Resolution.{recordOf, pairsOf, resolved, total, recipientTable, donorTable}
-use Rattle.cursor.specs.Cursor.{InRange, placesAt, subsetAt}
+use Rattle.cursor.specs.Cursor.{OnSubset, placesAt, subsetAt}
 use Rattle.cursor.specs.declared.Places.{Places}
 use Rattle.cursor.proofs.Order.{is-subset, in-range}
 use Rattle.cursor.proofs.Standing.{stands-at}
-use Rattle.evaluation.specs.Readable.{Readable, Shuffled}
+use Rattle.entries.specs.Preconditions.{Readable, Shuffled}
 use Rattle.evaluation.proofs.AllWeights.{weight-le}
-use Rattle.resolution.specs.Records.{given, received, chosenBy, noRecords, noneYet, withCycle, resultOf, Added}
-use Rattle.resolution.specs.Asked.{Partners, Room, One, Resolving}
+use Rattle.resolution.specs.Records.{given, received, cyclesOf, noRecords, noneYet, withCycle, resolvedCycles, Added}
+use Rattle.resolution.specs.Preconditions.{Partners, RecordRoom, One, Resolving}
 use Rattle.resolution.specs.declared.Giving.{Giving}
 use Rattle.resolution.specs.declared.Resolved.{Resolved}
 use Rattle.resolution.proofs.Cyclic.{Cyclic, chosen-cyclic, pairs-back, record-below, no-record, resolved-append, one-chosen, none-chosen, total-append}
@@ -39,10 +39,10 @@ empty-yet n c e = ap (λ (x : Cycle). record { weight = 0; cycles = 0; records =
 module _ (n : ℕ) (M W s : List ℕ) (typed : (i : ℕ) → getD W i 0 < 2 ^ 16) (choice : ℕ) (r : Resolved) (donors recipients : List ℕ)
     (asked : One n M W s r donors recipients) where
   -- none was chosen
-  pub none : length (subsets 3 n) ≤ choice → Added n M W (chosenBy n M W s (choice ∷ [])) r donors recipients r donors recipients
+  pub none : subsetCount (upToThree n) ≤ choice → Added n M W (cyclesOf n M W s (choice ∷ [])) r donors recipients r donors recipients
   unfolding total given received flatMap
   none h =
-      subst (λ (cs : List (List ℕ)). Added n M W cs r donors recipients r donors recipients) (sym (none-chosen (entry M n) (entry W n) s (subsets 3 n) choice h))
+      subst (λ (cs : List (List ℕ)). Added n M W cs r donors recipients r donors recipients) (sym (none-chosen (entry M n) (entry W n) s (order (upToThree n)) choice h))
       (record {
         weight = sym (add-zero (r .weight));
         cycles = sym (add-zero (r .cycles));
@@ -52,12 +52,12 @@ module _ (n : ℕ) (M W s : List ℕ) (typed : (i : ℕ) → getD W i 0 < 2 ^ 16
       })
 
   -- a subset was chosen, and the cursor stands there
-  module _ (h : choice < length (subsets 3 n)) (p : Places) (there : p ≡ placesAt n choice) where
-    pub asks-cycle : Readable n M W × Shuffled n s × InRange n p
+  module _ (h : choice < subsetCount (upToThree n)) (p : Places) (there : p ≡ placesAt (upToThree n) choice) where
+    pub asks-cycle : Readable n M W × Shuffled n s × OnSubset n p
     asks-cycle = (asked .readable, asked .shuffled, in-range n choice (asked .readable .few) h p there)
 
     abbrev chosen : List ℕ
-    chosen = pairsAt s (bestCycle (entry M n) (entry W n) s (getD (subsets 3 n) choice []))
+    chosen = pairsAt s (bestCycle (entry M n) (entry W n) s (getD (order (upToThree n)) choice []))
 
     cyclic : Cyclic n chosen
     cyclic = chosen-cyclic n (entry M n) (entry W n) s (asked .shuffled) choice (asked .readable .few) h
@@ -79,7 +79,7 @@ module _ (n : ℕ) (M W s : List ℕ) (typed : (i : ℕ) → getD W i 0 < 2 ^ 16
           let b = subst (λ (c : Cycle). (c .first < n) × (c .second < n) × (c .third ≤ n)) (sym record-is) (record-below n chosen cyclic) in
           record { first = b .0; second = b .1; third = b .2; allDonors = asked .allDonors; allRecipients = asked .allRecipients }
 
-      pub asks-append : Room r g
+      pub asks-append : RecordRoom r g
       unfolding subsetWeight
       asks-append = record {
         few = asked .few;
@@ -88,7 +88,7 @@ module _ (n : ℕ) (M W s : List ℕ) (typed : (i : ℕ) → getD W i 0 < 2 ^ 16
               arith,
               asked .light,
               weight-is,
-              weight-le n M W s (asked .readable) (asked .shuffled) typed (getD (subsets 3 n) choice []) (is-subset n choice (asked .readable .few) h),
+              weight-le n M W s (asked .readable) (asked .shuffled) typed (getD (order (upToThree n)) choice []) (is-subset n choice (asked .readable .few) h),
             );
       }
 
@@ -101,10 +101,10 @@ module _ (n : ℕ) (M W s : List ℕ) (typed : (i : ℕ) → getD W i 0 < 2 ^ 16
 
       pub added : (r′ : Resolved) (donors′ recipients′ : List ℕ) → r′ ≡ withCycle r g
           → (recipients′ ≡ given (edges (pairsOf n (g .cycle))) recipients) × (donors′ ≡ received (edges (pairsOf n (g .cycle))) donors)
-          → Added n M W (chosenBy n M W s (choice ∷ [])) r donors recipients r′ donors′ recipients′
+          → Added n M W (cyclesOf n M W s (choice ∷ [])) r donors recipients r′ donors′ recipients′
       unfolding total
       added r′ donors′ recipients′ er es =
-          subst (λ (cs : List (List ℕ)). Added n M W cs r donors recipients r′ donors′ recipients′) (sym (one-chosen (entry M n) (entry W n) s (subsets 3 n) choice h))
+          subst (λ (cs : List (List ℕ)). Added n M W cs r donors recipients r′ donors′ recipients′) (sym (one-chosen (entry M n) (entry W n) s (order (upToThree n)) choice h))
           (record {
             weight = omega (arith, ap (λ (x : Resolved). x .weight) er, weight-is);
             cycles = ap (λ (x : Resolved). x .cycles) er;
@@ -127,18 +127,18 @@ module _ (n : ℕ) (M W s : List ℕ) (readable : Readable n M W) (shuffled : Sh
   unfolding total flatMap
   little-none = record { weight = omega arith; cycles = omega arith; between = tt }
 
-  little-one : (choice : ℕ) → choice < length (subsets 3 n) → Little n M W (pairsAt s (bestCycle (entry M n) (entry W n) s (getD (subsets 3 n) choice [])) ∷ [])
+  little-one : (choice : ℕ) → choice < subsetCount (upToThree n) → Little n M W (pairsAt s (bestCycle (entry M n) (entry W n) s (getD (order (upToThree n)) choice [])) ∷ [])
   unfolding total subsetWeight
   little-one choice h = record {
-    weight = omega (arith, weight-le n M W s readable shuffled typed (getD (subsets 3 n) choice []) (is-subset n choice (readable .few) h));
+    weight = omega (arith, weight-le n M W s readable shuffled typed (getD (order (upToThree n)) choice []) (is-subset n choice (readable .few) h));
     cycles = omega arith;
     between = cyclic-between n _ (chosen-cyclic n (entry M n) (entry W n) s shuffled choice (readable .few) h);
   }
 
-  little : (choice : ℕ) → Little n M W (chosenBy n M W s (choice ∷ []))
-  little choice = elim (decLt choice (length (subsets 3 n))) [
-    | yes h ↦ subst (Little n M W) (sym (one-chosen (entry M n) (entry W n) s (subsets 3 n) choice h)) (little-one choice h)
-    | no h ↦ subst (Little n M W) (sym (none-chosen (entry M n) (entry W n) s (subsets 3 n) choice (omega arith))) little-none
+  little : (choice : ℕ) → Little n M W (cyclesOf n M W s (choice ∷ []))
+  little choice = elim (decLt choice (subsetCount (upToThree n))) [
+    | yes h ↦ subst (Little n M W) (sym (one-chosen (entry M n) (entry W n) s (order (upToThree n)) choice h)) (little-one choice h)
+    | no h ↦ subst (Little n M W) (sym (none-chosen (entry M n) (entry W n) s (order (upToThree n)) choice (omega arith))) little-none
   ]
 
 -- the records of ds after those of cs
@@ -157,19 +157,19 @@ results : {w w′ k k′ : ℕ} {l l′ : List Cycle} → w ≡ w′ → k ≡ k
 results e f g = cc
 
 -- the loop of `resolve`, before the choice k
-pub record Turned (n : ℕ) (M W s choices donors recipients : List ℕ) (r : Resolved) (k : ℕ) : Type 0 where
+pub record BeforeChoice (n : ℕ) (M W s choices donors recipients : List ℕ) (r : Resolved) (k : ℕ) : Type 0 where
   pub upto : k ≤ length choices
-  pub sum : r .weight ≡ total (entry M n) (entry W n) (chosenBy n M W s (take k choices))
-  pub number : r .cycles ≡ length (chosenBy n M W s (take k choices))
-  pub inRecords : r .records ≡ filled (map (recordOf n) (chosenBy n M W s (take k choices))) (noRecords n)
-  pub inDonors : donors ≡ donorTable n (chosenBy n M W s (take k choices))
-  pub inRecipients : recipients ≡ recipientTable n (chosenBy n M W s (take k choices))
+  pub sum : r .weight ≡ total (entry M n) (entry W n) (cyclesOf n M W s (take k choices))
+  pub number : r .cycles ≡ length (cyclesOf n M W s (take k choices))
+  pub inRecords : r .records ≡ filled (map (recordOf n) (cyclesOf n M W s (take k choices))) (noRecords n)
+  pub inDonors : donors ≡ donorTable n (cyclesOf n M W s (take k choices))
+  pub inRecipients : recipients ≡ recipientTable n (cyclesOf n M W s (take k choices))
   pub few : r .cycles ≤ k
   pub light : r .weight ≤ 196605 * k
 
 module _ (n : ℕ) (M W s choices donors₀ recipients₀ : List ℕ) (asked : Resolving n M W s choices donors₀ recipients₀) where
   pub begins : (donors recipients : List ℕ) (r : Resolved) → donors ≡ table (length donors₀) (λ i. n) → recipients ≡ table (length recipients₀) (λ i. n)
-      → r ≡ noneYet n → Turned n M W s choices donors recipients r 0
+      → r ≡ noneYet n → BeforeChoice n M W s choices donors recipients r 0
   unfolding resolved total filled
   begins donors recipients r ed er e =
       let weight : r .weight ≡ 0 = ap (λ (x : Resolved). x .weight) e in
@@ -185,7 +185,7 @@ module _ (n : ℕ) (M W s choices donors₀ recipients₀ : List ℕ) (asked : R
         light = omega (arith, weight);
       }
 
-  module _ (donors recipients : List ℕ) (r : Resolved) (k : ℕ) (inv : Turned n M W s choices donors recipients r k) where
+  module _ (donors recipients : List ℕ) (r : Resolved) (k : ℕ) (inv : BeforeChoice n M W s choices donors recipients r k) where
     pub donors-kept : length donors ≡ length donors₀
     unfolding donorTable
     donors-kept = ap length (inv .inDonors) ∙ length-table n _ ∙ sym (asked .allDonors)
@@ -195,11 +195,11 @@ module _ (n : ℕ) (M W s choices donors₀ recipients₀ : List ℕ) (asked : R
     recipients-kept = ap length (inv .inRecipients) ∙ length-table n _ ∙ sym (asked .allRecipients)
 
     pub ends : length choices ≤ k
-        → (r ≡ resultOf n M W (chosenBy n M W s choices))
-        × (donors ≡ donorTable n (chosenBy n M W s choices)) × (recipients ≡ recipientTable n (chosenBy n M W s choices))
+        → (r ≡ resolvedCycles n M W (cyclesOf n M W s choices))
+        × (donors ≡ donorTable n (cyclesOf n M W s choices)) × (recipients ≡ recipientTable n (cyclesOf n M W s choices))
     ends h =
-        let all : chosenBy n M W s (take k choices) ≡ chosenBy n M W s choices = ap (chosenBy n M W s) (take-all k choices h) in (
-          results (inv .sum) (inv .number) (inv .inRecords) ∙ ap (resultOf n M W) all,
+        let all : cyclesOf n M W s (take k choices) ≡ cyclesOf n M W s choices = ap (cyclesOf n M W s) (take-all k choices h) in (
+          results (inv .sum) (inv .number) (inv .inRecords) ∙ ap (resolvedCycles n M W) all,
           inv .inDonors ∙ ap (donorTable n) all,
           inv .inRecipients ∙ ap (recipientTable n) all,
         )
@@ -211,7 +211,7 @@ module _ (n : ℕ) (M W s choices donors₀ recipients₀ : List ℕ) (asked : R
       all-records : length (r .records) ≡ 100
       all-records =
           let all : length (noRecords n) ≡ 100 = length-replicate 100 (recordOf n []) in
-          let cs = chosenBy n M W s (take k choices) in
+          let cs = cyclesOf n M W s (take k choices) in
           ap length (inv .inRecords)
           ∙ length-filled (map (recordOf n) cs) (noRecords n) (omega (arith, length-map cs (recordOf n), all, inv .number, inv .few, turns-few))
           ∙ all
@@ -228,19 +228,19 @@ module _ (n : ℕ) (M W s choices donors₀ recipients₀ : List ℕ) (asked : R
       }
 
       module _ (typed : (i : ℕ) → getD W i 0 < 2 ^ 16) (r′ : Resolved) (donors′ recipients′ : List ℕ)
-          (e : Added n M W (chosenBy n M W s (getD choices k 0 ∷ [])) r donors recipients r′ donors′ recipients′) where
-        small : Little n M W (chosenBy n M W s (getD choices k 0 ∷ []))
+          (e : Added n M W (cyclesOf n M W s (getD choices k 0 ∷ [])) r donors recipients r′ donors′ recipients′) where
+        small : Little n M W (cyclesOf n M W s (getD choices k 0 ∷ []))
         small = little n M W s (asked .readable) (asked .shuffled) typed (getD choices k 0)
 
-        more : chosenBy n M W s (take k choices) ++ chosenBy n M W s (getD choices k 0 ∷ []) ≡ chosenBy n M W s (take (k + 1) choices)
+        more : cyclesOf n M W s (take k choices) ++ cyclesOf n M W s (getD choices k 0 ∷ []) ≡ cyclesOf n M W s (take (k + 1) choices)
         more =
-            sym (resolved-append (entry M n) (entry W n) s (subsets 3 n) (take k choices) (getD choices k 0 ∷ []))
-            ∙ ap (chosenBy n M W s) (sym (take-suc choices k 0 h) ∙ ap (λ (j : ℕ). take j choices) (sym (add-one k)))
+            sym (resolved-append (entry M n) (entry W n) s (order (upToThree n)) (take k choices) (getD choices k 0 ∷ []))
+            ∙ ap (cyclesOf n M W s) (sym (take-suc choices k 0 h) ∙ ap (λ (j : ℕ). take j choices) (sym (add-one k)))
 
-        pub again : Turned n M W s choices donors′ recipients′ r′ (k + 1)
+        pub again : BeforeChoice n M W s choices donors′ recipients′ r′ (k + 1)
         again =
-            let cs = chosenBy n M W s (take k choices) in
-            let ds = chosenBy n M W s (getD choices k 0 ∷ []) in
+            let cs = cyclesOf n M W s (take k choices) in
+            let ds = cyclesOf n M W s (getD choices k 0 ∷ []) in
             record {
               upto = omega (arith, h);
               sum = e .weight ∙ ap (λ (x : ℕ). x + total (entry M n) (entry W n) ds) (inv .sum) ∙ sym (total-append (entry M n) (entry W n) cs ds)

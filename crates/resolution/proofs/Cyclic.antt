@@ -8,13 +8,13 @@ use borrow.Author.Tests.{eq-eqb, ne-eqb, lt-ltb, le-ltb}
 use lib.Dec.{ltb}
 use lib.ListN.{length, getD}
 use Rattle.records.specs.declared.Cycle.{Cycle}
-use Rattle.exchange.specs.Subsets.{subsets, entry, weigh, heaviest, pairsAt, bestCycle}
+use Rattle.exchange.specs.Subsets.{upToThree, order, subsetCount, entry, weigh, heaviest, pairsAt, bestCycle}
 use Rattle.exchange.specs.Resolution.{resolved, recordOf, pairsOf, total}
-use Rattle.cursor.specs.Cursor.{InRange, subsetAt}
+use Rattle.cursor.specs.Cursor.{OnSubset, subsetAt}
 use Rattle.cursor.specs.declared.Places.{Places}
 use Rattle.cursor.proofs.Order.{Subset, two, three, is-subset}
 use Rattle.cursor.proofs.Standing.{range-two, range-triple}
-use Rattle.evaluation.specs.Readable.{Shuffled}
+use Rattle.entries.specs.Preconditions.{Shuffled}
 use Rattle.evaluation.proofs.Subsets.{heavier, paired-two, paired-triple}
 
 pub data Cyclic (n : ℕ) : List ℕ → Type 0 where
@@ -51,7 +51,7 @@ module _ (n : ℕ) (m w : ℕ → ℕ → ℕ) (s : List ℕ) (shuffled : Shuffl
       let hc = shuffled .pairs c r in
       subst (Cyclic n) (sym (paired-triple m w s a b c)) (heavier-cyclic n (weigh m w) _ _ (triangle ha hb hc) (triangle ha hc hb))
 
-  pub chosen-cyclic : (k : ℕ) → n ≤ 200 → k < length (subsets 3 n) → Cyclic n (pairsAt s (bestCycle m w s (getD (subsets 3 n) k [])))
+  pub chosen-cyclic : (k : ℕ) → n ≤ 200 → k < subsetCount (upToThree n) → Cyclic n (pairsAt s (bestCycle m w s (getD (order (upToThree n)) k [])))
   chosen-cyclic k few h = best-cyclic (is-subset n k few h)
 
 -- ## The cycles of choices
@@ -83,7 +83,7 @@ total-append m w (c ∷ cs) ds = omega (arith, total-append m w cs ds)
 
 -- ## What `cycle_at` returns
 
-module _ (n : ℕ) (M W s : List ℕ) (p : Places) (range : InRange n p) where
+module _ (n : ℕ) (M W s : List ℕ) (p : Places) (range : OnSubset n p) where
   -- the cycle of the subset at the cursor
   abbrev there : List ℕ
   there = pairsAt s (bestCycle (entry M n) (entry W n) s (subsetAt n p))

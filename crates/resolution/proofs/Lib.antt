@@ -1,5 +1,4 @@
--- `Weighed`: the weight of a cycle. `Cyclic`: the chosen cycles. `Partnered`: partners, edge by edge. `AllResolved`: one choice after another.
-pub mod Weighed
+-- `Cyclic`: the chosen cycles. `Partnered`: partners, edge by edge. `AllResolved`: one choice after another.
 pub mod Cyclic
 pub mod Partnered
 pub mod AllResolved

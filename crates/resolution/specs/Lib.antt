@@ -1,3 +1,3 @@
--- `Records`: cycles resolved, and partners edge by edge. `Asked`: what resolution asks of its arguments.
+-- `Records`: cycles resolved, and partners edge by edge. `Preconditions`: what resolution asks of its arguments.
 pub mod Records
-pub mod Asked
+pub mod Preconditions

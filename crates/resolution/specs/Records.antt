@@ -5,7 +5,7 @@ use mathlib.Core.Path.{_≡_}
 use lib.ListN.{length, set, replicate}
 use Rattle.laws.specs.Lent.{stored, filled}
 use Rattle.records.specs.declared.Cycle.{Cycle}
-use Rattle.exchange.specs.Subsets.{Edge, subsets, edges, entry}
+use Rattle.exchange.specs.Subsets.{upToThree, order, Edge, edges, entry}
 use Rattle.exchange.specs.Resolution.{recordOf, resolved, total}
 use Rattle.resolution.specs.declared.Giving.{Giving}
 use Rattle.resolution.specs.declared.Resolved.{Resolved}
@@ -21,8 +21,8 @@ received [] l = l
 received (e ∷ es) l = received es (set l (e .patient) (e .donor))
 
 -- the cycles of these choices, by lent tables
-abbrev pub chosenBy : ℕ → List ℕ → List ℕ → List ℕ → List ℕ → List (List ℕ)
-chosenBy n M W s choices = resolved (entry M n) (entry W n) s (subsets 3 n) choices
+abbrev pub cyclesOf : ℕ → List ℕ → List ℕ → List ℕ → List ℕ → List (List ℕ)
+cyclesOf n M W s choices = resolved (entry M n) (entry W n) s (order (upToThree n)) choices
 
 -- records of no cycle: N three times
 abbrev pub noRecords : ℕ → List Cycle
@@ -36,8 +36,8 @@ abbrev pub withCycle : Resolved → Giving → Resolved
 withCycle r g = record { weight = r .weight + g .weight; cycles = r .cycles + 1; records = set (r .records) (r .cycles) (g .cycle) }
 
 -- the weight, the number and the records of cycles of n pairs
-abbrev pub resultOf : ℕ → List ℕ → List ℕ → List (List ℕ) → Resolved
-resultOf n M W cs = record { weight = total (entry M n) (entry W n) cs; cycles = length cs; records = filled (map (recordOf n) cs) (noRecords n) }
+abbrev pub resolvedCycles : ℕ → List ℕ → List ℕ → List (List ℕ) → Resolved
+resolvedCycles n M W cs = record { weight = total (entry M n) (entry W n) cs; cycles = length cs; records = filled (map (recordOf n) cs) (noRecords n) }
 
 -- what more cycles leave: their weight, number and records with those so far, and their edges
 pub record Added (n : ℕ) (M W : List ℕ) (cs : List (List ℕ)) (r : Resolved) (donors recipients : List ℕ) (r′ : Resolved) (donors′ recipients′ : List ℕ) : Type 0 where

@@ -3,15 +3,15 @@ use cursor::Places;
 use records::Cycle;
 ghost use mathlib.Core.Path.{_≡_};
 ghost use mathlib.Core.List.{[], _∷_};
-ghost use Prim.Native.Nat.{_*_, _^_, _≤_, _<_};
+ghost use Prim.Native.Nat.{_^_, _≤_, _<_};
 ghost use lib.ListN.{length, set};
 ghost use Rattle.laws.specs.Below.{table};
 ghost use Rattle.exchange.specs.Subsets.{entry, edges, pairsAt, bestCycle};
 ghost use Rattle.exchange.specs.Resolution.{pairsOf, recordOf, recipientTable, donorTable};
-ghost use Rattle.cursor.specs.Cursor.{InRange, subsetAt};
-ghost use Rattle.evaluation.specs.Readable.{weightOf, Readable, Shuffled, Pairs};
-ghost use Rattle.resolution.specs.Records.{given, received, chosenBy, noneYet, withCycle, resultOf, Added};
-ghost use Rattle.resolution.specs.Asked.{Partners, Room, One, Resolving};
+ghost use Rattle.cursor.specs.Cursor.{OnSubset, subsetAt};
+ghost use Rattle.entries.specs.Preconditions.{weightOf, Readable, Shuffled};
+ghost use Rattle.resolution.specs.Records.{given, received, cyclesOf, noneYet, withCycle, resolvedCycles, Added};
+ghost use Rattle.resolution.specs.Preconditions.{Partners, RecordRoom, One, Resolving};
 
 // A cycle's record and its weight.
 pub struct Giving {
@@ -24,42 +24,6 @@ pub struct Resolved {
     pub weight: usize,
     pub cycles: usize,
     pub records: [Cycle; 100],
-}
-
-// M(i, j), in the open.
-pub fn compatible(m: &[u8], n: usize, i: usize, j: usize) -> usize
-    requires { ⌜ (i < n) × (j < n) × (n ≤ 200) × (n * n ≤ length (now m)) ⌝ }
-    ensures { λ r. ⌜ r ≡ entry (now (m .entry)) n i j ⌝ }
-{
-    m[i * n + j] as usize
-}
-
-// W(i, j), in the open.
-fn points(w: &[u16], n: usize, i: usize, j: usize) -> usize
-    requires { ⌜ (i < n) × (j < n) × (n ≤ 200) × (n * n ≤ length (now w)) ⌝ }
-    ensures { λ r. ⌜ r ≡ entry (now (w .entry)) n i j ⌝ }
-{
-    w[i * n + j] as usize
-}
-
-// The weight of a two's cycle.
-fn two(m: &[u8], w: &[u16], n: usize, a: usize, b: usize) -> usize
-    requires { ⌜ Pairs n (now m) (now w) a b b ⌝ }
-    ensures { λ r. ⌜ r ≡ weightOf n (now (m .entry)) (now (w .entry)) (a ∷ b ∷ []) ⌝ }
-{
-    let there = compatible(m, n, a, b) * compatible(m, n, b, a);
-    there * (points(w, n, a, b) + points(w, n, b, a))
-}
-
-// The weight of the cycle a → b → c → a.
-fn three(m: &[u8], w: &[u16], n: usize, a: usize, b: usize, c: usize) -> usize
-    requires { ⌜ Pairs n (now m) (now w) a b c ⌝ }
-    ensures { λ r. ⌜ r ≡ weightOf n (now (m .entry)) (now (w .entry)) (a ∷ b ∷ c ∷ []) ⌝ }
-{
-    let there = compatible(m, n, a, b) * compatible(m, n, b, c);
-    let all = there * compatible(m, n, c, a);
-    let sum = points(w, n, a, b) + points(w, n, b, c);
-    all * (sum + points(w, n, c, a))
 }
 
 // The record of three numbers.
@@ -76,7 +40,7 @@ fn record_of(first: usize, second: usize, third: usize) -> Cycle
 
 // The cycle that the subset at the cursor is weighed by.
 fn cycle_at(n: usize, m: &[u8], w: &[u16], s: &[u16], p: Places) -> Giving
-    requires { ⌜ Readable n (now m) (now w) × Shuffled n (now s) × InRange n p ⌝ }
+    requires { ⌜ Readable n (now m) (now w) × Shuffled n (now s) × OnSubset n p ⌝ }
     ensures { λ r. ⌜ (r .cycle ≡ recordOf n (pairsAt (now (s .entry)) (bestCycle (entry (now (m .entry)) n) (entry (now (w .entry)) n) (now (s .entry)) (subsetAt n p)))) × (r .weight ≡ weightOf n (now (m .entry)) (now (w .entry)) (pairsAt (now (s .entry)) (bestCycle (entry (now (m .entry)) n) (entry (now (w .entry)) n) (now (s .entry)) (subsetAt n p)))) ⌝ }
 {
     let u = p.u;
@@ -87,12 +51,12 @@ fn cycle_at(n: usize, m: &[u8], w: &[u16], s: &[u16], p: Places) -> Giving
     if x == n {
         return Giving {
             cycle: record_of(a, b, n),
-            weight: two(m, w, n, a, b),
+            weight: entries::two(m, w, n, a, b),
         };
     }
     let c = s[x] as usize;
-    let first = three(m, w, n, a, b, c);
-    let second = three(m, w, n, a, c, b);
+    let first = entries::three(m, w, n, a, b, c);
+    let second = entries::three(m, w, n, a, c, b);
     if first < second {
         return Giving {
             cycle: record_of(a, c, b),
@@ -160,7 +124,7 @@ fn none(n: usize) -> Resolved
 
 // One cycle more.
 fn append(so_far: Resolved, g: Giving) -> Resolved
-    requires { ⌜ Room «so_far» g ⌝ }
+    requires { ⌜ RecordRoom «so_far» g ⌝ }
     ensures { λ r. ⌜ r ≡ withCycle «so_far» g ⌝ }
 {
     let at = so_far.cycles;
@@ -186,7 +150,7 @@ fn resolve_one(
     recipients: &mut [u16],
 ) -> Resolved
     requires { ⌜ One n (now m) (now w) (now s) «so_far» (now donors) (now recipients) ⌝ }
-    ensures { λ r. ⌜ Added n (now (m .entry)) (now (w .entry)) (chosenBy n (now (m .entry)) (now (w .entry)) (now (s .entry)) (choice ∷ [])) «so_far» (now (donors .entry)) (now (recipients .entry)) r (now (donors .exit)) (now (recipients .exit)) ⌝ }
+    ensures { λ r. ⌜ Added n (now (m .entry)) (now (w .entry)) (cyclesOf n (now (m .entry)) (now (w .entry)) (now (s .entry)) (choice ∷ [])) «so_far» (now (donors .entry)) (now (recipients .entry)) r (now (donors .exit)) (now (recipients .exit)) ⌝ }
 {
     if cursor::count(n) <= choice {
         return so_far;
@@ -208,7 +172,7 @@ pub fn resolve(
     recipients: &mut [u16],
 ) -> Resolved
     requires { ⌜ Resolving n (now m) (now w) (now s) (now choices) (now donors) (now recipients) ⌝ }
-    ensures { λ r. ⌜ (r ≡ resultOf n (now (m .entry)) (now (w .entry)) (chosenBy n (now (m .entry)) (now (w .entry)) (now (s .entry)) (now (choices .entry)))) × (now (donors .exit) ≡ donorTable n (chosenBy n (now (m .entry)) (now (w .entry)) (now (s .entry)) (now (choices .entry)))) × (now (recipients .exit) ≡ recipientTable n (chosenBy n (now (m .entry)) (now (w .entry)) (now (s .entry)) (now (choices .entry)))) ⌝ }
+    ensures { λ r. ⌜ (r ≡ resolvedCycles n (now (m .entry)) (now (w .entry)) (cyclesOf n (now (m .entry)) (now (w .entry)) (now (s .entry)) (now (choices .entry)))) × (now (donors .exit) ≡ donorTable n (cyclesOf n (now (m .entry)) (now (w .entry)) (now (s .entry)) (now (choices .entry)))) × (now (recipients .exit) ≡ recipientTable n (cyclesOf n (now (m .entry)) (now (w .entry)) (now (s .entry)) (now (choices .entry)))) ⌝ }
 {
     alone(n, donors);
     alone(n, recipients);

@@ -9,10 +9,11 @@ use lib.ListN.{length, getD, take, set, length-set}
 use lib.Seq.{take-all, take-suc-set}
 use Rattle.greedy.specs.Tally as Tallies
 use Rattle.greedy.specs.Tally.{raise, nextRound}
-use Rattle.greedy.specs.Rounds.{Chosen, chosenIn, clear, clearBefore, clearing, clearingBefore, Left, left, rounds}
+use Rattle.greedy.specs.Rounds.{Chosen, chosenIn, clear, clearBefore, clearingTally, clearingTallyBefore, Left, left, rounds}
 use Rattle.greedy.proofs.Choosing.{choosing-tally}
 use Rattle.greedy.proofs.Tallied.{clear-length}
-use Rattle.exchange.specs.Subsets.{subsets}
+use Rattle.exchange.specs.Input.{noFloor}
+use Rattle.exchange.specs.Subsets.{upToThree, order, subsetCount}
 use Rattle.gates.specs.Counts.{counted}
 use Rattle.gates.specs.declared.Tally.{Tally}
 use Rattle.cursor.specs.Cursor.{placesAt, shown, subsetAt}
@@ -20,9 +21,9 @@ use Rattle.gates.specs.declared.SecretPlaces.{SecretPlaces}
 use Rattle.cursor.proofs.Order.{some-subset}
 use Rattle.cursor.proofs.Standing.{stands-all}
 use Rattle.choosing.specs.Parts.{choiceOf, Turn}
-use Rattle.clearing.specs.Clearing.{Clearing}
+use Rattle.clearing.specs.Preconditions.{Clearing}
 use Rattle.clearing.proofs.AllCleared.{clearing-le}
-use Rattle.rounds.specs.Rounding.{RoomFor, Rounding}
+use Rattle.rounds.specs.Preconditions.{RoomFor, Rounding}
 
 -- ## Clearing, with m rounds left
 
@@ -31,7 +32,7 @@ before-length zero c ss ws = refl
 before-length (suc m) c ss ws = clear-length c ss ws
 
 before-le : (m n : ℕ) → n ≤ 200 → (t : Tallies.Tally)
-    → let u = clearingBefore m (subsets 3 n) t in (u .comparisons ≡ t .comparisons) × (u .products ≤ t .products + 3 * length (subsets 3 n)) × (u .rounds ≡ t .rounds)
+    → let u = clearingTallyBefore m (order (upToThree n)) t in (u .comparisons ≡ t .comparisons) × (u .products ≤ t .products + 3 * subsetCount (upToThree n)) × (u .rounds ≡ t .rounds)
 before-le zero n few t = (refl, omega arith, refl)
 before-le (suc m) n few t = clearing-le n few t
 
@@ -48,36 +49,36 @@ chosenFirst i rest = left (rest .weights) (i ∷ rest .choices) (rest .tally)
 after-first : (cs : List ℕ) (i : ℕ) (rest : Left) → after cs (chosenFirst i rest) ≡ after (cs ++ (i ∷ [])) rest
 after-first cs i rest = ap (λ (l : List ℕ). left (rest .weights) l (rest .tally)) (sym (append-assoc cs (i ∷ []) (rest .choices)))
 
-pub record Turned (n : ℕ) (old first : List ℕ) (t : Tally) (weights choices : List ℕ) (u : Tally) (k : ℕ) : Type 0 where
+pub record BeforeRound (n : ℕ) (old first : List ℕ) (t : Tally) (weights choices : List ℕ) (u : Tally) (k : ℕ) : Type 0 where
   pub upto : k ≤ length first
   pub long : length weights ≡ length old
   pub wide : length choices ≡ length first
-  pub same : after (take k choices) (rounds 0 (length first - k) (subsets 3 n) weights (counted u)) ≡ rounds 0 (length first) (subsets 3 n) old (counted t)
+  pub same : after (take k choices) (rounds noFloor (length first - k) (order (upToThree n)) weights (counted u)) ≡ rounds noFloor (length first) (order (upToThree n)) old (counted t)
   pub room : RoomFor (length first - k) (length weights) u
 
-module _ (n : ℕ) (old first : List ℕ) (t : Tally) (asked : Rounding n old first t) where
-  pub begins : Turned n old first t old first t 0
+module _ (n : ℕ) (old first : List ℕ) (t : Tally) (asked : Rounding (upToThree n) old first t) where
+  pub begins : BeforeRound n old first t old first t 0
   begins =
       let z : length first - 0 ≡ length first = omega arith in
       record {
         upto = omega arith;
         long = refl;
         wide = refl;
-        same = ap (λ (m : ℕ). rounds 0 m (subsets 3 n) old (counted t)) z;
+        same = ap (λ (m : ℕ). rounds noFloor m (order (upToThree n)) old (counted t)) z;
         room = subst (λ (m : ℕ). RoomFor m (length old) t) (sym z) (asked .room);
       }
 
-  module _ (weights choices : List ℕ) (u : Tally) (k : ℕ) (inv : Turned n old first t weights choices u k) where
-    pub ends : k ≡ length first → left weights choices (counted u) ≡ rounds 0 (length first) (subsets 3 n) old (counted t)
+  module _ (weights choices : List ℕ) (u : Tally) (k : ℕ) (inv : BeforeRound n old first t weights choices u k) where
+    pub ends : k ≡ length first → left weights choices (counted u) ≡ rounds noFloor (length first) (order (upToThree n)) old (counted t)
     unfolding rounds
     ends h =
         let z : length first - k ≡ 0 = omega arith in
         ap (λ (l : List ℕ). left weights l (counted u)) (sym (append-nil choices ∙ refl) ∙ ap (λ (l : List ℕ). l ++ []) (sym (take-all k choices (omega (arith, inv .wide)))))
-        ∙ ap (λ (m : ℕ). after (take k choices) (rounds 0 m (subsets 3 n) weights (counted u))) (sym z)
+        ∙ ap (λ (m : ℕ). after (take k choices) (rounds noFloor m (order (upToThree n)) weights (counted u))) (sym z)
         ∙ inv .same
 
     module _ (more : k < length first) where
-      whole : length weights ≡ length (subsets 3 n)
+      whole : length weights ≡ subsetCount (upToThree n)
       whole = inv .long ∙ asked .whole
 
       some : 0 < length weights
@@ -94,7 +95,7 @@ module _ (n : ℕ) (old first : List ℕ) (t : Tally) (asked : Rounding n old fi
           suc-left : length first - k ≡ suc m
           suc-left = omega arith
 
-      pub asks-choose : Turn n weights choices k u
+      pub asks-choose : Turn (upToThree n) weights choices k u
       asks-choose = record {
         all = record {
           few = asked .few;
@@ -110,14 +111,14 @@ module _ (n : ℕ) (old first : List ℕ) (t : Tally) (asked : Rounding n old fi
       }
 
       module _ (cs : List ℕ) (v : Tally) (at : SecretPlaces)
-          (ec : (cs ≡ set choices k (choiceOf n weights u .number)) × (counted v ≡ choiceOf n weights u .tally) × (shown at ≡ placesAt n (choiceOf n weights u .number))) where
+          (ec : (cs ≡ set choices k (choiceOf (upToThree n) weights u .number)) × (counted v ≡ choiceOf (upToThree n) weights u .tally) × (shown at ≡ placesAt (upToThree n) (choiceOf (upToThree n) weights u .number))) where
         raised : (v .comparisons ≡ u .comparisons + length weights) × (v .products ≡ u .products + (5 * length weights - 1)) × (v .rounds ≡ u .rounds + 1)
         unfolding raise nextRound
         raised =
-            let e : counted v ≡ raise (length weights) (5 * length weights - 1) (nextRound (counted u)) = ec .1 ∙ choosing-tally 0 (subsets 3 n) weights (nextRound (counted u)) some in
+            let e : counted v ≡ raise (length weights) (5 * length weights - 1) (nextRound (counted u)) = ec .1 ∙ choosing-tally noFloor (order (upToThree n)) weights (nextRound (counted u)) some in
             (ap (λ (x : Tallies.Tally). x .comparisons) e, ap (λ (x : Tallies.Tally). x .products) e, ap (λ (x : Tallies.Tally). x .rounds) e)
 
-        pub asks-clear : Clearing n weights v
+        pub asks-clear : Clearing (upToThree n) weights v
         asks-clear = record {
           few = asked .few;
           whole = whole;
@@ -128,18 +129,18 @@ module _ (n : ℕ) (old first : List ℕ) (t : Tally) (asked : Rounding n old fi
         }
 
         module _ (ws : List ℕ) (w : Tally)
-            (ew : (ws ≡ clearBefore (length first - k - 1) (subsetAt n (shown at)) (subsets 3 n) weights) × (counted w ≡ clearingBefore (length first - k - 1) (subsets 3 n) (counted v))) where
+            (ew : (ws ≡ clearBefore (length first - k - 1) (subsetAt n (shown at)) (order (upToThree n)) weights) × (counted w ≡ clearingTallyBefore (length first - k - 1) (order (upToThree n)) (counted v))) where
           m-left : length first - k - 1 ≡ m
           m-left = omega arith
 
-          weights-are : ws ≡ clearBefore m (getD (subsets 3 n) (choiceOf n weights u .number) []) (subsets 3 n) weights
-          weights-are = ew .0 ∙ ap₂ (λ (j : ℕ) (c : List ℕ). clearBefore j c (subsets 3 n) weights) m-left (stands-all n (choiceOf n weights u .number) (asked .few) (shown at) (ec .2))
+          weights-are : ws ≡ clearBefore m (getD (order (upToThree n)) (choiceOf (upToThree n) weights u .number) []) (order (upToThree n)) weights
+          weights-are = ew .0 ∙ ap₂ (λ (j : ℕ) (c : List ℕ). clearBefore j c (order (upToThree n)) weights) m-left (stands-all n (choiceOf (upToThree n) weights u .number) (asked .few) (shown at) (ec .2))
 
-          tally-is : counted w ≡ clearingBefore m (subsets 3 n) (choiceOf n weights u .tally)
-          tally-is = ew .1 ∙ ap₂ (λ (j : ℕ) (x : Tallies.Tally). clearingBefore j (subsets 3 n) x) m-left (ec .1)
+          tally-is : counted w ≡ clearingTallyBefore m (order (upToThree n)) (choiceOf (upToThree n) weights u .tally)
+          tally-is = ew .1 ∙ ap₂ (λ (j : ℕ) (x : Tallies.Tally). clearingTallyBefore j (order (upToThree n)) x) m-left (ec .1)
 
           weights-long : length ws ≡ length weights
-          weights-long = ap length (ew .0) ∙ before-length (length first - k - 1) (subsetAt n (shown at)) (subsets 3 n) weights
+          weights-long = ap length (ew .0) ∙ before-length (length first - k - 1) (subsetAt n (shown at)) (order (upToThree n)) weights
 
           tally-le : (w .comparisons ≡ v .comparisons) × (w .products ≤ v .products + 3 * length weights) × (w .rounds ≡ v .rounds)
           tally-le =
@@ -149,11 +150,11 @@ module _ (n : ℕ) (old first : List ℕ) (t : Tally) (asked : Rounding n old fi
                 ap (λ (x : Tallies.Tally). x .rounds) (ew .1) ∙ le .2,
               )
 
-          pub next : Turned n old first t ws cs w (k + 1)
+          pub next : BeforeRound n old first t ws cs w (k + 1)
           unfolding rounds
           next =
-              let ss = subsets 3 n in
-              let c : Chosen = choiceOf n weights u in
+              let ss = order (upToThree n) in
+              let c : Chosen = choiceOf (upToThree n) weights u in
               let z : length first - k ≡ suc m = omega arith in
               record {
                 upto = omega arith;
@@ -161,9 +162,9 @@ module _ (n : ℕ) (old first : List ℕ) (t : Tally) (asked : Rounding n old fi
                 wide = ap length (ec .0) ∙ length-set choices k (c .number) ∙ inv .wide;
                 same = ap₂ (λ (l : List ℕ) (x : Left). after l x)
                     (ap (take (k + 1)) (ec .0) ∙ ap (λ (j : ℕ). take j (set choices k (c .number))) (add-one k) ∙ take-suc-set choices k (c .number) (omega (arith, inv .wide)))
-                    (ap₂ (λ (a : List ℕ) (b : Tallies.Tally). rounds 0 m ss a b) weights-are tally-is)
-                    ∙ sym (after-first (take k choices) (c .number) (rounds 0 m ss (clearBefore m (getD ss (c .number) []) ss weights) (clearingBefore m ss (c .tally))))
-                    ∙ ap (λ (j : ℕ). after (take k choices) (rounds 0 j ss weights (counted u))) (sym z)
+                    (ap₂ (λ (a : List ℕ) (b : Tallies.Tally). rounds noFloor m ss a b) weights-are tally-is)
+                    ∙ sym (after-first (take k choices) (c .number) (rounds noFloor m ss (clearBefore m (getD ss (c .number) []) ss weights) (clearingTallyBefore m ss (c .tally))))
+                    ∙ ap (λ (j : ℕ). after (take k choices) (rounds noFloor j ss weights (counted u))) (sym z)
                     ∙ inv .same;
                 room = record {
                   comparisons = omega (arith, inv .room .comparisons, less (length weights), raised .0, tally-le .0, ap (λ (x : ℕ). m * x) weights-long);

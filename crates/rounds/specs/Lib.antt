@@ -1,2 +1,2 @@
 -- What the rounds ask of their arguments.
-pub mod Rounding
+pub mod Preconditions

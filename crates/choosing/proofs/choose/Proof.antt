@@ -2,6 +2,7 @@
 use Rattle.lending.proofs.Walking.{_≡_, refl, ap, subst, [], _∷_, List, ℕ, _<_, _^_, length, set, URA, fullShare, named, w64, Val, vint, vptr, SProp, ent, id⊢, Lft, Share, GName, ftrue, fat, flft, Memory, Routine, Heap, Calls, Loops, WpFn, Tables, Atoms, Fun, fact, AllOutlive, givenOf, tables, tablesOf, Given, ‵, raw, some, later, _⊛_, ⋆, Item, _$_, _∵_, !, qed, by, move, keep, drop, use1, use2, use3, cut, split, join, pick, rewrite, fsplit, fsplit3, fjoin, fjoin3, feqI, feqL, suffices, frame, await, done, look, init, store, forget, stop, hop, fld, from, load, addr, of-opd, and-then, no-more, land, assigns, returns, enter, alloc1, alloc0, params1, pass1, pass0, free1, free0, agg, whole, sub, look-in, lft-new, lft-end, FmC, fmOf, WpFn-mono, RattleType, owns, Is, shows, cellAt, uint-vals, uint-tells, uint-makes, u32, usize, RefT, MutRef, ptr-vals, mut-tells, sliceVal, MutSlice, ShrSlice, Room, slice-vals, mut-slice-tells, shr-slice-tells, shr-slice-copy, plain, shrSliceOf, only, opens, closes, owned, facts, heard, nothing, spelt, onEntry, Meets, tripleOf, Contract, Triple, calls-at, ensured, lasts, entered, cited, says, needs, Stays, stay-dropped, stay-ref, stay-slice, walkOf, goes-dropped, goes-ref, goes-slice, Walks, ends-at, walked, walk-meets, yes, renamed, LentAgain, again-out, again-back}
 use denote.Struct.Laws as LL
 use Rattle.choosing.specs.Parts.{Turn, choiceOf}
+use Rattle.exchange.specs.Subsets.{upToThree}
 use Rattle.gates.specs.Counts.{counted}
 use Rattle.cursor.specs.Cursor.{shown, placesAt}
 use Rattle.gates.specs.declared.Tally.{Tally}
@@ -47,7 +48,7 @@ module _ {M : Type 1} (𝓤 : URA M) (H : Heap 𝓤) (A : Atoms 𝓤) (W : Given
   abbrev Post : Val → SProp 𝓤
   Post = walkOf 𝓤 H A me.ended stayed (me.clauses 𝓤 H A at-mem run) .post (((κ0, (κ1, (κ2, tt))), (q0, (q1, (q2, tt))), bounds, x, at), tt)
 
-  exits : (r : SecretPlaces) (r-fits : Is R-SecretPlaces r ((SecretPlaces-laws.lowered r) ∷ [])) (choices′ : List ℕ) (tally′ : Tally) → (choices′ ≡ set (choices .now) k (choiceOf n (weights .now) (tally .now) .number)) × (counted tally′ ≡ choiceOf n (weights .now) (tally .now) .tally) × (shown r ≡ placesAt n (choiceOf n (weights .now) (tally .now) .number)) → (length choices′) ≡ (length (choices .now))
+  exits : (r : SecretPlaces) (r-fits : Is R-SecretPlaces r ((SecretPlaces-laws.lowered r) ∷ [])) (choices′ : List ℕ) (tally′ : Tally) → (choices′ ≡ set (choices .now) k ((choiceOf (upToThree n) (weights .now) (tally .now)) .number)) × (counted tally′ ≡ (choiceOf (upToThree n) (weights .now) (tally .now)) .tally) × (shown r ≡ placesAt (upToThree n) ((choiceOf (upToThree n) (weights .now) (tally .now)) .number)) → (length choices′) ≡ (length (choices .now))
       → ent 𝓤 (⋆ 𝓤 H A (‵ (flft κ0 q0) ∷ ‵ (flft κ1 q1) ∷ ‵ (flft κ2 q2) ∷ ‵ (MutSlice (named 1) κ1 u32 .own (renamed choices (choices .name) choices′) ((sliceVal (choices .ptr) (length (choices .now))) ∷ [])) ∷ ‵ (MutRef (named 2) κ2 R-Tally .own (renamed tally (tally .name) tally′) ((vptr (tally .ptr .0) (tally .ptr .1)) ∷ [])) ∷ [])) (Post (SecretPlaces-laws.lowered r))
   exits r r-fits choices′ tally′ e long-choices =
       qed W (‵ (flft κ0 q0) ∷ ‵ (flft κ1 q1) ∷ ‵ (flft κ2 q2) ∷ ‵ (MutSlice (named 1) κ1 u32 .own (renamed choices (choices .name) choices′) ((sliceVal (choices .ptr) (length (choices .now))) ∷ [])) ∷ ‵ (MutRef (named 2) κ2 R-Tally .own (renamed tally (tally .name) tally′) ((vptr (tally .ptr .0) (tally .ptr .1)) ∷ [])) ∷ []) ∵
@@ -62,10 +63,10 @@ module _ {M : Type 1} (𝓤 : URA M) (H : Heap 𝓤) (A : Atoms 𝓤) (W : Given
     abbrev asked-1 : List (Item 𝓤)
     asked-1 = ‵ (flft κ0 q0) ∷ ‵ (flft (ν2 ∷ []) fullShare) ∷ ‵ (ShrSlice (named 0) κ0 u32 .own weights ((sliceVal (weights .ptr) (length (weights .now))) ∷ [])) ∷ ‵ (MutSlice (named 1) (ν2 ∷ []) u32 .own (renamed choices δ2 a2) ((sliceVal (choices .ptr) (length (choices .now))) ∷ [])) ∷ []
 
-    goes-1 : Turn a0 (weights .now) a2 a3 a4 → ent 𝓤 (⋆ 𝓤 H A asked-1) (F1 𝓤 H A at-mem run .pre to-1)
+    goes-1 : Turn (upToThree a0) (weights .now) a2 a3 a4 → ent 𝓤 (⋆ 𝓤 H A asked-1) (F1 𝓤 H A at-mem run .pre to-1)
     goes-1 needs-these = qed W asked-1 ∵ says ! needs-these $ nothing ! $ move ! (2 ∷ 0 ∷ []) $ join ! $ move ! (1 ∷ 0 ∷ []) $ join ! $ frame ! $ nothing ! $ owned ! R-Tally (Is R-Tally) (LL.makes Tally-row.the-type Tally-laws.the-plain 𝓤 H A) a4 _ fits4 $ fjoin ! $ owned ! usize (Is usize) (uint-makes 𝓤 H A W w64) a3 _ (refl, fits3) $ fjoin ! $ move ! (2 ∷ 0 ∷ []) $ fjoin ! $ move ! (1 ∷ 0 ∷ []) $ fjoin ! $ owned ! usize (Is usize) (uint-makes 𝓤 H A W w64) a0 _ (refl, fits0) $ fjoin ! $ done !
 
-  module _ (𝓣 : Tables 𝓤 H) (known-f1 : Triple 𝓤 (𝓣 .C #f1) (F1 𝓤 H A at-mem run)) (pre : Turn n (weights .now) (choices .now) k (tally .now)) where
+  module _ (𝓣 : Tables 𝓤 H) (known-f1 : Triple 𝓤 (𝓣 .C #f1) (F1 𝓤 H A at-mem run)) (pre : Turn (upToThree n) (weights .now) (choices .now) k (tally .now)) where
     abbrev C : Calls 𝓤 H
     C = 𝓣 .C
 
@@ -97,8 +98,8 @@ module _ {M : Type 1} (𝓤 : URA M) (H : Heap 𝓤) (A : Atoms 𝓤) (W : Given
         move ! (7 ∷ 2 ∷ 3 ∷ 0 ∷ []) $ cut (asked-1 n n-fits ν1-2 δ1-2 (choices .now) k k-fits (tally .now) is1) (raw (F1 𝓤 H A at-mem run .pre (to-1 n n-fits ν1-2 δ1-2 (choices .now) k k-fits (tally .now) is1)) ∷ []) _ (goes-1 n n-fits ν1-2 δ1-2 (choices .now) k k-fits (tally .now) is1 (pre)) $
         calls-at ! fm (F1 𝓤 H A at-mem run) known-f1 (to-1 n n-fits ν1-2 δ1-2 (choices .now) k k-fits (tally .now) is1) (and-then ! (load ! (from ! (stop !)) (look ! 21 refl)) (and-then ! (load ! (from ! (stop !)) (look ! 19 refl)) (and-then ! (load ! (from ! (stop !)) (look ! 5 refl)) (and-then ! (load ! (from ! (stop !)) (look ! 15 refl)) (and-then ! (load ! (from ! (stop !)) (look ! 11 refl)) (no-more !)))))) (λ v1.
         use1 W (later (some (λ (r : Placed). ((‵ (flft κ0 q0) ⊛ ‵ (flft (ν1-2 ∷ []) fullShare) ⊛ ‵ ftrue) ⊛ ‵ (R-Placed .own r (v1 ∷ []))) ⊛ raw (ensured 𝓤 H A f1.ended (f1.clauses 𝓤 H A at-mem run) (κ0, ((ν1-2 ∷ []), tt)) (n, (weights, ((renamed choices δ1-2 (choices .now)), (k, ((tally .now), tt))))) tt r)))) (id⊢ 𝓤 _) $ await ! tt $ pick ! (λ r1.
-        split ! $ move ! (1 ∷ []) $ use1 W (some (λ (zs : (Unit {0} × (Unit {0} × (List ℕ × (Unit {0} × (Unit {0} × Unit {0})))))). ‵ (lasts f1.ended (κ0, ((ν1-2 ∷ []), tt)) (n, (weights, ((renamed choices δ1-2 (choices .now)), (k, ((tally .now), tt))))) zs) ⊛ raw (fact 𝓤 (((zs .1 .1 .0) ≡ set (choices .now) k (choiceOf n (weights .now) (tally .now) .number)) × (counted (r1 .tally) ≡ choiceOf n (weights .now) (tally .now) .tally) × (shown (r1 .at) ≡ placesAt n (choiceOf n (weights .now) (tally .now) .number)))))) (id⊢ 𝓤 _) $ pick ! (λ zs1.
-        split ! $ move ! (1 ∷ []) $ heard ! (((zs1 .1 .1 .0) ≡ set (choices .now) k (choiceOf n (weights .now) (tally .now) .number)) × (counted (r1 .tally) ≡ choiceOf n (weights .now) (tally .now) .tally) × (shown (r1 .at) ≡ placesAt n (choiceOf n (weights .now) (tally .now) .number))) (λ e1. fsplit ! $ drop ! $ fsplit ! $ drop ! $ fsplit ! $ fsplit ! $ move ! (1 ∷ []) $ feqL ! (λ long1-2. move ! (1 ∷ []) $ drop ! $
+        split ! $ move ! (1 ∷ []) $ use1 W (some (λ (zs : (Unit {0} × (Unit {0} × (List ℕ × (Unit {0} × (Unit {0} × Unit {0})))))). ‵ (lasts f1.ended (κ0, ((ν1-2 ∷ []), tt)) (n, (weights, ((renamed choices δ1-2 (choices .now)), (k, ((tally .now), tt))))) zs) ⊛ raw (fact 𝓤 (((zs .1 .1 .0) ≡ set (choices .now) k (choiceOf (upToThree n) (weights .now) (tally .now) .number)) × (counted (r1 .tally) ≡ choiceOf (upToThree n) (weights .now) (tally .now) .tally) × (shown (r1 .at) ≡ placesAt (upToThree n) (choiceOf (upToThree n) (weights .now) (tally .now) .number)))))) (id⊢ 𝓤 _) $ pick ! (λ zs1.
+        split ! $ move ! (1 ∷ []) $ heard ! (((zs1 .1 .1 .0) ≡ set (choices .now) k (choiceOf (upToThree n) (weights .now) (tally .now) .number)) × (counted (r1 .tally) ≡ choiceOf (upToThree n) (weights .now) (tally .now) .tally) × (shown (r1 .at) ≡ placesAt (upToThree n) (choiceOf (upToThree n) (weights .now) (tally .now) .number))) (λ e1. fsplit ! $ drop ! $ fsplit ! $ drop ! $ fsplit ! $ fsplit ! $ move ! (1 ∷ []) $ feqL ! (λ long1-2. move ! (1 ∷ []) $ drop ! $
         move ! (1 ∷ []) $ split ! $ move ! (1 ∷ []) $ facts ! R-Placed (Is R-Placed) (shows 𝓤 H A R-Placed) r1 (v1 ∷ []) (λ got1. split ! $ move ! (1 ∷ []) $ split ! $ move ! (1 ∷ []) $ drop ! $
         land ! (from ! (stop !)) (init ! 11 refl (LL.lawful Placed-row.the-type Placed-laws.the-laws 𝓤 H A W .typed r1 _ got1 .0)) $ rewrite ! 11 (λ (u : Val). ‵ (fat fullShare Placed-laws.mir l7 0 u)) (ap only (LL.tells Placed-row.the-type Placed-laws.the-laws r1 _ got1)) refl $
         lft-end ! tt $ move ! (0 ∷ 3 ∷ 2 ∷ []) $ use3 W (later (‵ (MutSlice (named 1) κ1 u32 .own (renamed choices (choices .name) (zs1 .1 .1 .0)) ((sliceVal (choices .ptr) (length (choices .now))) ∷ [])) ⊛ ‵ (flft κ1 q1))) (again-back u32 κ1 (ν1-2 ∷ []) q1 (choices .name) (choices .ptr .0) (choices .ptr .1) 𝓤 H A W (named 1) (named 1) ((sliceVal (choices .ptr) (length (choices .now))) ∷ []) (choices .now) δ1-2 (zs1 .1 .1 .0) refl choices-room long1-2) $ await ! tt $ split ! $
@@ -115,7 +116,7 @@ module _ {M : Type 1} (𝓤 : URA M) (H : Heap 𝓤) (A : Atoms 𝓤) (W : Given
 module _ {M : Type 1} (𝓤 : URA M) (H : Heap 𝓤) (A : Atoms 𝓤) (W : Given 𝓤 H A) (at-mem : Memory → SProp 𝓤) (run : Routine → Fun 𝓤) where
   walks : (𝓣 : Tables 𝓤 H) → Triple 𝓤 (𝓣 .C #f1) (F1 𝓤 H A at-mem run) → Walks 𝓤 H A me.ended stayed (WpFn 𝓤 H (𝓣 .C) (𝓣 .Λ) code.function) (me.clauses 𝓤 H A at-mem run)
   walks 𝓣 known-f1 = walked 𝓤 H A me.ended stayed (me.clauses 𝓤 H A at-mem run) (WpFn 𝓤 H (𝓣 .C) (𝓣 .Λ) code.function) (λ κs. (uint-vals w64, (slice-vals, (slice-vals, (uint-vals w64, (ptr-vals, tt)))))) (λ κs. (uint-tells w64, (shr-slice-tells (named 0) (κs .0) u32, (mut-slice-tells (named 1) (κs .1 .0) u32, (uint-tells w64, (mut-tells (named 2) (κs .1 .1 .0) R-Tally, tt))))))
-      (λ κs qs bounds a g are. needs 𝓤 (Turn (a .0) (a .1 .0 .now) (a .1 .1 .0 .now) (a .1 .1 .1 .0) (a .1 .1 .1 .1 .0 .now)) _ (walk 𝓤 H A W at-mem run (κs .0) (κs .1 .0) (κs .1 .1 .0) bounds (qs .0) (qs .1 .0) (qs .1 .1 .0) (a .0) (a .1 .0) (a .1 .1 .0) (a .1 .1 .1 .0) (a .1 .1 .1 .1 .0) (are .0 .1) (are .1 .0 .0 .1) (are .1 .1 .0 .0 .1) (are .1 .1 .1 .0 .1) 𝓣 known-f1))
+      (λ κs qs bounds a g are. needs 𝓤 (Turn (upToThree (a .0)) (a .1 .0 .now) (a .1 .1 .0 .now) (a .1 .1 .1 .0) (a .1 .1 .1 .1 .0 .now)) _ (walk 𝓤 H A W at-mem run (κs .0) (κs .1 .0) (κs .1 .1 .0) bounds (qs .0) (qs .1 .0) (qs .1 .1 .0) (a .0) (a .1 .0) (a .1 .1 .0) (a .1 .1 .1 .0) (a .1 .1 .1 .1 .0) (are .0 .1) (are .1 .0 .0 .1) (are .1 .1 .0 .0 .1) (are .1 .1 .1 .0 .1) 𝓣 known-f1))
 
   meets : (𝓣 : Tables 𝓤 H) → Triple 𝓤 (𝓣 .C #f1) (F1 𝓤 H A at-mem run) → Meets 𝓤 H A me.signature (WpFn 𝓤 H (𝓣 .C) (𝓣 .Λ) code.function) (me.spec 𝓤 H A at-mem run)
   meets 𝓣 known-f1 =

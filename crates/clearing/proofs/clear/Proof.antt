@@ -1,10 +1,10 @@
 -- `clearing::clear` meets its contract: a walk of its MIR, written by walks/walk.py. Assumes nothing.
 use Rattle.lending.proofs.Walking.{_≡_, refl, ap, subst, [], _∷_, List, ℕ, _<_, _^_, length, URA, fullShare, named, w64, Val, vunit, vint, vptr, SProp, ent, id⊢, Lft, Share, GName, ftrue, fat, flft, Memory, Routine, Heap, Calls, Loops, WpFn, Tables, Atoms, Fun, fact, AllOutlive, givenOf, tables, tablesOf, Given, ‵, raw, some, later, _⊛_, ⋆, Item, _$_, _∵_, !, qed, by, move, keep, drop, use1, use2, use3, cut, split, join, pick, rewrite, fsplit, fsplit3, fjoin, fjoin3, feqI, feqL, suffices, frame, await, done, look, init, store, forget, stop, hop, fld, from, load, addr, unit-lit, of-opd, and-then, no-more, land, assigns, returns, enter, alloc1, alloc0, params1, pass1, pass0, free1, free0, agg, whole, sub, look-in, lft-new, lft-end, FmC, fmOf, WpFn-mono, RattleType, owns, Is, shows, cellAt, uint-vals, uint-tells, uint-makes, u32, usize, RefT, MutRef, ptr-vals, mut-tells, sliceVal, MutSlice, Room, slice-vals, mut-slice-tells, plain, only, opens, closes, owned, facts, heard, nothing, spelt, onEntry, Meets, tripleOf, Contract, Triple, calls-at, ensured, lasts, entered, cited, says, needs, Stays, stay-dropped, stay-ref, stay-slice, walkOf, goes-dropped, goes-ref, goes-slice, Walks, ends-at, walked, walk-meets, yes, renamed, LentAgain, again-out, again-back}
 use denote.Struct.Laws as LL
-use Rattle.clearing.specs.Clearing.{Clearing}
+use Rattle.clearing.specs.Preconditions.{Clearing}
+use Rattle.exchange.specs.Subsets.{upToThree, order}
 use Rattle.greedy.specs.Rounds as Rounds
 use Rattle.cursor.specs.Cursor.{subsetAt, shown}
-use Rattle.exchange.specs.Subsets.{subsets}
 use Rattle.gates.specs.Counts.{counted}
 use Rattle.gates.specs.declared.SecretPlaces.{SecretPlaces}
 use Rattle.gates.proofs.SecretPlaces as SecretPlaces-row
@@ -43,7 +43,7 @@ module _ {M : Type 1} (𝓤 : URA M) (H : Heap 𝓤) (A : Atoms 𝓤) (W : Given
   abbrev Post : Val → SProp 𝓤
   Post = walkOf 𝓤 H A me.ended stayed (me.clauses 𝓤 H A at-mem run) .post (((κ0, (κ1, tt)), (q0, (q1, tt)), bounds, x, at), tt)
 
-  exits : (weights′ : List ℕ) (tally′ : Tally) → (weights′ ≡ Rounds.clearBefore left (subsetAt n (shown choice)) (subsets 3 n) (weights .now)) × (counted tally′ ≡ Rounds.clearingBefore left (subsets 3 n) (counted (tally .now))) → (length weights′) ≡ (length (weights .now))
+  exits : (weights′ : List ℕ) (tally′ : Tally) → (weights′ ≡ Rounds.clearBefore left (subsetAt n (shown choice)) (order (upToThree n)) (weights .now)) × (counted tally′ ≡ Rounds.clearingTallyBefore left (order (upToThree n)) (counted (tally .now))) → (length weights′) ≡ (length (weights .now))
       → ent 𝓤 (⋆ 𝓤 H A (‵ (flft κ0 q0) ∷ ‵ (flft κ1 q1) ∷ ‵ (MutSlice (named 0) κ0 u32 .own (renamed weights (weights .name) weights′) ((sliceVal (weights .ptr) (length (weights .now))) ∷ [])) ∷ ‵ (MutRef (named 1) κ1 R-Tally .own (renamed tally (tally .name) tally′) ((vptr (tally .ptr .0) (tally .ptr .1)) ∷ [])) ∷ [])) (Post vunit)
   exits weights′ tally′ e long-weights =
       qed W (‵ (flft κ0 q0) ∷ ‵ (flft κ1 q1) ∷ ‵ (MutSlice (named 0) κ0 u32 .own (renamed weights (weights .name) weights′) ((sliceVal (weights .ptr) (length (weights .now))) ∷ [])) ∷ ‵ (MutRef (named 1) κ1 R-Tally .own (renamed tally (tally .name) tally′) ((vptr (tally .ptr .0) (tally .ptr .1)) ∷ [])) ∷ []) ∵
@@ -58,10 +58,10 @@ module _ {M : Type 1} (𝓤 : URA M) (H : Heap 𝓤) (A : Atoms 𝓤) (W : Given
     abbrev asked-1 : List (Item 𝓤)
     asked-1 = ‵ (flft (ν1 ∷ []) fullShare) ∷ ‵ (MutSlice (named 0) (ν1 ∷ []) u32 .own (renamed weights δ1 a1) ((sliceVal (weights .ptr) (length (weights .now))) ∷ [])) ∷ []
 
-    goes-1 : Clearing a0 a1 a4 → ent 𝓤 (⋆ 𝓤 H A asked-1) (F1 𝓤 H A at-mem run .pre to-1)
+    goes-1 : Clearing (upToThree a0) a1 a4 → ent 𝓤 (⋆ 𝓤 H A asked-1) (F1 𝓤 H A at-mem run .pre to-1)
     goes-1 needs-these = qed W asked-1 ∵ says ! needs-these $ nothing ! $ move ! (1 ∷ 0 ∷ []) $ join ! $ frame ! $ nothing ! $ owned ! R-Tally (Is R-Tally) (LL.makes Tally-row.the-type Tally-laws.the-plain 𝓤 H A) a4 _ fits4 $ fjoin ! $ owned ! usize (Is usize) (uint-makes 𝓤 H A W w64) a3 _ (refl, fits3) $ fjoin ! $ owned ! R-SecretPlaces (Is R-SecretPlaces) (LL.makes SecretPlaces-row.the-type SecretPlaces-laws.the-plain 𝓤 H A) a2 _ fits2 $ fjoin ! $ move ! (1 ∷ 0 ∷ []) $ fjoin ! $ owned ! usize (Is usize) (uint-makes 𝓤 H A W w64) a0 _ (refl, fits0) $ fjoin ! $ done !
 
-  module _ (𝓣 : Tables 𝓤 H) (known-f1 : Triple 𝓤 (𝓣 .C #f1) (F1 𝓤 H A at-mem run)) (pre : Clearing n (weights .now) (tally .now)) where
+  module _ (𝓣 : Tables 𝓤 H) (known-f1 : Triple 𝓤 (𝓣 .C #f1) (F1 𝓤 H A at-mem run)) (pre : Clearing (upToThree n) (weights .now) (tally .now)) where
     abbrev C : Calls 𝓤 H
     C = 𝓣 .C
 
@@ -92,8 +92,8 @@ module _ {M : Type 1} (𝓤 : URA M) (H : Heap 𝓤) (A : Atoms 𝓤) (W : Given
         move ! (2 ∷ 0 ∷ []) $ cut (asked-1 n n-fits ν1-1 δ1-1 (weights .now) choice choice-fits left left-fits (tally .now) is1) (raw (F1 𝓤 H A at-mem run .pre (to-1 n n-fits ν1-1 δ1-1 (weights .now) choice choice-fits left left-fits (tally .now) is1)) ∷ []) _ (goes-1 n n-fits ν1-1 δ1-1 (weights .now) choice choice-fits left left-fits (tally .now) is1 (pre)) $
         calls-at ! fm (F1 𝓤 H A at-mem run) known-f1 (to-1 n n-fits ν1-1 δ1-1 (weights .now) choice choice-fits left left-fits (tally .now) is1) (and-then ! (load ! (from ! (stop !)) (look ! 20 refl)) (and-then ! (load ! (from ! (stop !)) (look ! 4 refl)) (and-then ! (load ! (from ! (stop !)) (look ! 16 refl)) (and-then ! (load ! (from ! (stop !)) (look ! 14 refl)) (and-then ! (load ! (from ! (stop !)) (look ! 10 refl)) (no-more !)))))) (λ v1.
         use1 W (later (some (λ (r : Tally). ((‵ (flft (ν1-1 ∷ []) fullShare) ⊛ ‵ ftrue) ⊛ ‵ (R-Tally .own r (v1 ∷ []))) ⊛ raw (ensured 𝓤 H A f1.ended (f1.clauses 𝓤 H A at-mem run) ((ν1-1 ∷ []), tt) (n, ((renamed weights δ1-1 (weights .now)), (choice, (left, ((tally .now), tt))))) tt r)))) (id⊢ 𝓤 _) $ await ! tt $ pick ! (λ r1.
-        split ! $ move ! (1 ∷ []) $ use1 W (some (λ (zs : (Unit {0} × (List ℕ × (Unit {0} × (Unit {0} × (Unit {0} × Unit {0})))))). ‵ (lasts f1.ended ((ν1-1 ∷ []), tt) (n, ((renamed weights δ1-1 (weights .now)), (choice, (left, ((tally .now), tt))))) zs) ⊛ raw (fact 𝓤 (((zs .1 .0) ≡ Rounds.clearBefore left (subsetAt n (shown choice)) (subsets 3 n) (weights .now)) × (counted r1 ≡ Rounds.clearingBefore left (subsets 3 n) (counted (tally .now))))))) (id⊢ 𝓤 _) $ pick ! (λ zs1.
-        split ! $ move ! (1 ∷ []) $ heard ! (((zs1 .1 .0) ≡ Rounds.clearBefore left (subsetAt n (shown choice)) (subsets 3 n) (weights .now)) × (counted r1 ≡ Rounds.clearingBefore left (subsets 3 n) (counted (tally .now)))) (λ e1. fsplit ! $ drop ! $ fsplit ! $ fsplit ! $ move ! (1 ∷ []) $ feqL ! (λ long1-1. move ! (1 ∷ []) $ drop ! $
+        split ! $ move ! (1 ∷ []) $ use1 W (some (λ (zs : (Unit {0} × (List ℕ × (Unit {0} × (Unit {0} × (Unit {0} × Unit {0})))))). ‵ (lasts f1.ended ((ν1-1 ∷ []), tt) (n, ((renamed weights δ1-1 (weights .now)), (choice, (left, ((tally .now), tt))))) zs) ⊛ raw (fact 𝓤 (((zs .1 .0) ≡ Rounds.clearBefore left (subsetAt n (shown choice)) (order (upToThree n)) (weights .now)) × (counted r1 ≡ Rounds.clearingTallyBefore left (order (upToThree n)) (counted (tally .now))))))) (id⊢ 𝓤 _) $ pick ! (λ zs1.
+        split ! $ move ! (1 ∷ []) $ heard ! (((zs1 .1 .0) ≡ Rounds.clearBefore left (subsetAt n (shown choice)) (order (upToThree n)) (weights .now)) × (counted r1 ≡ Rounds.clearingTallyBefore left (order (upToThree n)) (counted (tally .now)))) (λ e1. fsplit ! $ drop ! $ fsplit ! $ fsplit ! $ move ! (1 ∷ []) $ feqL ! (λ long1-1. move ! (1 ∷ []) $ drop ! $
         move ! (1 ∷ []) $ split ! $ move ! (1 ∷ []) $ facts ! R-Tally (Is R-Tally) (shows 𝓤 H A R-Tally) r1 (v1 ∷ []) (λ got1. split ! $ move ! (1 ∷ []) $ drop ! $
         land ! (from ! (stop !)) (init ! 9 refl (LL.lawful Tally-row.the-type Tally-laws.the-laws 𝓤 H A W .typed r1 _ got1 .0)) $ rewrite ! 9 (λ (u : Val). ‵ (fat fullShare Tally-laws.mir l7 0 u)) (ap only (LL.tells Tally-row.the-type Tally-laws.the-laws r1 _ got1)) refl $
         lft-end ! tt $ move ! (0 ∷ 2 ∷ 1 ∷ []) $ use3 W (later (‵ (MutSlice (named 0) κ0 u32 .own (renamed weights (weights .name) (zs1 .1 .0)) ((sliceVal (weights .ptr) (length (weights .now))) ∷ [])) ⊛ ‵ (flft κ0 q0))) (again-back u32 κ0 (ν1-1 ∷ []) q0 (weights .name) (weights .ptr .0) (weights .ptr .1) 𝓤 H A W (named 0) (named 0) ((sliceVal (weights .ptr) (length (weights .now))) ∷ []) (weights .now) δ1-1 (zs1 .1 .0) refl weights-room long1-1) $ await ! tt $ split ! $
@@ -110,7 +110,7 @@ module _ {M : Type 1} (𝓤 : URA M) (H : Heap 𝓤) (A : Atoms 𝓤) (W : Given
 module _ {M : Type 1} (𝓤 : URA M) (H : Heap 𝓤) (A : Atoms 𝓤) (W : Given 𝓤 H A) (at-mem : Memory → SProp 𝓤) (run : Routine → Fun 𝓤) where
   walks : (𝓣 : Tables 𝓤 H) → Triple 𝓤 (𝓣 .C #f1) (F1 𝓤 H A at-mem run) → Walks 𝓤 H A me.ended stayed (WpFn 𝓤 H (𝓣 .C) (𝓣 .Λ) code.function) (me.clauses 𝓤 H A at-mem run)
   walks 𝓣 known-f1 = walked 𝓤 H A me.ended stayed (me.clauses 𝓤 H A at-mem run) (WpFn 𝓤 H (𝓣 .C) (𝓣 .Λ) code.function) (λ κs. (uint-vals w64, (slice-vals, (LL.vals SecretPlaces-row.the-type SecretPlaces-laws.the-laws, (uint-vals w64, (ptr-vals, tt)))))) (λ κs. (uint-tells w64, (mut-slice-tells (named 0) (κs .0) u32, (LL.tells SecretPlaces-row.the-type SecretPlaces-laws.the-laws, (uint-tells w64, (mut-tells (named 1) (κs .1 .0) R-Tally, tt))))))
-      (λ κs qs bounds a g are. needs 𝓤 (Clearing (a .0) (a .1 .0 .now) (a .1 .1 .1 .1 .0 .now)) _ (walk 𝓤 H A W at-mem run (κs .0) (κs .1 .0) bounds (qs .0) (qs .1 .0) (a .0) (a .1 .0) (a .1 .1 .0) (a .1 .1 .1 .0) (a .1 .1 .1 .1 .0) (are .0 .1) (are .1 .0 .0 .1) (are .1 .1 .0) (are .1 .1 .1 .0 .1) 𝓣 known-f1))
+      (λ κs qs bounds a g are. needs 𝓤 (Clearing (upToThree (a .0)) (a .1 .0 .now) (a .1 .1 .1 .1 .0 .now)) _ (walk 𝓤 H A W at-mem run (κs .0) (κs .1 .0) bounds (qs .0) (qs .1 .0) (a .0) (a .1 .0) (a .1 .1 .0) (a .1 .1 .1 .0) (a .1 .1 .1 .1 .0) (are .0 .1) (are .1 .0 .0 .1) (are .1 .1 .0) (are .1 .1 .1 .0 .1) 𝓣 known-f1))
 
   meets : (𝓣 : Tables 𝓤 H) → Triple 𝓤 (𝓣 .C #f1) (F1 𝓤 H A at-mem run) → Meets 𝓤 H A me.signature (WpFn 𝓤 H (𝓣 .C) (𝓣 .Λ) code.function) (me.spec 𝓤 H A at-mem run)
   meets 𝓣 known-f1 =

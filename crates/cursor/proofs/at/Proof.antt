@@ -3,13 +3,14 @@ use Prim.Native.Nat.{_-_, _≤_}
 use mathlib.Core.Path.{_≡_, ap, _∙_}
 use native.Mathlib.Omega.{arith}
 use borrow.Author.Needs.{needs}
+use Rattle.exchange.specs.Subsets.{upToThree}
 use Rattle.cursor.specs.Cursor.{placesAt}
 use Rattle.cursor.proofs.Order.{in-range}
 use Rattle.cursor.proofs.at.Statement.{statement}
 use Rattle.cursor.proofs.at.Tie as tie
 
 abbrev Inv-loop : tie.InvT-loop
-Inv-loop n k p₀ i₀ p i = (i ≤ k) × (p ≡ placesAt n i)
+Inv-loop n k p₀ i₀ p i = (i ≤ k) × (p ≡ placesAt (upToThree n) i)
 
 abbrev μ-loop : tie.MeasureT-loop
 μ-loop n k p₀ i₀ p i = k - i

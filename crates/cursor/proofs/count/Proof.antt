@@ -1,6 +1,7 @@
 -- `cursor::count` meets its contract. Assumes nothing.
 use native.Mathlib.Omega.{arith}
-use Rattle.cursor.proofs.Number.{six-times, square-le, cube-le}
+use Rattle.laws.proofs.Products.{square-le}
+use Rattle.cursor.proofs.Number.{six-times, cube-le}
 use Rattle.cursor.proofs.count.Statement.{statement}
 use Rattle.cursor.proofs.count.Tie as tie
 

@@ -2,7 +2,7 @@
 use Prim.Native.Nat.{_+_, _*_, _<_, _≤_}
 use native.Mathlib.Omega.{arith}
 use Rattle.exchange.specs.Subsets.{entry}
-use Rattle.evaluation.proofs.Cycles.{cell}
+use Rattle.laws.proofs.Products.{cell}
 use Rattle.evaluation.proofs.edge.Statement.{statement}
 use Rattle.evaluation.proofs.edge.Tie as tie
 

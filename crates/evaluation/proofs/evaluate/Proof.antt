@@ -1,9 +1,8 @@
 -- `evaluation::evaluate` meets its contract: a walk of its MIR, written by walks/walk.py. Assumes nothing.
 use Rattle.lending.proofs.Walking.{_≡_, refl, ap, subst, [], _∷_, List, ℕ, _<_, _^_, length, URA, fullShare, named, w64, Val, vunit, vint, vptr, SProp, ent, id⊢, Lft, Share, GName, ftrue, fat, flft, Memory, Routine, Heap, Calls, Loops, WpFn, Tables, Atoms, Fun, fact, AllOutlive, givenOf, tables, tablesOf, Given, ‵, raw, some, later, _⊛_, ⋆, Item, _$_, _∵_, !, qed, by, move, keep, drop, use1, use2, use3, cut, split, join, pick, rewrite, fsplit, fsplit3, fjoin, fjoin3, feqI, feqL, suffices, frame, await, done, look, init, store, forget, stop, hop, fld, from, load, addr, unit-lit, of-opd, and-then, no-more, land, assigns, returns, enter, alloc1, alloc0, params1, pass1, pass0, free1, free0, agg, whole, sub, look-in, lft-new, lft-end, FmC, fmOf, WpFn-mono, RattleType, owns, Is, shows, cellAt, uint-vals, uint-tells, uint-makes, u8, u16, u32, usize, RefT, MutRef, ptr-vals, mut-tells, sliceVal, MutSlice, ShrSlice, Room, slice-vals, mut-slice-tells, shr-slice-tells, shr-slice-copy, plain, shrSliceOf, only, opens, closes, owned, facts, heard, nothing, spelt, onEntry, Meets, tripleOf, Contract, Triple, calls-at, ensured, lasts, entered, cited, says, needs, Stays, stay-dropped, stay-ref, stay-slice, walkOf, goes-dropped, goes-ref, goes-slice, Walks, ends-at, walked, walk-meets, yes, renamed, LentAgain, again-out, again-back}
 use denote.Struct.Laws as LL
-use Rattle.evaluation.specs.Readable.{Evaluating}
-use mathlib.Core.List.{map}
-use Rattle.exchange.specs.Subsets.{subsetWeight, entry, subsets, evaluating}
+use Rattle.evaluation.specs.Preconditions.{Evaluating}
+use Rattle.exchange.specs.Subsets.{upToThree, subsetWeights, entry, evaluationTally, order}
 use Rattle.gates.specs.Counts.{counted}
 use Rattle.gates.specs.declared.Tally.{Tally}
 use Rattle.gates.proofs.Tally as Tally-row
@@ -36,7 +35,7 @@ module _ {M : Type 1} (𝓤 : URA M) (H : Heap 𝓤) (A : Atoms 𝓤) (W : Given
   abbrev Post : Val → SProp 𝓤
   Post = walkOf 𝓤 H A me.ended stayed (me.clauses 𝓤 H A at-mem run) .post (((κ0, (κ1, (κ2, (κ3, (κ4, tt))))), (q0, (q1, (q2, (q3, (q4, tt))))), bounds, x, at), tt)
 
-  exits : (weights′ : List ℕ) (tally′ : Tally) → (weights′ ≡ map (subsetWeight (entry (m .now) n) (entry (w .now) n) (s .now)) (subsets 3 n)) × (counted tally′ ≡ evaluating (subsets 3 n) (counted (tally .now))) → (length weights′) ≡ (length (weights .now))
+  exits : (weights′ : List ℕ) (tally′ : Tally) → (weights′ ≡ subsetWeights (upToThree n) (entry (m .now) n) (entry (w .now) n) (s .now)) × (counted tally′ ≡ evaluationTally (order (upToThree n)) (counted (tally .now))) → (length weights′) ≡ (length (weights .now))
       → ent 𝓤 (⋆ 𝓤 H A (‵ (flft κ0 q0) ∷ ‵ (flft κ1 q1) ∷ ‵ (flft κ2 q2) ∷ ‵ (flft κ3 q3) ∷ ‵ (flft κ4 q4) ∷ ‵ (MutSlice (named 3) κ3 u32 .own (renamed weights (weights .name) weights′) ((sliceVal (weights .ptr) (length (weights .now))) ∷ [])) ∷ ‵ (MutRef (named 4) κ4 R-Tally .own (renamed tally (tally .name) tally′) ((vptr (tally .ptr .0) (tally .ptr .1)) ∷ [])) ∷ [])) (Post vunit)
   exits weights′ tally′ e long-weights =
       qed W (‵ (flft κ0 q0) ∷ ‵ (flft κ1 q1) ∷ ‵ (flft κ2 q2) ∷ ‵ (flft κ3 q3) ∷ ‵ (flft κ4 q4) ∷ ‵ (MutSlice (named 3) κ3 u32 .own (renamed weights (weights .name) weights′) ((sliceVal (weights .ptr) (length (weights .now))) ∷ [])) ∷ ‵ (MutRef (named 4) κ4 R-Tally .own (renamed tally (tally .name) tally′) ((vptr (tally .ptr .0) (tally .ptr .1)) ∷ [])) ∷ []) ∵
@@ -51,10 +50,10 @@ module _ {M : Type 1} (𝓤 : URA M) (H : Heap 𝓤) (A : Atoms 𝓤) (W : Given
     abbrev asked-1 : List (Item 𝓤)
     asked-1 = ‵ (flft κ0 q0) ∷ ‵ (flft κ1 q1) ∷ ‵ (flft κ2 q2) ∷ ‵ (flft (ν4 ∷ []) fullShare) ∷ ‵ (ShrSlice (named 0) κ0 u8 .own m ((sliceVal (m .ptr) (length (m .now))) ∷ [])) ∷ ‵ (ShrSlice (named 1) κ1 u16 .own w ((sliceVal (w .ptr) (length (w .now))) ∷ [])) ∷ ‵ (ShrSlice (named 2) κ2 u16 .own s ((sliceVal (s .ptr) (length (s .now))) ∷ [])) ∷ ‵ (MutSlice (named 3) (ν4 ∷ []) u32 .own (renamed weights δ4 a4) ((sliceVal (weights .ptr) (length (weights .now))) ∷ [])) ∷ []
 
-    goes-1 : Evaluating a0 (m .now) (w .now) (s .now) a4 a5 → ent 𝓤 (⋆ 𝓤 H A asked-1) (F1 𝓤 H A at-mem run .pre to-1)
+    goes-1 : Evaluating (upToThree a0) (m .now) (w .now) (s .now) a4 a5 → ent 𝓤 (⋆ 𝓤 H A asked-1) (F1 𝓤 H A at-mem run .pre to-1)
     goes-1 needs-these = qed W asked-1 ∵ says ! needs-these $ nothing ! $ move ! (4 ∷ 0 ∷ []) $ join ! $ move ! (3 ∷ 0 ∷ []) $ join ! $ move ! (2 ∷ 0 ∷ []) $ join ! $ move ! (1 ∷ 0 ∷ []) $ join ! $ frame ! $ nothing ! $ owned ! R-Tally (Is R-Tally) (LL.makes Tally-row.the-type Tally-laws.the-plain 𝓤 H A) a5 _ fits5 $ fjoin ! $ move ! (4 ∷ 0 ∷ []) $ fjoin ! $ move ! (3 ∷ 0 ∷ []) $ fjoin ! $ move ! (2 ∷ 0 ∷ []) $ fjoin ! $ move ! (1 ∷ 0 ∷ []) $ fjoin ! $ owned ! usize (Is usize) (uint-makes 𝓤 H A W w64) a0 _ (refl, fits0) $ fjoin ! $ done !
 
-  module _ (𝓣 : Tables 𝓤 H) (known-f1 : Triple 𝓤 (𝓣 .C #f1) (F1 𝓤 H A at-mem run)) (pre : Evaluating n (m .now) (w .now) (s .now) (weights .now) (tally .now)) where
+  module _ (𝓣 : Tables 𝓤 H) (known-f1 : Triple 𝓤 (𝓣 .C #f1) (F1 𝓤 H A at-mem run)) (pre : Evaluating (upToThree n) (m .now) (w .now) (s .now) (weights .now) (tally .now)) where
     abbrev C : Calls 𝓤 H
     C = 𝓣 .C
 
@@ -88,8 +87,8 @@ module _ {M : Type 1} (𝓤 : URA M) (H : Heap 𝓤) (A : Atoms 𝓤) (W : Given
         move ! (13 ∷ 12 ∷ 11 ∷ 2 ∷ 7 ∷ 5 ∷ 3 ∷ 0 ∷ []) $ cut (asked-1 n n-fits ν1-4 δ1-4 (weights .now) (tally .now) is1) (raw (F1 𝓤 H A at-mem run .pre (to-1 n n-fits ν1-4 δ1-4 (weights .now) (tally .now) is1)) ∷ []) _ (goes-1 n n-fits ν1-4 δ1-4 (weights .now) (tally .now) is1 (pre)) $
         calls-at ! fm (F1 𝓤 H A at-mem run) known-f1 (to-1 n n-fits ν1-4 δ1-4 (weights .now) (tally .now) is1) (and-then ! (load ! (from ! (stop !)) (look ! 25 refl)) (and-then ! (load ! (from ! (stop !)) (look ! 23 refl)) (and-then ! (load ! (from ! (stop !)) (look ! 21 refl)) (and-then ! (load ! (from ! (stop !)) (look ! 19 refl)) (and-then ! (load ! (from ! (stop !)) (look ! 7 refl)) (and-then ! (load ! (from ! (stop !)) (look ! 13 refl)) (no-more !))))))) (λ v1.
         use1 W (later (some (λ (r : Tally). ((‵ (flft κ0 q0) ⊛ ‵ (flft κ1 q1) ⊛ ‵ (flft κ2 q2) ⊛ ‵ (flft (ν1-4 ∷ []) fullShare) ⊛ ‵ ftrue) ⊛ ‵ (R-Tally .own r (v1 ∷ []))) ⊛ raw (ensured 𝓤 H A f1.ended (f1.clauses 𝓤 H A at-mem run) (κ0, (κ1, (κ2, ((ν1-4 ∷ []), tt)))) (n, (m, (w, (s, ((renamed weights δ1-4 (weights .now)), ((tally .now), tt)))))) tt r)))) (id⊢ 𝓤 _) $ await ! tt $ pick ! (λ r1.
-        split ! $ move ! (1 ∷ []) $ use1 W (some (λ (zs : (Unit {0} × (Unit {0} × (Unit {0} × (Unit {0} × (List ℕ × (Unit {0} × Unit {0}))))))). ‵ (lasts f1.ended (κ0, (κ1, (κ2, ((ν1-4 ∷ []), tt)))) (n, (m, (w, (s, ((renamed weights δ1-4 (weights .now)), ((tally .now), tt)))))) zs) ⊛ raw (fact 𝓤 (((zs .1 .1 .1 .1 .0) ≡ map (subsetWeight (entry (m .now) n) (entry (w .now) n) (s .now)) (subsets 3 n)) × (counted r1 ≡ evaluating (subsets 3 n) (counted (tally .now))))))) (id⊢ 𝓤 _) $ pick ! (λ zs1.
-        split ! $ move ! (1 ∷ []) $ heard ! (((zs1 .1 .1 .1 .1 .0) ≡ map (subsetWeight (entry (m .now) n) (entry (w .now) n) (s .now)) (subsets 3 n)) × (counted r1 ≡ evaluating (subsets 3 n) (counted (tally .now)))) (λ e1. fsplit ! $ drop ! $ fsplit ! $ drop ! $ fsplit ! $ drop ! $ fsplit ! $ drop ! $ fsplit ! $ fsplit ! $ move ! (1 ∷ []) $ feqL ! (λ long1-4. move ! (1 ∷ []) $ drop ! $
+        split ! $ move ! (1 ∷ []) $ use1 W (some (λ (zs : (Unit {0} × (Unit {0} × (Unit {0} × (Unit {0} × (List ℕ × (Unit {0} × Unit {0}))))))). ‵ (lasts f1.ended (κ0, (κ1, (κ2, ((ν1-4 ∷ []), tt)))) (n, (m, (w, (s, ((renamed weights δ1-4 (weights .now)), ((tally .now), tt)))))) zs) ⊛ raw (fact 𝓤 (((zs .1 .1 .1 .1 .0) ≡ subsetWeights (upToThree n) (entry (m .now) n) (entry (w .now) n) (s .now)) × (counted r1 ≡ evaluationTally (order (upToThree n)) (counted (tally .now))))))) (id⊢ 𝓤 _) $ pick ! (λ zs1.
+        split ! $ move ! (1 ∷ []) $ heard ! (((zs1 .1 .1 .1 .1 .0) ≡ subsetWeights (upToThree n) (entry (m .now) n) (entry (w .now) n) (s .now)) × (counted r1 ≡ evaluationTally (order (upToThree n)) (counted (tally .now)))) (λ e1. fsplit ! $ drop ! $ fsplit ! $ drop ! $ fsplit ! $ drop ! $ fsplit ! $ drop ! $ fsplit ! $ fsplit ! $ move ! (1 ∷ []) $ feqL ! (λ long1-4. move ! (1 ∷ []) $ drop ! $
         move ! (1 ∷ []) $ split ! $ move ! (1 ∷ []) $ facts ! R-Tally (Is R-Tally) (shows 𝓤 H A R-Tally) r1 (v1 ∷ []) (λ got1. split ! $ move ! (1 ∷ []) $ split ! $ move ! (1 ∷ []) $ split ! $ move ! (1 ∷ []) $ split ! $ move ! (1 ∷ []) $ drop ! $
         land ! (from ! (stop !)) (init ! 15 refl (LL.lawful Tally-row.the-type Tally-laws.the-laws 𝓤 H A W .typed r1 _ got1 .0)) $ rewrite ! 15 (λ (u : Val). ‵ (fat fullShare Tally-laws.mir l8 0 u)) (ap only (LL.tells Tally-row.the-type Tally-laws.the-laws r1 _ got1)) refl $
         lft-end ! tt $ move ! (0 ∷ 5 ∷ 4 ∷ []) $ use3 W (later (‵ (MutSlice (named 3) κ3 u32 .own (renamed weights (weights .name) (zs1 .1 .1 .1 .1 .0)) ((sliceVal (weights .ptr) (length (weights .now))) ∷ [])) ⊛ ‵ (flft κ3 q3))) (again-back u32 κ3 (ν1-4 ∷ []) q3 (weights .name) (weights .ptr .0) (weights .ptr .1) 𝓤 H A W (named 3) (named 3) ((sliceVal (weights .ptr) (length (weights .now))) ∷ []) (weights .now) δ1-4 (zs1 .1 .1 .1 .1 .0) refl weights-room long1-4) $ await ! tt $ split ! $
@@ -106,7 +105,7 @@ module _ {M : Type 1} (𝓤 : URA M) (H : Heap 𝓤) (A : Atoms 𝓤) (W : Given
 module _ {M : Type 1} (𝓤 : URA M) (H : Heap 𝓤) (A : Atoms 𝓤) (W : Given 𝓤 H A) (at-mem : Memory → SProp 𝓤) (run : Routine → Fun 𝓤) where
   walks : (𝓣 : Tables 𝓤 H) → Triple 𝓤 (𝓣 .C #f1) (F1 𝓤 H A at-mem run) → Walks 𝓤 H A me.ended stayed (WpFn 𝓤 H (𝓣 .C) (𝓣 .Λ) code.function) (me.clauses 𝓤 H A at-mem run)
   walks 𝓣 known-f1 = walked 𝓤 H A me.ended stayed (me.clauses 𝓤 H A at-mem run) (WpFn 𝓤 H (𝓣 .C) (𝓣 .Λ) code.function) (λ κs. (uint-vals w64, (slice-vals, (slice-vals, (slice-vals, (slice-vals, (ptr-vals, tt))))))) (λ κs. (uint-tells w64, (shr-slice-tells (named 0) (κs .0) u8, (shr-slice-tells (named 1) (κs .1 .0) u16, (shr-slice-tells (named 2) (κs .1 .1 .0) u16, (mut-slice-tells (named 3) (κs .1 .1 .1 .0) u32, (mut-tells (named 4) (κs .1 .1 .1 .1 .0) R-Tally, tt)))))))
-      (λ κs qs bounds a g are. needs 𝓤 (Evaluating (a .0) (a .1 .0 .now) (a .1 .1 .0 .now) (a .1 .1 .1 .0 .now) (a .1 .1 .1 .1 .0 .now) (a .1 .1 .1 .1 .1 .0 .now)) _ (walk 𝓤 H A W at-mem run (κs .0) (κs .1 .0) (κs .1 .1 .0) (κs .1 .1 .1 .0) (κs .1 .1 .1 .1 .0) bounds (qs .0) (qs .1 .0) (qs .1 .1 .0) (qs .1 .1 .1 .0) (qs .1 .1 .1 .1 .0) (a .0) (a .1 .0) (a .1 .1 .0) (a .1 .1 .1 .0) (a .1 .1 .1 .1 .0) (a .1 .1 .1 .1 .1 .0) (are .0 .1) (are .1 .0 .0 .1) (are .1 .1 .0 .0 .1) (are .1 .1 .1 .0 .0 .1) (are .1 .1 .1 .1 .0 .0 .1) 𝓣 known-f1))
+      (λ κs qs bounds a g are. needs 𝓤 (Evaluating (upToThree (a .0)) (a .1 .0 .now) (a .1 .1 .0 .now) (a .1 .1 .1 .0 .now) (a .1 .1 .1 .1 .0 .now) (a .1 .1 .1 .1 .1 .0 .now)) _ (walk 𝓤 H A W at-mem run (κs .0) (κs .1 .0) (κs .1 .1 .0) (κs .1 .1 .1 .0) (κs .1 .1 .1 .1 .0) bounds (qs .0) (qs .1 .0) (qs .1 .1 .0) (qs .1 .1 .1 .0) (qs .1 .1 .1 .1 .0) (a .0) (a .1 .0) (a .1 .1 .0) (a .1 .1 .1 .0) (a .1 .1 .1 .1 .0) (a .1 .1 .1 .1 .1 .0) (are .0 .1) (are .1 .0 .0 .1) (are .1 .1 .0 .0 .1) (are .1 .1 .1 .0 .0 .1) (are .1 .1 .1 .1 .0 .0 .1) 𝓣 known-f1))
 
   meets : (𝓣 : Tables 𝓤 H) → Triple 𝓤 (𝓣 .C #f1) (F1 𝓤 H A at-mem run) → Meets 𝓤 H A me.signature (WpFn 𝓤 H (𝓣 .C) (𝓣 .Λ) code.function) (me.spec 𝓤 H A at-mem run)
   meets 𝓣 known-f1 =

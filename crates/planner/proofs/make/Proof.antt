@@ -63,11 +63,12 @@ returns c =
     let made = c .before .before .before .before .before .before in
     let stepped = made .before .before .before .before .before .before .before .before in
     let all = stepped .before .before .before in
-    let pre = all .before .before .before .before .before .before .before .before .pre in (
-      plan-is _ _ _ _ _ _ _ _ pre _ (all .count .ensures) _ _ _ (stepped .steps .ensures) (made .resolve .result) _ _ (made .resolve .ensures) _ (c .counts-of .ensures),
-      cycles-few _ _ _ _ _ _ _ _ pre _ (all .count .ensures) _ _ _ (stepped .steps .ensures) (made .resolve .result) _ _ (made .resolve .ensures),
-      lent-is _ _ _ _ _ _ _ _ pre _ (all .count .ensures) _ _ _ (stepped .steps .ensures) (made .resolve .result) _ _ (made .resolve .ensures),
-    )
+    let pre = all .before .before .before .before .before .before .before .before .pre in
+    record {
+      made = plan-is _ _ _ _ _ _ _ _ pre _ (all .count .ensures) _ _ _ (stepped .steps .ensures) (made .resolve .result) _ _ (made .resolve .ensures) _ (c .counts-of .ensures);
+      few = cycles-few _ _ _ _ _ _ _ _ pre _ (all .count .ensures) _ _ _ (stepped .steps .ensures) (made .resolve .result) _ _ (made .resolve .ensures);
+      leaves = lent-is _ _ _ _ _ _ _ _ pre _ (all .count .ensures) _ _ _ (stepped .steps .ensures) (made .resolve .result) _ _ (made .resolve .ensures);
+    }
 
 pub make-spec : {M : Type 1} → statement M
 make-spec =

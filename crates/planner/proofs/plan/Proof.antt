@@ -1,15 +1,17 @@
 -- `planner::plan` meets its contract: a walk of its MIR, written by walks/walk.py. Assumes nothing.
-use Rattle.lending.proofs.Walking.{_≡_, refl, sym, ap, subst, [], _∷_, List, ℕ, _<_, _≤_, _^_, length, Holds, URA, fullShare, named, tyUnit, w64, Val, vint, hasTy, WT, SProp, ent, id⊢, via, emp, fst∗, Lft, Share, GName, ftrue, fat, flft, Memory, Routine, Heap, Calls, Loops, WpFn, Tables, Atoms, Fun, fact, AllOutlive, givenOf, tables, tablesOf, Given, ‵, raw, some, later, _⊛_, ⋆, Item, _$_, _∵_, !, qed, by, move, keep, drop, use1, use2, use3, cut, split, join, pick, rewrite, fsplit, fjoin, feqL, suffices, frame, await, done, look, init, forget, stop, hop, fld, from, load, addr, of-opd, and-then, no-more, land, assigns, returns, enter, alloc1, alloc0, params1, pass1, pass0, free1, free0, agg, whole, sub, look-in, lft-new, lft-end, FmC, fmOf, WpFn-mono, RattleType, owns, Is, shows, Nothing, uint-vals, uint-tells, uint-makes, u8, u16, u32, usize, RefT, sliceVal, MutSlice, ShrSlice, Room, slice-vals, mut-slice-tells, shr-slice-tells, shr-slice-copy, plain, shrSliceOf, only, owned, facts, heard, nothing, onEntry, Meets, tripleOf, Contract, Triple, calls-at, ensured, lasts, entered, cited, says, Stays, stay-dropped, stay-slice, walkOf, goes-dropped, goes-slice, Walks, ends-at, walked, walk-meets, yes, renamed, LentAgain, again-out, again-back, Row, rowVal, row-makes, row-field, says-two}
+use Rattle.lending.proofs.Walking.{_≡_, refl, sym, ap, subst, [], _∷_, List, ℕ, _<_, _^_, length, Holds, URA, fullShare, named, tyUnit, w64, Val, vint, hasTy, WT, SProp, ent, id⊢, via, emp, fst∗, Lft, Share, GName, ftrue, fat, flft, Memory, Routine, Heap, Calls, Loops, WpFn, Tables, Atoms, Fun, fact, AllOutlive, givenOf, tables, tablesOf, Given, ‵, raw, some, later, _⊛_, ⋆, Item, _$_, _∵_, !, qed, by, move, keep, drop, use1, use2, use3, cut, split, join, pick, rewrite, fsplit, fjoin, feqL, suffices, frame, await, done, look, init, forget, stop, hop, fld, from, load, addr, of-opd, and-then, no-more, land, assigns, returns, enter, alloc1, alloc0, params1, pass1, pass0, free1, free0, agg, whole, sub, look-in, lft-new, lft-end, FmC, fmOf, WpFn-mono, RattleType, owns, Is, shows, Nothing, uint-vals, uint-tells, uint-makes, u8, u16, u32, usize, RefT, sliceVal, MutSlice, ShrSlice, Room, slice-vals, mut-slice-tells, shr-slice-tells, shr-slice-copy, plain, shrSliceOf, only, owned, facts, heard, nothing, onEntry, Meets, tripleOf, Contract, Triple, calls-at, ensured, lasts, entered, cited, says, Stays, stay-dropped, stay-slice, walkOf, goes-dropped, goes-slice, Walks, ends-at, walked, walk-meets, yes, renamed, LentAgain, again-out, again-back, Row, rowVal, row-makes, row-field}
 use denote.Struct.Laws as LL
 use denote.Enum.Laws as EL
-use Rattle.refusal.specs.Answer.{outcome, finished}
-use Rattle.planner.specs.Said.{answerOf, written}
-use Rattle.exchange.specs.Planning.{lent, planning, Plan}
-use Rattle.exchange.specs.Promises.{Guarantee}
-use Rattle.records.specs.Held.{Writable}
+use Rattle.exchange.specs.Promises.{PlansRightly}
+use Rattle.exchange.specs.Input.{request}
+use Rattle.exchange.specs.Planning.{lent}
+use Rattle.refusal.specs.Answer.{outcome}
+use Rattle.planner.specs.Answers.{answerOf}
+use Rattle.planner.specs.ByValue.{PlansByValue}
+use Rattle.records.specs.Copying.{Writable}
 use Rattle.laws.specs.Lent.{filled}
 use lib.ListN.{take}
-use Rattle.planner.proofs.Recorded.{recorded, recorded-guarantee}
+use Rattle.planner.proofs.Recorded.{recorded}
 use Rattle.records.specs.declared.Cycle.{Cycle}
 use Rattle.records.proofs.Cycle as Cycle-row
 use Rattle.records.proofs.Cycle.Laws as Cycle-laws
@@ -60,11 +62,11 @@ module _ {M : Type 1} (𝓤 : URA M) (H : Heap 𝓤) (A : Atoms 𝓤) (W : Given
   abbrev Post : Val → SProp 𝓤
   Post = walkOf 𝓤 H A me.ended stayed (me.clauses 𝓤 H A at-mem run) .post (((κ0, (κ1, (κ2, (κ3, (κ4, (κ5, (κ6, (κ7, tt)))))))), (q0, (q1, (q2, (q3, (q4, (q5, (q6, (q7, tt)))))))), bounds, x, at), tt)
 
-  exits : (r : Planning) (r-fits : Is R-Planning r ((Planning-laws.lowered r) ∷ [])) (weights′ : List ℕ) (choices′ : List ℕ) (donors′ : List ℕ) (recipients′ : List ℕ) (records′ : List Cycle) → (outcome (answerOf r) (lent weights′ choices′ donors′ recipients′ records′) ≡ planning n (m .now) (w .now) (shuffle .now) (lent (weights .now) (choices .now) (donors .now) (recipients .now) (records .now))) → (((p : Plan) → answerOf r ≡ finished p → Guarantee n (m .now) (w .now) (shuffle .now) p (lent weights′ choices′ donors′ recipients′ records′))) → (length weights′) ≡ (length (weights .now)) → (length choices′) ≡ (length (choices .now)) → (length donors′) ≡ (length (donors .now)) → (length recipients′) ≡ (length (recipients .now)) → (length records′) ≡ (length (records .now))
+  exits : (r : Planning) (r-fits : Is R-Planning r ((Planning-laws.lowered r) ∷ [])) (weights′ : List ℕ) (choices′ : List ℕ) (donors′ : List ℕ) (recipients′ : List ℕ) (records′ : List Cycle) → PlansRightly (request n (m .now) (w .now) (shuffle .now)) (lent (weights .now) (choices .now) (donors .now) (recipients .now) (records .now)) (outcome (answerOf r) (lent weights′ choices′ donors′ recipients′ records′)) → (length weights′) ≡ (length (weights .now)) → (length choices′) ≡ (length (choices .now)) → (length donors′) ≡ (length (donors .now)) → (length recipients′) ≡ (length (recipients .now)) → (length records′) ≡ (length (records .now))
       → ent 𝓤 (⋆ 𝓤 H A (‵ (flft κ0 q0) ∷ ‵ (flft κ1 q1) ∷ ‵ (flft κ2 q2) ∷ ‵ (flft κ3 q3) ∷ ‵ (flft κ4 q4) ∷ ‵ (flft κ5 q5) ∷ ‵ (flft κ6 q6) ∷ ‵ (flft κ7 q7) ∷ ‵ (MutSlice (named 3) κ3 u32 .own (renamed weights (weights .name) weights′) ((sliceVal (weights .ptr) (length (weights .now))) ∷ [])) ∷ ‵ (MutSlice (named 4) κ4 u32 .own (renamed choices (choices .name) choices′) ((sliceVal (choices .ptr) (length (choices .now))) ∷ [])) ∷ ‵ (MutSlice (named 5) κ5 u16 .own (renamed donors (donors .name) donors′) ((sliceVal (donors .ptr) (length (donors .now))) ∷ [])) ∷ ‵ (MutSlice (named 6) κ6 u16 .own (renamed recipients (recipients .name) recipients′) ((sliceVal (recipients .ptr) (length (recipients .now))) ∷ [])) ∷ ‵ (MutSlice (named 7) κ7 R-Cycle .own (renamed records (records .name) records′) ((sliceVal (records .ptr) (length (records .now))) ∷ [])) ∷ [])) (Post (Planning-laws.lowered r))
-  exits r r-fits weights′ choices′ donors′ recipients′ records′ e-0 e-1 long-weights long-choices long-donors long-recipients long-records =
+  exits r r-fits weights′ choices′ donors′ recipients′ records′ e long-weights long-choices long-donors long-recipients long-records =
       qed W (‵ (flft κ0 q0) ∷ ‵ (flft κ1 q1) ∷ ‵ (flft κ2 q2) ∷ ‵ (flft κ3 q3) ∷ ‵ (flft κ4 q4) ∷ ‵ (flft κ5 q5) ∷ ‵ (flft κ6 q6) ∷ ‵ (flft κ7 q7) ∷ ‵ (MutSlice (named 3) κ3 u32 .own (renamed weights (weights .name) weights′) ((sliceVal (weights .ptr) (length (weights .now))) ∷ [])) ∷ ‵ (MutSlice (named 4) κ4 u32 .own (renamed choices (choices .name) choices′) ((sliceVal (choices .ptr) (length (choices .now))) ∷ [])) ∷ ‵ (MutSlice (named 5) κ5 u16 .own (renamed donors (donors .name) donors′) ((sliceVal (donors .ptr) (length (donors .now))) ∷ [])) ∷ ‵ (MutSlice (named 6) κ6 u16 .own (renamed recipients (recipients .name) recipients′) ((sliceVal (recipients .ptr) (length (recipients .now))) ∷ [])) ∷ ‵ (MutSlice (named 7) κ7 R-Cycle .own (renamed records (records .name) records′) ((sliceVal (records .ptr) (length (records .now))) ∷ [])) ∷ []) ∵
-      suffices ! _ (ends-at 𝓤 H A me.ended stayed (me.clauses 𝓤 H A at-mem run) W (((κ0, (κ1, (κ2, (κ3, (κ4, (κ5, (κ6, (κ7, tt)))))))), (q0, (q1, (q2, (q3, (q4, (q5, (q6, (q7, tt)))))))), bounds, x, at), tt) (Planning-laws.lowered r) r (tt, (tt, (tt, (tt, (weights′, (choices′, (donors′, (recipients′, (records′, tt))))))))) (tt, (tt, (tt, (tt, (long-weights, (long-choices, (long-donors, (long-recipients, (long-records, tt)))))))))) $ says-two ! e-0 e-1 $
+      suffices ! _ (ends-at 𝓤 H A me.ended stayed (me.clauses 𝓤 H A at-mem run) W (((κ0, (κ1, (κ2, (κ3, (κ4, (κ5, (κ6, (κ7, tt)))))))), (q0, (q1, (q2, (q3, (q4, (q5, (q6, (q7, tt)))))))), bounds, x, at), tt) (Planning-laws.lowered r) r (tt, (tt, (tt, (tt, (weights′, (choices′, (donors′, (recipients′, (records′, tt))))))))) (tt, (tt, (tt, (tt, (long-weights, (long-choices, (long-donors, (long-recipients, (long-records, tt)))))))))) $ says ! e $
       nothing ! $ move ! (8 ∷ 0 ∷ []) $ join ! $ move ! (7 ∷ 0 ∷ []) $ join ! $ move ! (6 ∷ 0 ∷ []) $ join ! $ move ! (5 ∷ 0 ∷ []) $ join ! $ move ! (4 ∷ 0 ∷ []) $ join ! $ move ! (3 ∷ 0 ∷ []) $ join ! $ move ! (2 ∷ 0 ∷ []) $ join ! $ move ! (1 ∷ 0 ∷ []) $ join ! $ frame ! $ nothing ! $ move ! (5 ∷ 0 ∷ []) $ fjoin ! $ move ! (4 ∷ 0 ∷ []) $ fjoin ! $ move ! (3 ∷ 0 ∷ []) $ fjoin ! $ move ! (2 ∷ 0 ∷ []) $ fjoin ! $ move ! (1 ∷ 0 ∷ []) $ fjoin ! $ nothing ! $ fjoin ! $ nothing ! $ fjoin ! $ nothing ! $ fjoin ! $ nothing ! $ fjoin ! $ owned ! R-Planning (Is R-Planning) (EL.makes Planning-row.the-type Planning-laws.the-plain 𝓤 H A) r _ r-fits $ move ! (1 ∷ 0 ∷ []) $ done !
 
   -- `plan_by_value`: what its contract binds, what it asks, and that this is had
@@ -130,8 +132,8 @@ module _ {M : Type 1} (𝓤 : URA M) (H : Heap 𝓤) (A : Atoms 𝓤) (W : Given
         move ! (21 ∷ 20 ∷ 19 ∷ 11 ∷ 8 ∷ 5 ∷ 2 ∷ 16 ∷ 14 ∷ 12 ∷ 9 ∷ 6 ∷ 3 ∷ 0 ∷ []) $ cut (asked-1 n n-fits ν1-4 δ1-4 (weights .now) ν1-5 δ1-5 (choices .now) ν1-6 δ1-6 (donors .now) ν1-7 δ1-7 (recipients .now) (length (records .now)) (records-room .0)) (raw (F1 𝓤 H A at-mem run .pre (to-1 n n-fits ν1-4 δ1-4 (weights .now) ν1-5 δ1-5 (choices .now) ν1-6 δ1-6 (donors .now) ν1-7 δ1-7 (recipients .now) (length (records .now)) (records-room .0))) ∷ []) _ (goes-1 n n-fits ν1-4 δ1-4 (weights .now) ν1-5 δ1-5 (choices .now) ν1-6 δ1-6 (donors .now) ν1-7 δ1-7 (recipients .now) (length (records .now)) (records-room .0)) $
         calls-at ! fm (F1 𝓤 H A at-mem run) known-f1 (to-1 n n-fits ν1-4 δ1-4 (weights .now) ν1-5 δ1-5 (choices .now) ν1-6 δ1-6 (donors .now) ν1-7 δ1-7 (recipients .now) (length (records .now)) (records-room .0)) (and-then ! (load ! (from ! (stop !)) (look ! 52 refl)) (and-then ! (load ! (from ! (stop !)) (look ! 50 refl)) (and-then ! (load ! (from ! (stop !)) (look ! 48 refl)) (and-then ! (load ! (from ! (stop !)) (look ! 46 refl)) (and-then ! (load ! (from ! (stop !)) (look ! 28 refl)) (and-then ! (load ! (from ! (stop !)) (look ! 24 refl)) (and-then ! (load ! (from ! (stop !)) (look ! 20 refl)) (and-then ! (load ! (from ! (stop !)) (look ! 16 refl)) (and-then ! (load ! (from ! (stop !)) (look ! 34 refl)) (no-more !)))))))))) (λ v1.
         use1 W (later (some (λ (r : Work). ((‵ (flft κ0 q0) ⊛ ‵ (flft κ1 q1) ⊛ ‵ (flft κ2 q2) ⊛ ‵ (flft (ν1-4 ∷ []) fullShare) ⊛ ‵ (flft (ν1-5 ∷ []) fullShare) ⊛ ‵ (flft (ν1-6 ∷ []) fullShare) ⊛ ‵ (flft (ν1-7 ∷ []) fullShare) ⊛ ‵ ftrue) ⊛ ‵ (R-Work .own r (v1 ∷ []))) ⊛ raw (ensured 𝓤 H A f1.ended (f1.clauses 𝓤 H A at-mem run) (κ0, (κ1, (κ2, ((ν1-4 ∷ []), ((ν1-5 ∷ []), ((ν1-6 ∷ []), ((ν1-7 ∷ []), tt))))))) (n, (m, (w, (shuffle, ((renamed weights δ1-4 (weights .now)), ((renamed choices δ1-5 (choices .now)), ((renamed donors δ1-6 (donors .now)), ((renamed recipients δ1-7 (recipients .now)), ((length (records .now)), tt))))))))) tt r)))) (id⊢ 𝓤 _) $ await ! tt $ pick ! (λ r1.
-        split ! $ move ! (1 ∷ []) $ use1 W (some (λ (zs : (Unit {0} × (Unit {0} × (Unit {0} × (Unit {0} × (List ℕ × (List ℕ × (List ℕ × (List ℕ × (Unit {0} × Unit {0})))))))))). ‵ (lasts f1.ended (κ0, (κ1, (κ2, ((ν1-4 ∷ []), ((ν1-5 ∷ []), ((ν1-6 ∷ []), ((ν1-7 ∷ []), tt))))))) (n, (m, (w, (shuffle, ((renamed weights δ1-4 (weights .now)), ((renamed choices δ1-5 (choices .now)), ((renamed donors δ1-6 (donors .now)), ((renamed recipients δ1-7 (recipients .now)), ((length (records .now)), tt))))))))) zs) ⊛ raw (fact 𝓤 (((old : List Cycle) → length old ≡ (length (records .now)) → outcome (answerOf (r1 .planning)) (lent (zs .1 .1 .1 .1 .0) (zs .1 .1 .1 .1 .1 .0) (zs .1 .1 .1 .1 .1 .1 .0) (zs .1 .1 .1 .1 .1 .1 .1 .0) (written r1 old)) ≡ planning n (m .now) (w .now) (shuffle .now) (lent (weights .now) (choices .now) (donors .now) (recipients .now) old)))) ⊛ raw (fact 𝓤 ((r1 .cycles ≤ (length (records .now))) × (r1 .cycles ≤ 100))) ⊛ raw (fact 𝓤 (((old : List Cycle) → length old ≡ (length (records .now)) → (p : Plan) → answerOf (r1 .planning) ≡ finished p → Guarantee n (m .now) (w .now) (shuffle .now) p (lent (zs .1 .1 .1 .1 .0) (zs .1 .1 .1 .1 .1 .0) (zs .1 .1 .1 .1 .1 .1 .0) (zs .1 .1 .1 .1 .1 .1 .1 .0) (written r1 old))))))) (id⊢ 𝓤 _) $ pick ! (λ zs1.
-        split ! $ move ! (1 ∷ []) $ split ! $ heard ! (((old : List Cycle) → length old ≡ (length (records .now)) → outcome (answerOf (r1 .planning)) (lent (zs1 .1 .1 .1 .1 .0) (zs1 .1 .1 .1 .1 .1 .0) (zs1 .1 .1 .1 .1 .1 .1 .0) (zs1 .1 .1 .1 .1 .1 .1 .1 .0) (written r1 old)) ≡ planning n (m .now) (w .now) (shuffle .now) (lent (weights .now) (choices .now) (donors .now) (recipients .now) old))) (λ e1-0. split ! $ heard ! ((r1 .cycles ≤ (length (records .now))) × (r1 .cycles ≤ 100)) (λ e1-1. heard ! (((old : List Cycle) → length old ≡ (length (records .now)) → (p : Plan) → answerOf (r1 .planning) ≡ finished p → Guarantee n (m .now) (w .now) (shuffle .now) p (lent (zs1 .1 .1 .1 .1 .0) (zs1 .1 .1 .1 .1 .1 .0) (zs1 .1 .1 .1 .1 .1 .1 .0) (zs1 .1 .1 .1 .1 .1 .1 .1 .0) (written r1 old)))) (λ e1-2. fsplit ! $ drop ! $ fsplit ! $ drop ! $ fsplit ! $ drop ! $ fsplit ! $ drop ! $ fsplit ! $ fsplit ! $ move ! (1 ∷ []) $ feqL ! (λ long1-4. move ! (1 ∷ []) $ fsplit ! $ fsplit ! $ move ! (1 ∷ []) $ feqL ! (λ long1-5. move ! (1 ∷ []) $ fsplit ! $ fsplit ! $ move ! (1 ∷ []) $ feqL ! (λ long1-6. move ! (1 ∷ []) $ fsplit ! $ fsplit ! $ move ! (1 ∷ []) $ feqL ! (λ long1-7. move ! (1 ∷ []) $ drop ! $
+        split ! $ move ! (1 ∷ []) $ use1 W (some (λ (zs : (Unit {0} × (Unit {0} × (Unit {0} × (Unit {0} × (List ℕ × (List ℕ × (List ℕ × (List ℕ × (Unit {0} × Unit {0})))))))))). ‵ (lasts f1.ended (κ0, (κ1, (κ2, ((ν1-4 ∷ []), ((ν1-5 ∷ []), ((ν1-6 ∷ []), ((ν1-7 ∷ []), tt))))))) (n, (m, (w, (shuffle, ((renamed weights δ1-4 (weights .now)), ((renamed choices δ1-5 (choices .now)), ((renamed donors δ1-6 (donors .now)), ((renamed recipients δ1-7 (recipients .now)), ((length (records .now)), tt))))))))) zs) ⊛ raw (fact 𝓤 (PlansByValue (request n (m .now) (w .now) (shuffle .now)) (lent (weights .now) (choices .now) (donors .now) (recipients .now)) (lent (zs .1 .1 .1 .1 .0) (zs .1 .1 .1 .1 .1 .0) (zs .1 .1 .1 .1 .1 .1 .0) (zs .1 .1 .1 .1 .1 .1 .1 .0)) (length (records .now)) r1)))) (id⊢ 𝓤 _) $ pick ! (λ zs1.
+        split ! $ move ! (1 ∷ []) $ heard ! (PlansByValue (request n (m .now) (w .now) (shuffle .now)) (lent (weights .now) (choices .now) (donors .now) (recipients .now)) (lent (zs1 .1 .1 .1 .1 .0) (zs1 .1 .1 .1 .1 .1 .0) (zs1 .1 .1 .1 .1 .1 .1 .0) (zs1 .1 .1 .1 .1 .1 .1 .1 .0)) (length (records .now)) r1) (λ e1. fsplit ! $ drop ! $ fsplit ! $ drop ! $ fsplit ! $ drop ! $ fsplit ! $ drop ! $ fsplit ! $ fsplit ! $ move ! (1 ∷ []) $ feqL ! (λ long1-4. move ! (1 ∷ []) $ fsplit ! $ fsplit ! $ move ! (1 ∷ []) $ feqL ! (λ long1-5. move ! (1 ∷ []) $ fsplit ! $ fsplit ! $ move ! (1 ∷ []) $ feqL ! (λ long1-6. move ! (1 ∷ []) $ fsplit ! $ fsplit ! $ move ! (1 ∷ []) $ feqL ! (λ long1-7. move ! (1 ∷ []) $ drop ! $
         move ! (4 ∷ []) $ split ! $ move ! (1 ∷ []) $ facts ! R-Work (Is R-Work) (shows 𝓤 H A R-Work) r1 (v1 ∷ []) (λ got1. split ! $ move ! (1 ∷ []) $ split ! $ move ! (1 ∷ []) $ split ! $ move ! (1 ∷ []) $ split ! $ move ! (1 ∷ []) $ split ! $ move ! (1 ∷ []) $ split ! $ move ! (1 ∷ []) $ split ! $ move ! (1 ∷ []) $ drop ! $
         land ! (from ! (stop !)) (init ! 42 refl (LL.lawful Work-row.the-type Work-laws.the-laws 𝓤 H A W .typed r1 _ got1 .0)) $ rewrite ! 42 (λ (u : Val). ‵ (fat fullShare Work-laws.mir l11 0 u)) (ap only (Work-laws.lowers .val-is r1 _ got1)) refl $
         move ! (3 ∷ []) $ lft-end ! tt $ move ! (0 ∷ 14 ∷ 10 ∷ []) $ use3 W (later (‵ (MutSlice (named 3) κ3 u32 .own (renamed weights (weights .name) (zs1 .1 .1 .1 .1 .0)) ((sliceVal (weights .ptr) (length (weights .now))) ∷ [])) ⊛ ‵ (flft κ3 q3))) (again-back u32 κ3 (ν1-4 ∷ []) q3 (weights .name) (weights .ptr .0) (weights .ptr .1) 𝓤 H A W (named 3) (named 3) ((sliceVal (weights .ptr) (length (weights .now))) ∷ []) (weights .now) δ1-4 (zs1 .1 .1 .1 .1 .0) refl weights-room long1-4) $ await ! tt $ split ! $
@@ -143,7 +145,7 @@ module _ {M : Type 1} (𝓤 : URA M) (H : Heap 𝓤) (A : Atoms 𝓤) (W : Given
         assigns ! (agg ! (and-then ! (load ! (from ! (stop !)) (look ! 18 refl)) (and-then ! (load ! (from ! (fld ! refl (stop !))) (look-in ! 42 (sub ! 1 refl (whole !)))) (no-more !)))) (from ! (stop !)) (init ! 16 refl (tt, (tt, (record { fits = records-room .0 }, tt)))) $
         -- write
         lft-new ! tt (λ ν2-0. move ! (16 ∷ 15 ∷ []) $ use2 W (later (some (λ (δ : GName). ‵ (MutSlice (named 7) (ν2-0 ∷ []) R-Cycle .own (renamed records δ (records .now)) ((sliceVal (records .ptr) (length (records .now))) ∷ [])) ⊛ ‵ (LentAgain R-Cycle κ7 (ν2-0 ∷ []) q7 (records .name) (records .ptr .0) (records .ptr .1) δ (records .now))))) (again-out R-Cycle κ7 (ν2-0 ∷ []) q7 (records .name) (records .ptr .0) (records .ptr .1) 𝓤 H A W (named 7) (named 7) ((sliceVal (records .ptr) (length (records .now))) ∷ []) (records .now)) $ await ! tt $ pick ! (λ δ2-0. split ! $
-        move ! (2 ∷ 0 ∷ []) $ cut (asked-2 ν2-0 δ2-0 (records .now) (r1 .records) (row-field Cycle-row.the-type Cycle-laws.the-laws 100 (r1 .records) _ (LL.owed Work-row.the-type Work-laws.the-laws r1 _ (subst (Is R-Work r1) (Work-laws.lowers .val-is r1 _ got1) got1) .1 .1 .0)) (r1 .cycles) ((LL.owed Work-row.the-type Work-laws.the-laws r1 _ (subst (Is R-Work r1) (Work-laws.lowers .val-is r1 _ got1) got1) .1 .0) .1)) (raw (F2 𝓤 H A at-mem run .pre (to-2 ν2-0 δ2-0 (records .now) (r1 .records) (row-field Cycle-row.the-type Cycle-laws.the-laws 100 (r1 .records) _ (LL.owed Work-row.the-type Work-laws.the-laws r1 _ (subst (Is R-Work r1) (Work-laws.lowers .val-is r1 _ got1) got1) .1 .1 .0)) (r1 .cycles) ((LL.owed Work-row.the-type Work-laws.the-laws r1 _ (subst (Is R-Work r1) (Work-laws.lowers .val-is r1 _ got1) got1) .1 .0) .1))) ∷ []) _ (goes-2 ν2-0 δ2-0 (records .now) (r1 .records) (row-field Cycle-row.the-type Cycle-laws.the-laws 100 (r1 .records) _ (LL.owed Work-row.the-type Work-laws.the-laws r1 _ (subst (Is R-Work r1) (Work-laws.lowers .val-is r1 _ got1) got1) .1 .1 .0)) (r1 .cycles) ((LL.owed Work-row.the-type Work-laws.the-laws r1 _ (subst (Is R-Work r1) (Work-laws.lowers .val-is r1 _ got1) got1) .1 .0) .1) (record { held = e1-1 .1; room = e1-1 .0 })) $
+        move ! (2 ∷ 0 ∷ []) $ cut (asked-2 ν2-0 δ2-0 (records .now) (r1 .records) (row-field Cycle-row.the-type Cycle-laws.the-laws 100 (r1 .records) _ (LL.owed Work-row.the-type Work-laws.the-laws r1 _ (subst (Is R-Work r1) (Work-laws.lowers .val-is r1 _ got1) got1) .1 .1 .0)) (r1 .cycles) ((LL.owed Work-row.the-type Work-laws.the-laws r1 _ (subst (Is R-Work r1) (Work-laws.lowers .val-is r1 _ got1) got1) .1 .0) .1)) (raw (F2 𝓤 H A at-mem run .pre (to-2 ν2-0 δ2-0 (records .now) (r1 .records) (row-field Cycle-row.the-type Cycle-laws.the-laws 100 (r1 .records) _ (LL.owed Work-row.the-type Work-laws.the-laws r1 _ (subst (Is R-Work r1) (Work-laws.lowers .val-is r1 _ got1) got1) .1 .1 .0)) (r1 .cycles) ((LL.owed Work-row.the-type Work-laws.the-laws r1 _ (subst (Is R-Work r1) (Work-laws.lowers .val-is r1 _ got1) got1) .1 .0) .1))) ∷ []) _ (goes-2 ν2-0 δ2-0 (records .now) (r1 .records) (row-field Cycle-row.the-type Cycle-laws.the-laws 100 (r1 .records) _ (LL.owed Work-row.the-type Work-laws.the-laws r1 _ (subst (Is R-Work r1) (Work-laws.lowers .val-is r1 _ got1) got1) .1 .1 .0)) (r1 .cycles) ((LL.owed Work-row.the-type Work-laws.the-laws r1 _ (subst (Is R-Work r1) (Work-laws.lowers .val-is r1 _ got1) got1) .1 .0) .1) (record { held = e1 .held; room = e1 .fits })) $
         calls-at ! fm (F2 𝓤 H A at-mem run) known-f2 (to-2 ν2-0 δ2-0 (records .now) (r1 .records) (row-field Cycle-row.the-type Cycle-laws.the-laws 100 (r1 .records) _ (LL.owed Work-row.the-type Work-laws.the-laws r1 _ (subst (Is R-Work r1) (Work-laws.lowers .val-is r1 _ got1) got1) .1 .1 .0)) (r1 .cycles) ((LL.owed Work-row.the-type Work-laws.the-laws r1 _ (subst (Is R-Work r1) (Work-laws.lowers .val-is r1 _ got1) got1) .1 .0) .1)) (and-then ! (load ! (from ! (stop !)) (look ! 16 refl)) (and-then ! (load ! (from ! (fld ! refl (stop !))) (look-in ! 38 (sub ! 2 refl (whole !)))) (and-then ! (load ! (from ! (fld ! refl (stop !))) (look-in ! 38 (sub ! 1 refl (whole !)))) (no-more !)))) (λ v2.
         use1 W (later (some (λ (r : Unit {0}). ((‵ (flft (ν2-0 ∷ []) fullShare) ⊛ ‵ ftrue) ⊛ ‵ (Nothing .own r (v2 ∷ []))) ⊛ raw (ensured 𝓤 H A f2.ended (f2.clauses 𝓤 H A at-mem run) ((ν2-0 ∷ []), tt) ((renamed records δ2-0 (records .now)), ((r1 .records), ((r1 .cycles), tt))) tt r)))) (id⊢ 𝓤 _) $ await ! tt $ pick ! (λ r2.
         split ! $ move ! (1 ∷ []) $ use1 W (some (λ (zs : (List Cycle × (Unit {0} × (Unit {0} × Unit {0})))). ‵ (lasts f2.ended ((ν2-0 ∷ []), tt) ((renamed records δ2-0 (records .now)), ((r1 .records), ((r1 .cycles), tt))) zs) ⊛ raw (fact 𝓤 ((zs .0) ≡ filled (take (r1 .cycles) (r1 .records)) (records .now))))) (id⊢ 𝓤 _) $ pick ! (λ zs2.
@@ -154,7 +156,7 @@ module _ {M : Type 1} (𝓤 : URA M) (H : Heap 𝓤) (A : Atoms 𝓤) (W : Given
         assigns ! (of-opd ! (load ! (from ! (fld ! refl (stop !))) (look-in ! 38 (sub ! 0 refl (whole !))))) (from ! (stop !)) (init ! 60 refl (EL.lawful Planning-row.the-type Planning-laws.the-laws 𝓤 H A W tt .typed (r1 .planning) _ (subst (Is R-Planning (r1 .planning)) (Planning-laws.lowers .val-is (r1 .planning) _ (LL.owed Work-row.the-type Work-laws.the-laws r1 _ (subst (Is R-Work r1) (Work-laws.lowers .val-is r1 _ got1) got1) .0)) (LL.owed Work-row.the-type Work-laws.the-laws r1 _ (subst (Is R-Work r1) (Work-laws.lowers .val-is r1 _ got1) got1) .0)) .0)) $
         returns ! (look ! 60 refl) $ forget ! 16 refl $ forget ! 18 refl $ forget ! 20 refl $ forget ! 22 refl $ forget ! 24 refl $ forget ! 26 refl $ forget ! 28 refl $ forget ! 30 refl $ forget ! 32 refl $ forget ! 34 refl $ forget ! 36 refl $ forget ! 38 refl $ forget ! 40 refl $ forget ! 42 refl $ forget ! 44 refl $ forget ! 46 refl $ forget ! 48 refl $ forget ! 50 refl $ forget ! 52 refl $ forget ! 54 refl $ forget ! 56 refl $ forget ! 58 refl $ forget ! 60 refl $
         move ! (60 ∷ 61 ∷ []) $ free1 ! $ move ! (58 ∷ 59 ∷ []) $ free1 ! $ move ! (56 ∷ 57 ∷ []) $ free1 ! $ move ! (54 ∷ 55 ∷ []) $ free1 ! $ move ! (52 ∷ 53 ∷ []) $ free1 ! $ move ! (50 ∷ 51 ∷ []) $ free1 ! $ move ! (48 ∷ 49 ∷ []) $ free1 ! $ move ! (46 ∷ 47 ∷ []) $ free1 ! $ move ! (44 ∷ 45 ∷ []) $ free1 ! $ move ! (42 ∷ 43 ∷ []) $ free1 ! $ move ! (40 ∷ 41 ∷ []) $ free1 ! $ move ! (38 ∷ 39 ∷ []) $ free1 ! $ move ! (36 ∷ 37 ∷ []) $ free1 ! $ move ! (34 ∷ 35 ∷ []) $ free1 ! $ move ! (32 ∷ 33 ∷ []) $ free1 ! $ move ! (30 ∷ 31 ∷ []) $ free1 ! $ move ! (28 ∷ 29 ∷ []) $ free1 ! $ move ! (26 ∷ 27 ∷ []) $ free1 ! $ move ! (24 ∷ 25 ∷ []) $ free1 ! $ move ! (22 ∷ 23 ∷ []) $ free1 ! $ move ! (20 ∷ 21 ∷ []) $ free1 ! $ move ! (18 ∷ 19 ∷ []) $ free1 ! $ move ! (16 ∷ 17 ∷ []) $ free1 ! $ free0 ! $
-        keep ! (12 ∷ 11 ∷ 10 ∷ 9 ∷ 7 ∷ 5 ∷ 3 ∷ 1 ∷ 8 ∷ 6 ∷ 4 ∷ 2 ∷ 0 ∷ []) $ by ! (exits (r1 .planning) (subst (Is R-Planning (r1 .planning)) (Planning-laws.lowers .val-is (r1 .planning) _ (LL.owed Work-row.the-type Work-laws.the-laws r1 _ (subst (Is R-Work r1) (Work-laws.lowers .val-is r1 _ got1) got1) .0)) (LL.owed Work-row.the-type Work-laws.the-laws r1 _ (subst (Is R-Work r1) (Work-laws.lowers .val-is r1 _ got1) got1) .0)) (zs1 .1 .1 .1 .1 .0) (zs1 .1 .1 .1 .1 .1 .0) (zs1 .1 .1 .1 .1 .1 .1 .0) (zs1 .1 .1 .1 .1 .1 .1 .1 .0) (zs2 .0) (recorded n (m .now) (w .now) (shuffle .now) (weights .now) (choices .now) (donors .now) (recipients .now) (zs1 .1 .1 .1 .1 .0) (zs1 .1 .1 .1 .1 .1 .0) (zs1 .1 .1 .1 .1 .1 .1 .0) (zs1 .1 .1 .1 .1 .1 .1 .1 .0) r1 (records .now) (zs2 .0) e2 e1-0) (recorded-guarantee n (m .now) (w .now) (shuffle .now) (weights .now) (choices .now) (donors .now) (recipients .now) (zs1 .1 .1 .1 .1 .0) (zs1 .1 .1 .1 .1 .1 .0) (zs1 .1 .1 .1 .1 .1 .1 .0) (zs1 .1 .1 .1 .1 .1 .1 .1 .0) r1 (records .now) (zs2 .0) e2 e1-2) long1-4 long1-5 long1-6 long1-7 long2-0)))))))))))))))))))))))))))))))))))))))))))))))))))
+        keep ! (12 ∷ 11 ∷ 10 ∷ 9 ∷ 7 ∷ 5 ∷ 3 ∷ 1 ∷ 8 ∷ 6 ∷ 4 ∷ 2 ∷ 0 ∷ []) $ by ! (exits (r1 .planning) (subst (Is R-Planning (r1 .planning)) (Planning-laws.lowers .val-is (r1 .planning) _ (LL.owed Work-row.the-type Work-laws.the-laws r1 _ (subst (Is R-Work r1) (Work-laws.lowers .val-is r1 _ got1) got1) .0)) (LL.owed Work-row.the-type Work-laws.the-laws r1 _ (subst (Is R-Work r1) (Work-laws.lowers .val-is r1 _ got1) got1) .0)) (zs1 .1 .1 .1 .1 .0) (zs1 .1 .1 .1 .1 .1 .0) (zs1 .1 .1 .1 .1 .1 .1 .0) (zs1 .1 .1 .1 .1 .1 .1 .1 .0) (zs2 .0) (recorded _ _ _ r1 (records .now) (zs2 .0) e2 e1) long1-4 long1-5 long1-6 long1-7 long2-0)))))))))))))))))))))))))))))))))))))))))))))))))
 
 module _ {M : Type 1} (𝓤 : URA M) (H : Heap 𝓤) (A : Atoms 𝓤) (W : Given 𝓤 H A) (at-mem : Memory → SProp 𝓤) (run : Routine → Fun 𝓤) where
   walks : (𝓣 : Tables 𝓤 H) → Triple 𝓤 (𝓣 .C #f1) (F1 𝓤 H A at-mem run) → Triple 𝓤 (𝓣 .C #f2) (F2 𝓤 H A at-mem run) → Walks 𝓤 H A me.ended stayed (WpFn 𝓤 H (𝓣 .C) (𝓣 .Λ) code.function) (me.clauses 𝓤 H A at-mem run)

@@ -1,5 +1,5 @@
 -- `planner::plan_by_value` meets its contract. Assumes nothing.
-use Rattle.planner.proofs.Answered.{promised, call-refused, none-few, call-asks, call-made, made-few}
+use Rattle.planner.proofs.Answered.{call-refused, call-asks, call-made}
 use borrow.Author.Needs.{needs}
 use Rattle.planner.proofs.plan_by_value.Statement.{statement}
 use Rattle.planner.proofs.plan_by_value.Tie as tie
@@ -20,7 +20,9 @@ make-requires : tie.Need-make-requires
 make-requires c κs = call-asks _ _ _ _ _ _ _ _ _ (c .before .before .before .before .before .before .judge .result) (c .before .before .before .before .before .before .judge .ensures) (c .before .before .before .before .enum-told .given .1)
 
 returns : tie.Need-returns
-returns c = let same = call-refused _ _ _ _ _ _ _ _ _ (c .before .before .before .before .judge .result) (c .before .before .before .before .judge .ensures) _ (c .before .before .why .given .1) (c .turned-back .result) (c .turned-back .ensures) in (same, (none-few _ _ (c .turned-back .ensures .1), λ old h. promised _ _ _ _ _ _ _ (same old h)))
+returns c =
+    let j = c .before .before .before .before in
+    call-refused _ _ _ _ _ _ _ _ _ (j .judge .result) (j .judge .ensures) _ (c .before .before .why .given .1) (c .turned-back .result) (c .turned-back .ensures)
 
 same-length : tie.Need-same-length
 same-length c = search needs
@@ -35,7 +37,10 @@ same-length-4 : tie.Need-same-length-4
 same-length-4 c = search needs
 
 returns-2 : tie.Need-returns-2
-returns-2 c = let same = call-made _ _ _ _ _ _ _ _ _ (c .before .before .before .before .before .before .before .before .before .before .before .before .before .before .before .judge .result) (c .before .before .before .before .before .before .before .before .before .before .before .before .before .before .before .judge .ensures) (c .before .before .before .before .before .before .before .before .before .before .before .before .before .enum-told .given .1) (c .before .before .before .before .before .before .before .before .make .result) _ _ _ _ (c .before .before .before .before .before .before .before .before .make .ensures) in (same, (made-few _ _ _ _ _ _ _ _ _ (c .before .before .before .before .before .before .before .before .before .before .before .before .before .before .before .judge .result) (c .before .before .before .before .before .before .before .before .before .before .before .before .before .before .before .judge .ensures) (c .before .before .before .before .before .before .before .before .before .before .before .before .before .enum-told .given .1) (c .before .before .before .before .before .before .before .before .make .result) _ _ _ _ (c .before .before .before .before .before .before .before .before .make .ensures), λ old h. promised _ _ _ _ _ _ _ (same old h)))
+returns-2 c =
+    let m = c .before .before .before .before .before .before .before .before in
+    let j = m .before .before .before .before .before .before .before in
+    call-made _ _ _ _ _ _ _ _ _ (j .judge .result) (j .judge .ensures) (m .before .before .before .before .before .enum-told .given .1) (m .make .result) _ (m .make .ensures)
 
 pub plan-by-value-spec : {M : Type 1} → statement M
 plan-by-value-spec =

@@ -1,16 +1,16 @@
 -- `planner::steps` meets its contract: a walk of its MIR, written by walks/walk.py. Assumes nothing.
 use Rattle.lending.proofs.Walking.{_≡_, refl, sym, _∙_, ap, subst, [], _∷_, List, ℕ, _<_, _^_, length, Holds, URA, fullShare, named, tyUnit, w64, Val, vint, vptr, hasTy, WT, SProp, ent, id⊢, Lft, Share, GName, ftrue, fat, flft, flent, Memory, Routine, Heap, Calls, Loops, WpFn, Tables, Atoms, Fun, fact, AllOutlive, givenOf, tables, tablesOf, Given, ‵, raw, some, later, _⊛_, ⋆, Item, _$_, _∵_, !, qed, by, move, keep, drop, use1, use2, use3, cut, split, join, pick, rewrite, fsplit, fjoin, feqL, suffices, frame, await, done, look, init, store, forget, stop, hop, fld, from, load, addr, of-opd, and-then, no-more, land, assigns, returns, enter, alloc1, alloc0, params1, pass1, pass0, free1, free0, agg, whole, sub, look-in, Body, lft-new, lft-end, FmC, fmOf, WpFn-mono, RattleType, owns, Is, shows, mem, cellAt, Nothing, uint-vals, uint-tells, uint-makes, u8, u16, u32, usize, RefT, MutRef, sliceVal, MutSlice, ShrSlice, Room, slice-vals, mut-slice-tells, shr-slice-tells, shr-slice-copy, plain, shrSliceOf, only, owned, facts, heard, nothing, spelt, onEntry, Meets, tripleOf, Contract, Triple, calls-at, ensured, lasts, entered, cited, says, needs, Stays, stay-dropped, stay-slice, walkOf, goes-dropped, goes-slice, Walks, ends-at, walked, walk-meets, yes, renamed, local-out, local-back, LentAgain, again-out, again-back}
 use denote.Struct.Laws as LL
-use Rattle.planner.specs.Checks.{Stepping}
+use Rattle.planner.specs.Preconditions.{Stepping}
+use Rattle.exchange.specs.Input.{request, inputOf, noFloor}
 use Rattle.greedy.specs.Rounds as Rounds
 use Rattle.greedy.specs.Rounds.{left}
 use Rattle.gates.specs.Counts.{counted}
 use Rattle.exchange.specs.Planning.{leftBy}
-use Rattle.exchange.specs.Subsets.{entry, subsetWeight, subsets, evaluating}
 use Rattle.greedy.specs.Tally.{tally}
-use Rattle.evaluation.specs.Readable.{Evaluating}
-use mathlib.Core.List.{map}
-use Rattle.rounds.specs.Rounding.{Rounding}
+use Rattle.evaluation.specs.Preconditions.{Evaluating}
+use Rattle.exchange.specs.Subsets.{upToThree, subsetWeights, entry, evaluationTally, order}
+use Rattle.rounds.specs.Preconditions.{Rounding}
 use Rattle.planner.proofs.Stepped.{asks-evaluate, asks-rounds, stepped}
 use Rattle.gates.specs.declared.Tally.{Tally}
 use Rattle.gates.proofs.Tally as Tally-row
@@ -57,7 +57,7 @@ module _ {M : Type 1} (𝓤 : URA M) (H : Heap 𝓤) (A : Atoms 𝓤) (W : Given
   abbrev Post : Val → SProp 𝓤
   Post = walkOf 𝓤 H A me.ended stayed (me.clauses 𝓤 H A at-mem run) .post (((κ0, (κ1, (κ2, (κ3, (κ4, tt))))), (q0, (q1, (q2, (q3, (q4, tt))))), bounds, x, at), tt)
 
-  exits : (r : Tally) (r-fits : Is R-Tally r ((Tally-laws.lowered r) ∷ [])) (weights′ : List ℕ) (choices′ : List ℕ) → left weights′ choices′ (counted r) ≡ leftBy 0 3 n (entry (m .now) n) (entry (w .now) n) (s .now) → (length weights′) ≡ (length (weights .now)) → (length choices′) ≡ (length (choices .now))
+  exits : (r : Tally) (r-fits : Is R-Tally r ((Tally-laws.lowered r) ∷ [])) (weights′ : List ℕ) (choices′ : List ℕ) → left weights′ choices′ (counted r) ≡ leftBy (inputOf (request n (m .now) (w .now) (s .now))) → (length weights′) ≡ (length (weights .now)) → (length choices′) ≡ (length (choices .now))
       → ent 𝓤 (⋆ 𝓤 H A (‵ (flft κ0 q0) ∷ ‵ (flft κ1 q1) ∷ ‵ (flft κ2 q2) ∷ ‵ (flft κ3 q3) ∷ ‵ (flft κ4 q4) ∷ ‵ (MutSlice (named 3) κ3 u32 .own (renamed weights (weights .name) weights′) ((sliceVal (weights .ptr) (length (weights .now))) ∷ [])) ∷ ‵ (MutSlice (named 4) κ4 u32 .own (renamed choices (choices .name) choices′) ((sliceVal (choices .ptr) (length (choices .now))) ∷ [])) ∷ [])) (Post (Tally-laws.lowered r))
   exits r r-fits weights′ choices′ e long-weights long-choices =
       qed W (‵ (flft κ0 q0) ∷ ‵ (flft κ1 q1) ∷ ‵ (flft κ2 q2) ∷ ‵ (flft κ3 q3) ∷ ‵ (flft κ4 q4) ∷ ‵ (MutSlice (named 3) κ3 u32 .own (renamed weights (weights .name) weights′) ((sliceVal (weights .ptr) (length (weights .now))) ∷ [])) ∷ ‵ (MutSlice (named 4) κ4 u32 .own (renamed choices (choices .name) choices′) ((sliceVal (choices .ptr) (length (choices .now))) ∷ [])) ∷ []) ∵
@@ -83,7 +83,7 @@ module _ {M : Type 1} (𝓤 : URA M) (H : Heap 𝓤) (A : Atoms 𝓤) (W : Given
     abbrev asked-2 : List (Item 𝓤)
     asked-2 = ‵ (flft κ0 q0) ∷ ‵ (flft κ1 q1) ∷ ‵ (flft κ2 q2) ∷ ‵ (flft (ν4 ∷ []) fullShare) ∷ ‵ (flft (ν5 ∷ []) fullShare) ∷ ‵ (ShrSlice (named 0) κ0 u8 .own m ((sliceVal (m .ptr) (length (m .now))) ∷ [])) ∷ ‵ (ShrSlice (named 1) κ1 u16 .own w ((sliceVal (w .ptr) (length (w .now))) ∷ [])) ∷ ‵ (ShrSlice (named 2) κ2 u16 .own s ((sliceVal (s .ptr) (length (s .now))) ∷ [])) ∷ ‵ (MutSlice (named 3) (ν4 ∷ []) u32 .own (renamed weights δ4 a4) ((sliceVal (weights .ptr) (length (weights .now))) ∷ [])) ∷ ‵ (MutRef (named 4) (ν5 ∷ []) R-Tally .own (record { ptr = (l5, 0); name = δ5; now = a5 }) ((vptr l5 0) ∷ [])) ∷ []
 
-    goes-2 : Evaluating a0 (m .now) (w .now) (s .now) a4 a5 → ent 𝓤 (⋆ 𝓤 H A asked-2) (F2 𝓤 H A at-mem run .pre to-2)
+    goes-2 : Evaluating (upToThree a0) (m .now) (w .now) (s .now) a4 a5 → ent 𝓤 (⋆ 𝓤 H A asked-2) (F2 𝓤 H A at-mem run .pre to-2)
     goes-2 needs-these = qed W asked-2 ∵ says ! needs-these $ nothing ! $ move ! (5 ∷ 0 ∷ []) $ join ! $ move ! (4 ∷ 0 ∷ []) $ join ! $ move ! (3 ∷ 0 ∷ []) $ join ! $ move ! (2 ∷ 0 ∷ []) $ join ! $ move ! (1 ∷ 0 ∷ []) $ join ! $ frame ! $ nothing ! $ move ! (5 ∷ 0 ∷ []) $ fjoin ! $ move ! (4 ∷ 0 ∷ []) $ fjoin ! $ move ! (3 ∷ 0 ∷ []) $ fjoin ! $ move ! (2 ∷ 0 ∷ []) $ fjoin ! $ move ! (1 ∷ 0 ∷ []) $ fjoin ! $ owned ! usize (Is usize) (uint-makes 𝓤 H A W w64) a0 _ (refl, fits0) $ fjoin ! $ done !
 
   -- `all_rounds`: what its contract binds, what it asks, and that this is had
@@ -94,10 +94,10 @@ module _ {M : Type 1} (𝓤 : URA M) (H : Heap 𝓤) (A : Atoms 𝓤) (W : Given
     abbrev asked-3 : List (Item 𝓤)
     asked-3 = ‵ (flft (ν1 ∷ []) fullShare) ∷ ‵ (flft (ν2 ∷ []) fullShare) ∷ ‵ (flft (ν3 ∷ []) fullShare) ∷ ‵ (MutSlice (named 0) (ν1 ∷ []) u32 .own (renamed weights δ1 a1) ((sliceVal (weights .ptr) (length (weights .now))) ∷ [])) ∷ ‵ (MutSlice (named 1) (ν2 ∷ []) u32 .own (renamed choices δ2 a2) ((sliceVal (choices .ptr) (length (choices .now))) ∷ [])) ∷ ‵ (MutRef (named 2) (ν3 ∷ []) R-Tally .own (record { ptr = (l3, 0); name = δ3; now = a3 }) ((vptr l3 0) ∷ [])) ∷ []
 
-    goes-3 : Rounding a0 a1 a2 a3 → ent 𝓤 (⋆ 𝓤 H A asked-3) (F3 𝓤 H A at-mem run .pre to-3)
+    goes-3 : Rounding (upToThree a0) a1 a2 a3 → ent 𝓤 (⋆ 𝓤 H A asked-3) (F3 𝓤 H A at-mem run .pre to-3)
     goes-3 needs-these = qed W asked-3 ∵ says ! needs-these $ nothing ! $ move ! (3 ∷ 0 ∷ []) $ join ! $ move ! (2 ∷ 0 ∷ []) $ join ! $ move ! (1 ∷ 0 ∷ []) $ join ! $ frame ! $ nothing ! $ move ! (3 ∷ 0 ∷ []) $ fjoin ! $ move ! (2 ∷ 0 ∷ []) $ fjoin ! $ move ! (1 ∷ 0 ∷ []) $ fjoin ! $ owned ! usize (Is usize) (uint-makes 𝓤 H A W w64) a0 _ (refl, fits0) $ fjoin ! $ done !
 
-  module _ (𝓣 : Tables 𝓤 H) (known-f1 : Triple 𝓤 (𝓣 .C #f1) (F1 𝓤 H A at-mem run)) (known-f2 : Triple 𝓤 (𝓣 .C #f2) (F2 𝓤 H A at-mem run)) (known-f3 : Triple 𝓤 (𝓣 .C #f3) (F3 𝓤 H A at-mem run)) (pre : Stepping n (m .now) (w .now) (s .now) (weights .now) (choices .now)) where
+  module _ (𝓣 : Tables 𝓤 H) (known-f1 : Triple 𝓤 (𝓣 .C #f1) (F1 𝓤 H A at-mem run)) (known-f2 : Triple 𝓤 (𝓣 .C #f2) (F2 𝓤 H A at-mem run)) (known-f3 : Triple 𝓤 (𝓣 .C #f3) (F3 𝓤 H A at-mem run)) (pre : Stepping (request n (m .now) (w .now) (s .now)) (weights .now) (choices .now)) where
     abbrev C : Calls 𝓤 H
     C = 𝓣 .C
 
@@ -137,8 +137,8 @@ module _ {M : Type 1} (𝓤 : URA M) (H : Heap 𝓤) (A : Atoms 𝓤) (W : Given
         move ! (15 ∷ 14 ∷ 13 ∷ 5 ∷ 2 ∷ 10 ∷ 8 ∷ 6 ∷ 3 ∷ 0 ∷ []) $ cut (asked-2 n n-fits ν2-4 δ2-4 (weights .now) ν2-5 δ2-5 l7 r1) (raw (F2 𝓤 H A at-mem run .pre (to-2 n n-fits ν2-4 δ2-4 (weights .now) ν2-5 δ2-5 l7 r1)) ∷ []) _ (goes-2 n n-fits ν2-4 δ2-4 (weights .now) ν2-5 δ2-5 l7 r1 (asks-evaluate _ _ _ _ _ _ pre _ e1)) $
         calls-at ! fm (F2 𝓤 H A at-mem run) known-f2 (to-2 n n-fits ν2-4 δ2-4 (weights .now) ν2-5 δ2-5 l7 r1) (and-then ! (load ! (from ! (stop !)) (look ! 39 refl)) (and-then ! (load ! (from ! (stop !)) (look ! 37 refl)) (and-then ! (load ! (from ! (stop !)) (look ! 35 refl)) (and-then ! (load ! (from ! (stop !)) (look ! 33 refl)) (and-then ! (load ! (from ! (stop !)) (look ! 20 refl)) (and-then ! (load ! (from ! (stop !)) (look ! 18 refl)) (no-more !))))))) (λ v2.
         use1 W (later (some (λ (r : Unit {0}). ((‵ (flft κ0 q0) ⊛ ‵ (flft κ1 q1) ⊛ ‵ (flft κ2 q2) ⊛ ‵ (flft (ν2-4 ∷ []) fullShare) ⊛ ‵ (flft (ν2-5 ∷ []) fullShare) ⊛ ‵ ftrue) ⊛ ‵ (Nothing .own r (v2 ∷ []))) ⊛ raw (ensured 𝓤 H A f2.ended (f2.clauses 𝓤 H A at-mem run) (κ0, (κ1, (κ2, ((ν2-4 ∷ []), ((ν2-5 ∷ []), tt))))) (n, (m, (w, (s, ((renamed weights δ2-4 (weights .now)), ((record { ptr = (l7, 0); name = δ2-5; now = r1 }), tt)))))) tt r)))) (id⊢ 𝓤 _) $ await ! tt $ pick ! (λ r2.
-        split ! $ move ! (1 ∷ []) $ use1 W (some (λ (zs : (Unit {0} × (Unit {0} × (Unit {0} × (Unit {0} × (List ℕ × (Tally × Unit {0}))))))). ‵ (lasts f2.ended (κ0, (κ1, (κ2, ((ν2-4 ∷ []), ((ν2-5 ∷ []), tt))))) (n, (m, (w, (s, ((renamed weights δ2-4 (weights .now)), ((record { ptr = (l7, 0); name = δ2-5; now = r1 }), tt)))))) zs) ⊛ raw (fact 𝓤 (((zs .1 .1 .1 .1 .0) ≡ map (subsetWeight (entry (m .now) n) (entry (w .now) n) (s .now)) (subsets 3 n)) × (counted (zs .1 .1 .1 .1 .1 .0) ≡ evaluating (subsets 3 n) (counted r1)))))) (id⊢ 𝓤 _) $ pick ! (λ zs2.
-        split ! $ move ! (1 ∷ []) $ heard ! (((zs2 .1 .1 .1 .1 .0) ≡ map (subsetWeight (entry (m .now) n) (entry (w .now) n) (s .now)) (subsets 3 n)) × (counted (zs2 .1 .1 .1 .1 .1 .0) ≡ evaluating (subsets 3 n) (counted r1))) (λ e2. fsplit ! $ drop ! $ fsplit ! $ drop ! $ fsplit ! $ drop ! $ fsplit ! $ drop ! $ fsplit ! $ fsplit ! $ move ! (1 ∷ []) $ feqL ! (λ long2-4. move ! (1 ∷ []) $ fsplit ! $ move ! (1 ∷ []) $ drop ! $
+        split ! $ move ! (1 ∷ []) $ use1 W (some (λ (zs : (Unit {0} × (Unit {0} × (Unit {0} × (Unit {0} × (List ℕ × (Tally × Unit {0}))))))). ‵ (lasts f2.ended (κ0, (κ1, (κ2, ((ν2-4 ∷ []), ((ν2-5 ∷ []), tt))))) (n, (m, (w, (s, ((renamed weights δ2-4 (weights .now)), ((record { ptr = (l7, 0); name = δ2-5; now = r1 }), tt)))))) zs) ⊛ raw (fact 𝓤 (((zs .1 .1 .1 .1 .0) ≡ subsetWeights (upToThree n) (entry (m .now) n) (entry (w .now) n) (s .now)) × (counted (zs .1 .1 .1 .1 .1 .0) ≡ evaluationTally (order (upToThree n)) (counted r1)))))) (id⊢ 𝓤 _) $ pick ! (λ zs2.
+        split ! $ move ! (1 ∷ []) $ heard ! (((zs2 .1 .1 .1 .1 .0) ≡ subsetWeights (upToThree n) (entry (m .now) n) (entry (w .now) n) (s .now)) × (counted (zs2 .1 .1 .1 .1 .1 .0) ≡ evaluationTally (order (upToThree n)) (counted r1))) (λ e2. fsplit ! $ drop ! $ fsplit ! $ drop ! $ fsplit ! $ drop ! $ fsplit ! $ drop ! $ fsplit ! $ fsplit ! $ move ! (1 ∷ []) $ feqL ! (λ long2-4. move ! (1 ∷ []) $ fsplit ! $ move ! (1 ∷ []) $ drop ! $
         move ! (2 ∷ []) $ split ! $ move ! (1 ∷ []) $ feqL ! (λ got2. split ! $ move ! (1 ∷ []) $ split ! $ move ! (1 ∷ []) $ split ! $ move ! (1 ∷ []) $ split ! $ move ! (1 ∷ []) $ split ! $ move ! (1 ∷ []) $ drop ! $
         land ! (from ! (stop !)) (init ! 30 refl (subst (λ (y : Val). Holds (hasTy tyUnit y) × WT y) (sym (ap only got2)) (tt, tt))) $
         move ! (1 ∷ []) $ lft-end ! tt $ move ! (0 ∷ 8 ∷ 6 ∷ []) $ use3 W (later (‵ (MutSlice (named 3) κ3 u32 .own (renamed weights (weights .name) (zs2 .1 .1 .1 .1 .0)) ((sliceVal (weights .ptr) (length (weights .now))) ∷ [])) ⊛ ‵ (flft κ3 q3))) (again-back u32 κ3 (ν2-4 ∷ []) q3 (weights .name) (weights .ptr .0) (weights .ptr .1) 𝓤 H A W (named 3) (named 3) ((sliceVal (weights .ptr) (length (weights .now))) ∷ []) (weights .now) δ2-4 (zs2 .1 .1 .1 .1 .0) refl weights-room long2-4) $ await ! tt $ split ! $
@@ -158,8 +158,8 @@ module _ {M : Type 1} (𝓤 : URA M) (H : Heap 𝓤) (A : Atoms 𝓤) (W : Given
         move ! (8 ∷ 5 ∷ 2 ∷ 6 ∷ 3 ∷ 0 ∷ []) $ cut (asked-3 n n-fits ν3-1 δ3-1 (zs2 .1 .1 .1 .1 .0) ν3-2 δ3-2 (choices .now) ν3-3 δ3-3 l7 (zs2 .1 .1 .1 .1 .1 .0)) (raw (F3 𝓤 H A at-mem run .pre (to-3 n n-fits ν3-1 δ3-1 (zs2 .1 .1 .1 .1 .0) ν3-2 δ3-2 (choices .now) ν3-3 δ3-3 l7 (zs2 .1 .1 .1 .1 .1 .0))) ∷ []) _ (goes-3 n n-fits ν3-1 δ3-1 (zs2 .1 .1 .1 .1 .0) ν3-2 δ3-2 (choices .now) ν3-3 δ3-3 l7 (zs2 .1 .1 .1 .1 .1 .0) (asks-rounds _ _ _ _ _ _ pre _ e1 _ _ e2)) $
         calls-at ! fm (F3 𝓤 H A at-mem run) known-f3 (to-3 n n-fits ν3-1 δ3-1 (zs2 .1 .1 .1 .1 .0) ν3-2 δ3-2 (choices .now) ν3-3 δ3-3 l7 (zs2 .1 .1 .1 .1 .1 .0)) (and-then ! (load ! (from ! (stop !)) (look ! 41 refl)) (and-then ! (load ! (from ! (stop !)) (look ! 16 refl)) (and-then ! (load ! (from ! (stop !)) (look ! 12 refl)) (and-then ! (load ! (from ! (stop !)) (look ! 10 refl)) (no-more !))))) (λ v3.
         use1 W (later (some (λ (r : Unit {0}). ((‵ (flft (ν3-1 ∷ []) fullShare) ⊛ ‵ (flft (ν3-2 ∷ []) fullShare) ⊛ ‵ (flft (ν3-3 ∷ []) fullShare) ⊛ ‵ ftrue) ⊛ ‵ (Nothing .own r (v3 ∷ []))) ⊛ raw (ensured 𝓤 H A f3.ended (f3.clauses 𝓤 H A at-mem run) ((ν3-1 ∷ []), ((ν3-2 ∷ []), ((ν3-3 ∷ []), tt))) (n, ((renamed weights δ3-1 (zs2 .1 .1 .1 .1 .0)), ((renamed choices δ3-2 (choices .now)), ((record { ptr = (l7, 0); name = δ3-3; now = (zs2 .1 .1 .1 .1 .1 .0) }), tt)))) tt r)))) (id⊢ 𝓤 _) $ await ! tt $ pick ! (λ r3.
-        split ! $ move ! (1 ∷ []) $ use1 W (some (λ (zs : (Unit {0} × (List ℕ × (List ℕ × (Tally × Unit {0}))))). ‵ (lasts f3.ended ((ν3-1 ∷ []), ((ν3-2 ∷ []), ((ν3-3 ∷ []), tt))) (n, ((renamed weights δ3-1 (zs2 .1 .1 .1 .1 .0)), ((renamed choices δ3-2 (choices .now)), ((record { ptr = (l7, 0); name = δ3-3; now = (zs2 .1 .1 .1 .1 .1 .0) }), tt)))) zs) ⊛ raw (fact 𝓤 (Rounds.left (zs .1 .0) (zs .1 .1 .0) (counted (zs .1 .1 .1 .0)) ≡ Rounds.rounds 0 (length (choices .now)) (subsets 3 n) (zs2 .1 .1 .1 .1 .0) (counted (zs2 .1 .1 .1 .1 .1 .0)))))) (id⊢ 𝓤 _) $ pick ! (λ zs3.
-        split ! $ move ! (1 ∷ []) $ heard ! (Rounds.left (zs3 .1 .0) (zs3 .1 .1 .0) (counted (zs3 .1 .1 .1 .0)) ≡ Rounds.rounds 0 (length (choices .now)) (subsets 3 n) (zs2 .1 .1 .1 .1 .0) (counted (zs2 .1 .1 .1 .1 .1 .0))) (λ e3. fsplit ! $ drop ! $ fsplit ! $ fsplit ! $ move ! (1 ∷ []) $ feqL ! (λ long3-1. move ! (1 ∷ []) $ fsplit ! $ fsplit ! $ move ! (1 ∷ []) $ feqL ! (λ long3-2. move ! (1 ∷ []) $ fsplit ! $ move ! (1 ∷ []) $ drop ! $
+        split ! $ move ! (1 ∷ []) $ use1 W (some (λ (zs : (Unit {0} × (List ℕ × (List ℕ × (Tally × Unit {0}))))). ‵ (lasts f3.ended ((ν3-1 ∷ []), ((ν3-2 ∷ []), ((ν3-3 ∷ []), tt))) (n, ((renamed weights δ3-1 (zs2 .1 .1 .1 .1 .0)), ((renamed choices δ3-2 (choices .now)), ((record { ptr = (l7, 0); name = δ3-3; now = (zs2 .1 .1 .1 .1 .1 .0) }), tt)))) zs) ⊛ raw (fact 𝓤 (Rounds.left (zs .1 .0) (zs .1 .1 .0) (counted (zs .1 .1 .1 .0)) ≡ Rounds.rounds noFloor (length (choices .now)) (order (upToThree n)) (zs2 .1 .1 .1 .1 .0) (counted (zs2 .1 .1 .1 .1 .1 .0)))))) (id⊢ 𝓤 _) $ pick ! (λ zs3.
+        split ! $ move ! (1 ∷ []) $ heard ! (Rounds.left (zs3 .1 .0) (zs3 .1 .1 .0) (counted (zs3 .1 .1 .1 .0)) ≡ Rounds.rounds noFloor (length (choices .now)) (order (upToThree n)) (zs2 .1 .1 .1 .1 .0) (counted (zs2 .1 .1 .1 .1 .1 .0))) (λ e3. fsplit ! $ drop ! $ fsplit ! $ fsplit ! $ move ! (1 ∷ []) $ feqL ! (λ long3-1. move ! (1 ∷ []) $ fsplit ! $ fsplit ! $ move ! (1 ∷ []) $ feqL ! (λ long3-2. move ! (1 ∷ []) $ fsplit ! $ move ! (1 ∷ []) $ drop ! $
         move ! (3 ∷ []) $ split ! $ move ! (1 ∷ []) $ feqL ! (λ got3. split ! $ move ! (1 ∷ []) $ split ! $ move ! (1 ∷ []) $ split ! $ move ! (1 ∷ []) $ drop ! $
         land ! (from ! (stop !)) (store ! 31 refl (subst (λ (y : Val). Holds (hasTy tyUnit y) × WT y) (sym (ap only got3)) (tt, tt))) $
         move ! (2 ∷ []) $ lft-end ! tt $ move ! (0 ∷ 8 ∷ 5 ∷ []) $ use3 W (later (‵ (MutSlice (named 3) κ3 u32 .own (renamed weights (weights .name) (zs3 .1 .0)) ((sliceVal (weights .ptr) (length (weights .now))) ∷ [])) ⊛ ‵ (flft κ3 q3))) (again-back u32 κ3 (ν3-1 ∷ []) q3 (weights .name) (weights .ptr .0) (weights .ptr .1) 𝓤 H A W (named 3) (named 3) ((sliceVal (weights .ptr) (length (weights .now))) ∷ []) (zs2 .1 .1 .1 .1 .0) δ3-1 (zs3 .1 .0) (ap (λ (c : ℕ). sliceVal (weights .ptr) c ∷ []) (sym long2-4)) (subst (Room u32) (sym long2-4) weights-room) long3-1) $ await ! tt $ split ! $
@@ -173,7 +173,7 @@ module _ {M : Type 1} (𝓤 : URA M) (H : Heap 𝓤) (A : Atoms 𝓤) (W : Given
 module _ {M : Type 1} (𝓤 : URA M) (H : Heap 𝓤) (A : Atoms 𝓤) (W : Given 𝓤 H A) (at-mem : Memory → SProp 𝓤) (run : Routine → Fun 𝓤) where
   walks : (𝓣 : Tables 𝓤 H) → Triple 𝓤 (𝓣 .C #f1) (F1 𝓤 H A at-mem run) → Triple 𝓤 (𝓣 .C #f2) (F2 𝓤 H A at-mem run) → Triple 𝓤 (𝓣 .C #f3) (F3 𝓤 H A at-mem run) → Walks 𝓤 H A me.ended stayed (WpFn 𝓤 H (𝓣 .C) (𝓣 .Λ) code.function) (me.clauses 𝓤 H A at-mem run)
   walks 𝓣 known-f1 known-f2 known-f3 = walked 𝓤 H A me.ended stayed (me.clauses 𝓤 H A at-mem run) (WpFn 𝓤 H (𝓣 .C) (𝓣 .Λ) code.function) (λ κs. (uint-vals w64, (slice-vals, (slice-vals, (slice-vals, (slice-vals, (slice-vals, tt))))))) (λ κs. (uint-tells w64, (shr-slice-tells (named 0) (κs .0) u8, (shr-slice-tells (named 1) (κs .1 .0) u16, (shr-slice-tells (named 2) (κs .1 .1 .0) u16, (mut-slice-tells (named 3) (κs .1 .1 .1 .0) u32, (mut-slice-tells (named 4) (κs .1 .1 .1 .1 .0) u32, tt)))))))
-      (λ κs qs bounds a g are. needs 𝓤 (Stepping (a .0) (a .1 .0 .now) (a .1 .1 .0 .now) (a .1 .1 .1 .0 .now) (a .1 .1 .1 .1 .0 .now) (a .1 .1 .1 .1 .1 .0 .now)) _ (walk 𝓤 H A W at-mem run (κs .0) (κs .1 .0) (κs .1 .1 .0) (κs .1 .1 .1 .0) (κs .1 .1 .1 .1 .0) bounds (qs .0) (qs .1 .0) (qs .1 .1 .0) (qs .1 .1 .1 .0) (qs .1 .1 .1 .1 .0) (a .0) (a .1 .0) (a .1 .1 .0) (a .1 .1 .1 .0) (a .1 .1 .1 .1 .0) (a .1 .1 .1 .1 .1 .0) (are .0 .1) (are .1 .0 .0 .1) (are .1 .1 .0 .0 .1) (are .1 .1 .1 .0 .0 .1) (are .1 .1 .1 .1 .0 .0 .1) (are .1 .1 .1 .1 .1 .0 .0 .1) 𝓣 known-f1 known-f2 known-f3))
+      (λ κs qs bounds a g are. needs 𝓤 (Stepping (request (a .0) (a .1 .0 .now) (a .1 .1 .0 .now) (a .1 .1 .1 .0 .now)) (a .1 .1 .1 .1 .0 .now) (a .1 .1 .1 .1 .1 .0 .now)) _ (walk 𝓤 H A W at-mem run (κs .0) (κs .1 .0) (κs .1 .1 .0) (κs .1 .1 .1 .0) (κs .1 .1 .1 .1 .0) bounds (qs .0) (qs .1 .0) (qs .1 .1 .0) (qs .1 .1 .1 .0) (qs .1 .1 .1 .1 .0) (a .0) (a .1 .0) (a .1 .1 .0) (a .1 .1 .1 .0) (a .1 .1 .1 .1 .0) (a .1 .1 .1 .1 .1 .0) (are .0 .1) (are .1 .0 .0 .1) (are .1 .1 .0 .0 .1) (are .1 .1 .1 .0 .0 .1) (are .1 .1 .1 .1 .0 .0 .1) (are .1 .1 .1 .1 .1 .0 .0 .1) 𝓣 known-f1 known-f2 known-f3))
 
   meets : (𝓣 : Tables 𝓤 H) → Triple 𝓤 (𝓣 .C #f1) (F1 𝓤 H A at-mem run) → Triple 𝓤 (𝓣 .C #f2) (F2 𝓤 H A at-mem run) → Triple 𝓤 (𝓣 .C #f3) (F3 𝓤 H A at-mem run) → Meets 𝓤 H A me.signature (WpFn 𝓤 H (𝓣 .C) (𝓣 .Λ) code.function) (me.spec 𝓤 H A at-mem run)
   meets 𝓣 known-f1 known-f2 known-f3 =

@@ -1,6 +1,6 @@
 -- `planner::turned_back` meets its contract. Assumes nothing.
 use mathlib.Core.Path.{refl}
-use Rattle.planner.specs.Said.{answerOf}
+use Rattle.planner.specs.Answers.{answerOf}
 use Rattle.planner.proofs.turned_back.Statement.{statement}
 use Rattle.planner.proofs.turned_back.Tie as tie
 

@@ -2,11 +2,12 @@
 use Rattle.lending.proofs.Walking.{_≡_, refl, ap, subst, [], _∷_, List, ℕ, _<_, _^_, length, lit<, URA, fullShare, named, w64, Val, vint, SProp, ent, id⊢, via, emp, fst∗, Lft, Share, GName, ftrue, fat, flft, flent, Memory, Routine, Heap, Calls, Loops, WpFn, Tables, Atoms, Fun, fact, AllOutlive, givenOf, tables, tablesOf, Given, ‵, raw, some, later, _⊛_, ⋆, Item, _$_, _∵_, !, qed, by, move, keep, drop, use1, use2, use3, cut, split, join, pick, rewrite, fsplit, fjoin, feqL, suffices, frame, await, done, look, init, store, forget, stop, hop, fld, from, load, lit, addr, of-opd, and-then, no-more, land, assigns, first, returns, enter, alloc1, alloc0, params1, pass1, pass0, free1, free0, agg, whole, sub, look-in, lft-new, lft-end, FmC, fmOf, WpFn-mono, RattleType, owns, Is, shows, lone, uint-vals, uint-tells, uint-makes, u8, u16, u32, usize, RefT, sliceVal, MutSlice, ShrSlice, Room, slice-vals, mut-slice-tells, shr-slice-tells, shr-slice-copy, plain, shrSliceOf, Held, only, owned, facts, heard, nothing, onEntry, Meets, tripleOf, Contract, Triple, calls-at, ensured, lasts, entered, cited, says, Stays, stay-dropped, stay-slice, walkOf, goes-dropped, goes-slice, Walks, ends-at, walked, walk-meets, yes, renamed, LentAgain, again-out, again-back, array-out, array-back, Row, rowVal, row-tells, row-makes, row-typed}
 use denote.Struct.Laws as LL
 use denote.Enum.Laws as EL
-use Rattle.refusal.specs.Answer.{outcome, finished}
-use Rattle.planner.specs.Said.{answerOf}
-use Rattle.exchange.specs.Planning.{lent, planning, Plan}
+use Rattle.refusal.specs.Answer.{outcome}
+use Rattle.planner.specs.Answers.{answerOf}
+use Rattle.exchange.specs.Planning.{lent, planning}
+use Rattle.exchange.specs.Input.{request}
 use lib.ListN.{replicate}
-use Rattle.exchange.specs.Promises.{Guarantee}
+use Rattle.exchange.specs.Promises.{PlansRightly}
 use Rattle.pools.proofs.Lent.{with-records}
 use Rattle.pools.specs.declared.Planned.{Planned}
 use Rattle.pools.proofs.Planned as Planned-row
@@ -65,7 +66,7 @@ module _ {M : Type 1} (𝓤 : URA M) (H : Heap 𝓤) (A : Atoms 𝓤) (W : Given
   abbrev Post : Val → SProp 𝓤
   Post = walkOf 𝓤 H A me.ended stayed (me.clauses 𝓤 H A at-mem run) .post (((κ0, (κ1, (κ2, (κ3, (κ4, (κ5, (κ6, tt))))))), (q0, (q1, (q2, (q3, (q4, (q5, (q6, tt))))))), bounds, x, at), tt)
 
-  exits : (r : Planned) (r-fits : Is R-Planned r ((Planned-laws.lowered r) ∷ [])) (weights′ : List ℕ) (choices′ : List ℕ) (donors′ : List ℕ) (recipients′ : List ℕ) → outcome (answerOf (r .answer)) (lent weights′ choices′ donors′ recipients′ (r .records)) ≡ planning n (m .now) (w .now) (shuffle .now) (lent (weights .now) (choices .now) (donors .now) (recipients .now) (replicate 101 (record { first = 99; second = 99; third = 99 }))) → (length weights′) ≡ (length (weights .now)) → (length choices′) ≡ (length (choices .now)) → (length donors′) ≡ (length (donors .now)) → (length recipients′) ≡ (length (recipients .now))
+  exits : (r : Planned) (r-fits : Is R-Planned r ((Planned-laws.lowered r) ∷ [])) (weights′ : List ℕ) (choices′ : List ℕ) (donors′ : List ℕ) (recipients′ : List ℕ) → outcome (answerOf (r .answer)) ((lent weights′ choices′ donors′ recipients′) (r .records)) ≡ planning (request n (m .now) (w .now) (shuffle .now)) ((lent (weights .now) (choices .now) (donors .now) (recipients .now)) (replicate 101 (record { first = 99; second = 99; third = 99 }))) → (length weights′) ≡ (length (weights .now)) → (length choices′) ≡ (length (choices .now)) → (length donors′) ≡ (length (donors .now)) → (length recipients′) ≡ (length (recipients .now))
       → ent 𝓤 (⋆ 𝓤 H A (‵ (flft κ0 q0) ∷ ‵ (flft κ1 q1) ∷ ‵ (flft κ2 q2) ∷ ‵ (flft κ3 q3) ∷ ‵ (flft κ4 q4) ∷ ‵ (flft κ5 q5) ∷ ‵ (flft κ6 q6) ∷ ‵ (MutSlice (named 3) κ3 u32 .own (renamed weights (weights .name) weights′) ((sliceVal (weights .ptr) (length (weights .now))) ∷ [])) ∷ ‵ (MutSlice (named 4) κ4 u32 .own (renamed choices (choices .name) choices′) ((sliceVal (choices .ptr) (length (choices .now))) ∷ [])) ∷ ‵ (MutSlice (named 5) κ5 u16 .own (renamed donors (donors .name) donors′) ((sliceVal (donors .ptr) (length (donors .now))) ∷ [])) ∷ ‵ (MutSlice (named 6) κ6 u16 .own (renamed recipients (recipients .name) recipients′) ((sliceVal (recipients .ptr) (length (recipients .now))) ∷ [])) ∷ [])) (Post (Planned-laws.lowered r))
   exits r r-fits weights′ choices′ donors′ recipients′ e long-weights long-choices long-donors long-recipients =
       qed W (‵ (flft κ0 q0) ∷ ‵ (flft κ1 q1) ∷ ‵ (flft κ2 q2) ∷ ‵ (flft κ3 q3) ∷ ‵ (flft κ4 q4) ∷ ‵ (flft κ5 q5) ∷ ‵ (flft κ6 q6) ∷ ‵ (MutSlice (named 3) κ3 u32 .own (renamed weights (weights .name) weights′) ((sliceVal (weights .ptr) (length (weights .now))) ∷ [])) ∷ ‵ (MutSlice (named 4) κ4 u32 .own (renamed choices (choices .name) choices′) ((sliceVal (choices .ptr) (length (choices .now))) ∷ [])) ∷ ‵ (MutSlice (named 5) κ5 u16 .own (renamed donors (donors .name) donors′) ((sliceVal (donors .ptr) (length (donors .now))) ∷ [])) ∷ ‵ (MutSlice (named 6) κ6 u16 .own (renamed recipients (recipients .name) recipients′) ((sliceVal (recipients .ptr) (length (recipients .now))) ∷ [])) ∷ []) ∵
@@ -158,8 +159,8 @@ module _ {M : Type 1} (𝓤 : URA M) (H : Heap 𝓤) (A : Atoms 𝓤) (W : Given
         move ! (23 ∷ 22 ∷ 21 ∷ 14 ∷ 11 ∷ 8 ∷ 5 ∷ 2 ∷ 19 ∷ 17 ∷ 15 ∷ 12 ∷ 9 ∷ 6 ∷ 3 ∷ 0 ∷ []) $ cut (asked-2 n n-fits ν2-4 δ2-4 (weights .now) ν2-5 δ2-5 (choices .now) ν2-6 δ2-6 (donors .now) ν2-7 δ2-7 (recipients .now) ν2-8 δ2-8 l9 r1) (raw (F2 𝓤 H A at-mem run .pre (to-2 n n-fits ν2-4 δ2-4 (weights .now) ν2-5 δ2-5 (choices .now) ν2-6 δ2-6 (donors .now) ν2-7 δ2-7 (recipients .now) ν2-8 δ2-8 l9 r1)) ∷ []) _ (goes-2 n n-fits ν2-4 δ2-4 (weights .now) ν2-5 δ2-5 (choices .now) ν2-6 δ2-6 (donors .now) ν2-7 δ2-7 (recipients .now) ν2-8 δ2-8 l9 r1) $
         calls-at ! fm (F2 𝓤 H A at-mem run) known-f2 (to-2 n n-fits ν2-4 δ2-4 (weights .now) ν2-5 δ2-5 (choices .now) ν2-6 δ2-6 (donors .now) ν2-7 δ2-7 (recipients .now) ν2-8 δ2-8 l9 r1) (and-then ! (load ! (from ! (stop !)) (look ! 48 refl)) (and-then ! (load ! (from ! (stop !)) (look ! 46 refl)) (and-then ! (load ! (from ! (stop !)) (look ! 44 refl)) (and-then ! (load ! (from ! (stop !)) (look ! 42 refl)) (and-then ! (load ! (from ! (stop !)) (look ! 25 refl)) (and-then ! (load ! (from ! (stop !)) (look ! 21 refl)) (and-then ! (load ! (from ! (stop !)) (look ! 17 refl)) (and-then ! (load ! (from ! (stop !)) (look ! 13 refl)) (and-then ! (load ! (from ! (stop !)) (look ! 9 refl)) (no-more !)))))))))) (λ v2.
         use1 W (later (some (λ (r : Planning). ((‵ (flft κ0 q0) ⊛ ‵ (flft κ1 q1) ⊛ ‵ (flft κ2 q2) ⊛ ‵ (flft (ν2-4 ∷ []) fullShare) ⊛ ‵ (flft (ν2-5 ∷ []) fullShare) ⊛ ‵ (flft (ν2-6 ∷ []) fullShare) ⊛ ‵ (flft (ν2-7 ∷ []) fullShare) ⊛ ‵ (flft (ν2-8 ∷ []) fullShare) ⊛ ‵ ftrue) ⊛ ‵ (R-Planning .own r (v2 ∷ []))) ⊛ raw (ensured 𝓤 H A f2.ended (f2.clauses 𝓤 H A at-mem run) (κ0, (κ1, (κ2, ((ν2-4 ∷ []), ((ν2-5 ∷ []), ((ν2-6 ∷ []), ((ν2-7 ∷ []), ((ν2-8 ∷ []), tt)))))))) (n, (m, (w, (shuffle, ((renamed weights δ2-4 (weights .now)), ((renamed choices δ2-5 (choices .now)), ((renamed donors δ2-6 (donors .now)), ((renamed recipients δ2-7 (recipients .now)), ((record { ptr = (l9, 0); name = δ2-8; now = r1 }), tt))))))))) tt r)))) (id⊢ 𝓤 _) $ await ! tt $ pick ! (λ r2.
-        split ! $ move ! (1 ∷ []) $ use1 W (some (λ (zs : (Unit {0} × (Unit {0} × (Unit {0} × (Unit {0} × (List ℕ × (List ℕ × (List ℕ × (List ℕ × (List Cycle × Unit {0})))))))))). ‵ (lasts f2.ended (κ0, (κ1, (κ2, ((ν2-4 ∷ []), ((ν2-5 ∷ []), ((ν2-6 ∷ []), ((ν2-7 ∷ []), ((ν2-8 ∷ []), tt)))))))) (n, (m, (w, (shuffle, ((renamed weights δ2-4 (weights .now)), ((renamed choices δ2-5 (choices .now)), ((renamed donors δ2-6 (donors .now)), ((renamed recipients δ2-7 (recipients .now)), ((record { ptr = (l9, 0); name = δ2-8; now = r1 }), tt))))))))) zs) ⊛ raw (fact 𝓤 (outcome (answerOf r2) (lent (zs .1 .1 .1 .1 .0) (zs .1 .1 .1 .1 .1 .0) (zs .1 .1 .1 .1 .1 .1 .0) (zs .1 .1 .1 .1 .1 .1 .1 .0) (zs .1 .1 .1 .1 .1 .1 .1 .1 .0)) ≡ planning n (m .now) (w .now) (shuffle .now) (lent (weights .now) (choices .now) (donors .now) (recipients .now) r1))) ⊛ raw (fact 𝓤 (((p : Plan) → answerOf r2 ≡ finished p → Guarantee n (m .now) (w .now) (shuffle .now) p (lent (zs .1 .1 .1 .1 .0) (zs .1 .1 .1 .1 .1 .0) (zs .1 .1 .1 .1 .1 .1 .0) (zs .1 .1 .1 .1 .1 .1 .1 .0) (zs .1 .1 .1 .1 .1 .1 .1 .1 .0))))))) (id⊢ 𝓤 _) $ pick ! (λ zs2.
-        split ! $ move ! (1 ∷ []) $ split ! $ heard ! (outcome (answerOf r2) (lent (zs2 .1 .1 .1 .1 .0) (zs2 .1 .1 .1 .1 .1 .0) (zs2 .1 .1 .1 .1 .1 .1 .0) (zs2 .1 .1 .1 .1 .1 .1 .1 .0) (zs2 .1 .1 .1 .1 .1 .1 .1 .1 .0)) ≡ planning n (m .now) (w .now) (shuffle .now) (lent (weights .now) (choices .now) (donors .now) (recipients .now) r1)) (λ e2-0. heard ! (((p : Plan) → answerOf r2 ≡ finished p → Guarantee n (m .now) (w .now) (shuffle .now) p (lent (zs2 .1 .1 .1 .1 .0) (zs2 .1 .1 .1 .1 .1 .0) (zs2 .1 .1 .1 .1 .1 .1 .0) (zs2 .1 .1 .1 .1 .1 .1 .1 .0) (zs2 .1 .1 .1 .1 .1 .1 .1 .1 .0)))) (λ e2-1. fsplit ! $ drop ! $ fsplit ! $ drop ! $ fsplit ! $ drop ! $ fsplit ! $ drop ! $ fsplit ! $ fsplit ! $ move ! (1 ∷ []) $ feqL ! (λ long2-4. move ! (1 ∷ []) $ fsplit ! $ fsplit ! $ move ! (1 ∷ []) $ feqL ! (λ long2-5. move ! (1 ∷ []) $ fsplit ! $ fsplit ! $ move ! (1 ∷ []) $ feqL ! (λ long2-6. move ! (1 ∷ []) $ fsplit ! $ fsplit ! $ move ! (1 ∷ []) $ feqL ! (λ long2-7. move ! (1 ∷ []) $ fsplit ! $ fsplit ! $ move ! (1 ∷ []) $ feqL ! (λ long2-8. move ! (1 ∷ []) $ drop ! $
+        split ! $ move ! (1 ∷ []) $ use1 W (some (λ (zs : (Unit {0} × (Unit {0} × (Unit {0} × (Unit {0} × (List ℕ × (List ℕ × (List ℕ × (List ℕ × (List Cycle × Unit {0})))))))))). ‵ (lasts f2.ended (κ0, (κ1, (κ2, ((ν2-4 ∷ []), ((ν2-5 ∷ []), ((ν2-6 ∷ []), ((ν2-7 ∷ []), ((ν2-8 ∷ []), tt)))))))) (n, (m, (w, (shuffle, ((renamed weights δ2-4 (weights .now)), ((renamed choices δ2-5 (choices .now)), ((renamed donors δ2-6 (donors .now)), ((renamed recipients δ2-7 (recipients .now)), ((record { ptr = (l9, 0); name = δ2-8; now = r1 }), tt))))))))) zs) ⊛ raw (fact 𝓤 (PlansRightly (request n (m .now) (w .now) (shuffle .now)) (lent (weights .now) (choices .now) (donors .now) (recipients .now) r1) (outcome (answerOf r2) (lent (zs .1 .1 .1 .1 .0) (zs .1 .1 .1 .1 .1 .0) (zs .1 .1 .1 .1 .1 .1 .0) (zs .1 .1 .1 .1 .1 .1 .1 .0) (zs .1 .1 .1 .1 .1 .1 .1 .1 .0))))))) (id⊢ 𝓤 _) $ pick ! (λ zs2.
+        split ! $ move ! (1 ∷ []) $ heard ! (PlansRightly (request n (m .now) (w .now) (shuffle .now)) (lent (weights .now) (choices .now) (donors .now) (recipients .now) r1) (outcome (answerOf r2) (lent (zs2 .1 .1 .1 .1 .0) (zs2 .1 .1 .1 .1 .1 .0) (zs2 .1 .1 .1 .1 .1 .1 .0) (zs2 .1 .1 .1 .1 .1 .1 .1 .0) (zs2 .1 .1 .1 .1 .1 .1 .1 .1 .0)))) (λ e2. fsplit ! $ drop ! $ fsplit ! $ drop ! $ fsplit ! $ drop ! $ fsplit ! $ drop ! $ fsplit ! $ fsplit ! $ move ! (1 ∷ []) $ feqL ! (λ long2-4. move ! (1 ∷ []) $ fsplit ! $ fsplit ! $ move ! (1 ∷ []) $ feqL ! (λ long2-5. move ! (1 ∷ []) $ fsplit ! $ fsplit ! $ move ! (1 ∷ []) $ feqL ! (λ long2-6. move ! (1 ∷ []) $ fsplit ! $ fsplit ! $ move ! (1 ∷ []) $ feqL ! (λ long2-7. move ! (1 ∷ []) $ fsplit ! $ fsplit ! $ move ! (1 ∷ []) $ feqL ! (λ long2-8. move ! (1 ∷ []) $ drop ! $
         move ! (5 ∷ []) $ split ! $ move ! (1 ∷ []) $ facts ! R-Planning (Is R-Planning) (shows 𝓤 H A R-Planning) r2 (v2 ∷ []) (λ got2. split ! $ move ! (1 ∷ []) $ split ! $ move ! (1 ∷ []) $ split ! $ move ! (1 ∷ []) $ split ! $ move ! (1 ∷ []) $ split ! $ move ! (1 ∷ []) $ split ! $ move ! (1 ∷ []) $ split ! $ move ! (1 ∷ []) $ split ! $ move ! (1 ∷ []) $ drop ! $
         land ! (from ! (stop !)) (init ! 43 refl (EL.lawful Planning-row.the-type Planning-laws.the-laws 𝓤 H A W tt .typed r2 _ got2 .0)) $ rewrite ! 43 (λ (u : Val). ‵ (fat fullShare Planning-laws.mir l10 0 u)) (ap only (Planning-laws.lowers .val-is r2 _ got2)) refl $
         move ! (4 ∷ []) $ lft-end ! tt $ move ! (0 ∷ 17 ∷ 12 ∷ []) $ use3 W (later (‵ (MutSlice (named 3) κ3 u32 .own (renamed weights (weights .name) (zs2 .1 .1 .1 .1 .0)) ((sliceVal (weights .ptr) (length (weights .now))) ∷ [])) ⊛ ‵ (flft κ3 q3))) (again-back u32 κ3 (ν2-4 ∷ []) q3 (weights .name) (weights .ptr .0) (weights .ptr .1) 𝓤 H A W (named 3) (named 3) ((sliceVal (weights .ptr) (length (weights .now))) ∷ []) (weights .now) δ2-4 (zs2 .1 .1 .1 .1 .0) refl weights-room long2-4) $ await ! tt $ split ! $
@@ -178,7 +179,7 @@ module _ {M : Type 1} (𝓤 : URA M) (H : Heap 𝓤) (A : Atoms 𝓤) (W : Given
         land ! (from ! (stop !)) (init ! 56 refl (LL.lawful Planned-row.the-type Planned-laws.the-laws 𝓤 H A W .typed r3 _ got3 .0)) $ rewrite ! 56 (λ (u : Val). ‵ (fat fullShare Planned-laws.mir l0 0 u)) (ap only (Planned-laws.lowers .val-is r3 _ got3)) refl $
         returns ! (look ! 56 refl) $ forget ! 15 refl $ forget ! 17 refl $ forget ! 19 refl $ forget ! 21 refl $ forget ! 23 refl $ forget ! 25 refl $ forget ! 27 refl $ forget ! 29 refl $ forget ! 31 refl $ forget ! 33 refl $ forget ! 35 refl $ forget ! 37 refl $ forget ! 0 refl $ forget ! 40 refl $ forget ! 42 refl $ forget ! 44 refl $ forget ! 46 refl $ forget ! 48 refl $ forget ! 50 refl $ forget ! 52 refl $ forget ! 54 refl $ forget ! 56 refl $
         move ! (56 ∷ 57 ∷ []) $ free1 ! $ move ! (54 ∷ 55 ∷ []) $ free1 ! $ move ! (52 ∷ 53 ∷ []) $ free1 ! $ move ! (50 ∷ 51 ∷ []) $ free1 ! $ move ! (48 ∷ 49 ∷ []) $ free1 ! $ move ! (46 ∷ 47 ∷ []) $ free1 ! $ move ! (44 ∷ 45 ∷ []) $ free1 ! $ move ! (42 ∷ 43 ∷ []) $ free1 ! $ move ! (40 ∷ 41 ∷ []) $ free1 ! $ move ! (0 ∷ 39 ∷ []) $ free1 ! $ move ! (36 ∷ 37 ∷ []) $ free1 ! $ move ! (34 ∷ 35 ∷ []) $ free1 ! $ move ! (32 ∷ 33 ∷ []) $ free1 ! $ move ! (30 ∷ 31 ∷ []) $ free1 ! $ move ! (28 ∷ 29 ∷ []) $ free1 ! $ move ! (26 ∷ 27 ∷ []) $ free1 ! $ move ! (24 ∷ 25 ∷ []) $ free1 ! $ move ! (22 ∷ 23 ∷ []) $ free1 ! $ move ! (20 ∷ 21 ∷ []) $ free1 ! $ move ! (18 ∷ 19 ∷ []) $ free1 ! $ move ! (16 ∷ 17 ∷ []) $ free1 ! $ move ! (14 ∷ 15 ∷ []) $ free1 ! $ free0 ! $
-        keep ! (10 ∷ 9 ∷ 8 ∷ 7 ∷ 5 ∷ 3 ∷ 1 ∷ 6 ∷ 4 ∷ 2 ∷ 0 ∷ []) $ by ! (exits r3 (subst (Is R-Planned r3) (Planned-laws.lowers .val-is r3 _ got3) got3) (zs2 .1 .1 .1 .1 .0) (zs2 .1 .1 .1 .1 .1 .0) (zs2 .1 .1 .1 .1 .1 .1 .0) (zs2 .1 .1 .1 .1 .1 .1 .1 .0) (with-records n (m .now) (w .now) (shuffle .now) (weights .now) (choices .now) (donors .now) (recipients .now) (zs2 .1 .1 .1 .1 .0) (zs2 .1 .1 .1 .1 .1 .0) (zs2 .1 .1 .1 .1 .1 .1 .0) (zs2 .1 .1 .1 .1 .1 .1 .1 .0) _ _ _ _ _ e1 e3 e2-0) long2-4 long2-5 long2-6 long2-7))))))))))))))))))))))))))))))))))))))))))))))))))))))))
+        keep ! (10 ∷ 9 ∷ 8 ∷ 7 ∷ 5 ∷ 3 ∷ 1 ∷ 6 ∷ 4 ∷ 2 ∷ 0 ∷ []) $ by ! (exits r3 (subst (Is R-Planned r3) (Planned-laws.lowers .val-is r3 _ got3) got3) (zs2 .1 .1 .1 .1 .0) (zs2 .1 .1 .1 .1 .1 .0) (zs2 .1 .1 .1 .1 .1 .1 .0) (zs2 .1 .1 .1 .1 .1 .1 .1 .0) (with-records _ (lent (weights .now) (choices .now) (donors .now) (recipients .now)) (lent (zs2 .1 .1 .1 .1 .0) (zs2 .1 .1 .1 .1 .1 .0) (zs2 .1 .1 .1 .1 .1 .1 .0) (zs2 .1 .1 .1 .1 .1 .1 .1 .0)) _ _ _ _ _ e1 e3 e2) long2-4 long2-5 long2-6 long2-7)))))))))))))))))))))))))))))))))))))))))))))))))))))))
 
 module _ {M : Type 1} (𝓤 : URA M) (H : Heap 𝓤) (A : Atoms 𝓤) (W : Given 𝓤 H A) (at-mem : Memory → SProp 𝓤) (run : Routine → Fun 𝓤) where
   walks : (𝓣 : Tables 𝓤 H) → Triple 𝓤 (𝓣 .C #f1) (F1 𝓤 H A at-mem run) → Triple 𝓤 (𝓣 .C #f2) (F2 𝓤 H A at-mem run) → Triple 𝓤 (𝓣 .C #f3) (F3 𝓤 H A at-mem run) → Walks 𝓤 H A me.ended stayed (WpFn 𝓤 H (𝓣 .C) (𝓣 .Λ) code.function) (me.clauses 𝓤 H A at-mem run)

@@ -1,7 +1,7 @@
 -- `records::write` meets its contract: a walk of its MIR, written by walks/walk.py. Assumes nothing.
 use Rattle.lending.proofs.Walking.{_≡_, refl, sym, ap, subst, Bool, ⊎-elim, WellFounded, InvImage·wf, [], _∷_, List, ℕ, _+_, _-_, _<_, _^_, eq-or-lt-of-le, le-of-eq, lt-of-le-of-lt, add-one-le, arith, length, set, Nat·lt-wfRel, Holds, lit<, lt-ltb, le-ltb, URA, fullShare, named, tyUnit, tyBool, w64, Val, vunit, vbool, vint, hasTy, WT, SProp, ent, id⊢, Lft, Share, GName, ftrue, fat, froom, fdies, flft, Memory, Routine, Heap, Out, Env, afterSeq, afterBlock, Calls, Loops, Wp, atReturn, WpFn, Tables, afterTurn, Atoms, Fun, fact, AllOutlive, givenOf, tables, tablesOf, Given, ‵, raw, some, later, _⊛_, ⋆, Item, Sq, runs, anyQ, atRet, _$_, _∵_, !, qed, by, move, keep, drop, use1, use2, use3, cut, split, join, pick, rewrite, fsplit, fjoin, feqI, feqL, suffices, frame, await, done, look, init, store, forget, stop, hop, fld, from, load, lit, addr, unit-lit, of-opd, bin, and-then, no-more, land, assigns, assigns-last, first, stays, leaves-loop, blocks, exec, Below, again, loops, returns, enter, alloc1, alloc0, params1, pass1, pass0, free1, free0, agg, whole, sub, look-in, lft-new, lft-end, FmC, fmOf, WpFn-mono, RattleType, owns, Is, Nothing, uint-vals, uint-tells, uint-makes, usize, RefT, sliceVal, MutSlice, Room, slice-vals, mut-slice-tells, array-vals, plain, arrayOf, only, owned, heard, nothing, onEntry, Meets, tripleOf, Contract, Triple, calls-at, ensured, lasts, entered, cited, says, needs, Stays, stay-dropped, stay-slice, walkOf, goes-dropped, goes-slice, Walks, ends-at, walked, walk-meets, yes, renamed, tyOf, LentAgain, again-out, again-back, Row, rowVal, row-tells, row-makes, row-typed}
 use denote.Struct.Laws as LL
-use Rattle.records.specs.Held.{Writable, Puttable, recordAt}
+use Rattle.records.specs.Copying.{Writable, Puttable, recordAt}
 use Rattle.laws.specs.Lent.{filled}
 use lib.ListN.{take}
 use Rattle.records.proofs.Written.{Written, written-none, written-long, written-asks, written-next, written-all}

@@ -1,6 +1,6 @@
 -- `resolution::cycle_at` meets its contract. Assumes nothing.
 use native.Mathlib.Omega.{arith}
-use Rattle.evaluation.specs.Readable.{weightOf}
+use Rattle.entries.specs.Preconditions.{weightOf}
 use Rattle.evaluation.proofs.Subsets.{asks-two, asks-triple}
 use Rattle.resolution.proofs.Cyclic.{is-two, is-first, is-second, giving-two, giving-three}
 use borrow.Author.Needs.{needs}

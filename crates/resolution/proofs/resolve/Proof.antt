@@ -1,13 +1,13 @@
--- `resolution::resolve` meets its contract. The loop's invariant is `Turned`. Assumes nothing.
+-- `resolution::resolve` meets its contract. The loop's invariant is `BeforeChoice`. Assumes nothing.
 use Prim.Native.Nat.{_-_}
 use native.Mathlib.Omega.{arith}
 use lib.ListN.{length}
-use Rattle.resolution.proofs.AllResolved.{Turned, begins, donors-kept, recipients-kept, ends, turns-few, asks-one, again}
+use Rattle.resolution.proofs.AllResolved.{BeforeChoice, begins, donors-kept, recipients-kept, ends, turns-few, asks-one, again}
 use Rattle.resolution.proofs.resolve.Statement.{statement}
 use Rattle.resolution.proofs.resolve.Tie as tie
 
 abbrev Inv-loop : tie.InvT-loop
-Inv-loop n m w s choices donors₀ recipients₀ resolved₀ k₀ donors recipients resolved k = Turned n m w s choices donors recipients resolved k
+Inv-loop n m w s choices donors₀ recipients₀ resolved₀ k₀ donors recipients resolved k = BeforeChoice n m w s choices donors recipients resolved k
 
 abbrev μ-loop : tie.MeasureT-loop
 μ-loop n m w s choices donors₀ recipients₀ resolved₀ k₀ donors recipients resolved k = length choices - k

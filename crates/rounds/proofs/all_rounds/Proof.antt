@@ -1,14 +1,15 @@
 -- `rounds::all_rounds` meets its contract: a walk of its MIR, written by walks/walk.py. Assumes nothing.
 use Rattle.lending.proofs.Walking.{_≡_, refl, sym, ap, subst, Bool, ⊎-elim, WellFounded, InvImage·wf, [], _∷_, List, ℕ, _+_, _-_, _<_, _^_, eq-or-lt-of-le, le-of-eq, lt-of-le-of-lt, add-one-le, arith, length, set, Nat·lt-wfRel, Holds, lit<, lt-ltb, le-ltb, URA, fullShare, named, tyUnit, tyBool, w64, Val, vunit, vbool, vint, vptr, hasTy, WT, SProp, ent, id⊢, Lft, Share, GName, ftrue, fat, froom, fdies, flft, Memory, Routine, Heap, Out, Env, afterSeq, afterBlock, Calls, Loops, Wp, atReturn, WpFn, Tables, afterTurn, Atoms, Fun, fact, AllOutlive, givenOf, tables, tablesOf, Given, ‵, raw, some, later, _⊛_, ⋆, Item, Sq, runs, anyQ, atRet, _$_, _∵_, !, qed, by, move, keep, drop, use1, use2, use3, cut, split, join, pick, rewrite, fsplit, fjoin, feqI, feqL, suffices, frame, await, done, look, init, store, forget, stop, hop, fld, from, load, lit, addr, unit-lit, of-opd, bin, and-then, no-more, land, assigns, assigns-last, first, stays, leaves-loop, blocks, exec, Below, again, loops, returns, enter, alloc1, alloc0, params1, pass1, pass0, free1, free0, agg, whole, sub, look-in, lft-new, lft-end, FmC, fmOf, WpFn-mono, RattleType, owns, Is, shows, Nothing, uint-vals, uint-tells, uint-makes, u32, usize, RefT, MutRef, ptr-vals, mut-tells, sliceVal, MutSlice, ShrSlice, Room, slice-vals, mut-slice-tells, plain, LentRef, lends-again, comes-back, only, owned, facts, heard, nothing, onEntry, Meets, tripleOf, Contract, Triple, calls-at, ensured, lasts, entered, cited, says, needs, Stays, stay-dropped, stay-ref, stay-slice, walkOf, goes-dropped, goes-ref, goes-slice, Walks, ends-at, walked, walk-meets, yes, renamed, tyOf, less-fits, LentAgain, again-out, again-back, LentShared, shared-out, shared-back}
 use denote.Struct.Laws as LL
-use Rattle.rounds.specs.Rounding.{Rounding}
+use Rattle.rounds.specs.Preconditions.{Rounding}
+use Rattle.exchange.specs.Subsets.{upToThree, order}
 use Rattle.greedy.specs.Rounds as Rounds
 use Rattle.gates.specs.Counts.{counted}
-use Rattle.exchange.specs.Subsets.{subsets}
+use Rattle.exchange.specs.Input.{noFloor}
 use Rattle.choosing.specs.Parts.{Turn, choiceOf}
 use Rattle.cursor.specs.Cursor.{shown, placesAt, subsetAt}
-use Rattle.clearing.specs.Clearing.{Clearing}
-use Rattle.rounds.proofs.Turns.{Turned, begins, ends, asks-choose, asks-clear, next}
+use Rattle.clearing.specs.Preconditions.{Clearing}
+use Rattle.rounds.proofs.Turns.{BeforeRound, begins, ends, asks-choose, asks-clear, next}
 use Rattle.gates.specs.declared.Tally.{Tally}
 use Rattle.gates.proofs.Tally as Tally-row
 use Rattle.gates.proofs.Tally.Laws as Tally-laws
@@ -54,7 +55,7 @@ module _ {M : Type 1} (𝓤 : URA M) (H : Heap 𝓤) (A : Atoms 𝓤) (W : Given
   abbrev Post : Val → SProp 𝓤
   Post = walkOf 𝓤 H A me.ended stayed (me.clauses 𝓤 H A at-mem run) .post (((κ0, (κ1, (κ2, tt))), (q0, (q1, (q2, tt))), bounds, x, at), tt)
 
-  exits : (weights′ : List ℕ) (choices′ : List ℕ) (tally′ : Tally) → Rounds.left weights′ choices′ (counted tally′) ≡ Rounds.rounds 0 (length (choices .now)) (subsets 3 n) (weights .now) (counted (tally .now)) → (length weights′) ≡ (length (weights .now)) → (length choices′) ≡ (length (choices .now))
+  exits : (weights′ : List ℕ) (choices′ : List ℕ) (tally′ : Tally) → Rounds.left weights′ choices′ (counted tally′) ≡ Rounds.rounds noFloor (length (choices .now)) (order (upToThree n)) (weights .now) (counted (tally .now)) → (length weights′) ≡ (length (weights .now)) → (length choices′) ≡ (length (choices .now))
       → ent 𝓤 (⋆ 𝓤 H A (‵ (flft κ0 q0) ∷ ‵ (flft κ1 q1) ∷ ‵ (flft κ2 q2) ∷ ‵ (MutSlice (named 0) κ0 u32 .own (renamed weights (weights .name) weights′) ((sliceVal (weights .ptr) (length (weights .now))) ∷ [])) ∷ ‵ (MutSlice (named 1) κ1 u32 .own (renamed choices (choices .name) choices′) ((sliceVal (choices .ptr) (length (choices .now))) ∷ [])) ∷ ‵ (MutRef (named 2) κ2 R-Tally .own (renamed tally (tally .name) tally′) ((vptr (tally .ptr .0) (tally .ptr .1)) ∷ [])) ∷ [])) (Post vunit)
   exits weights′ choices′ tally′ e long-weights long-choices =
       qed W (‵ (flft κ0 q0) ∷ ‵ (flft κ1 q1) ∷ ‵ (flft κ2 q2) ∷ ‵ (MutSlice (named 0) κ0 u32 .own (renamed weights (weights .name) weights′) ((sliceVal (weights .ptr) (length (weights .now))) ∷ [])) ∷ ‵ (MutSlice (named 1) κ1 u32 .own (renamed choices (choices .name) choices′) ((sliceVal (choices .ptr) (length (choices .now))) ∷ [])) ∷ ‵ (MutRef (named 2) κ2 R-Tally .own (renamed tally (tally .name) tally′) ((vptr (tally .ptr .0) (tally .ptr .1)) ∷ [])) ∷ []) ∵
@@ -69,7 +70,7 @@ module _ {M : Type 1} (𝓤 : URA M) (H : Heap 𝓤) (A : Atoms 𝓤) (W : Given
     abbrev asked-1 : List (Item 𝓤)
     asked-1 = ‵ (flft (ν1 ∷ []) fullShare) ∷ ‵ (flft (ν2 ∷ []) fullShare) ∷ ‵ (flft (ν4 ∷ []) fullShare) ∷ ‵ (ShrSlice (named 0) (ν1 ∷ []) u32 .own (renamed weights δ1 a1) ((sliceVal (weights .ptr) (length (weights .now))) ∷ [])) ∷ ‵ (MutSlice (named 1) (ν2 ∷ []) u32 .own (renamed choices δ2 a2) ((sliceVal (choices .ptr) (length (choices .now))) ∷ [])) ∷ ‵ (MutRef (named 2) (ν4 ∷ []) R-Tally .own (renamed tally δ4 a4) ((vptr (tally .ptr .0) (tally .ptr .1)) ∷ [])) ∷ []
 
-    goes-1 : Turn a0 a1 a2 a3 a4 → ent 𝓤 (⋆ 𝓤 H A asked-1) (F1 𝓤 H A at-mem run .pre to-1)
+    goes-1 : Turn (upToThree a0) a1 a2 a3 a4 → ent 𝓤 (⋆ 𝓤 H A asked-1) (F1 𝓤 H A at-mem run .pre to-1)
     goes-1 needs-these = qed W asked-1 ∵ says ! needs-these $ nothing ! $ move ! (3 ∷ 0 ∷ []) $ join ! $ move ! (2 ∷ 0 ∷ []) $ join ! $ move ! (1 ∷ 0 ∷ []) $ join ! $ frame ! $ nothing ! $ move ! (3 ∷ 0 ∷ []) $ fjoin ! $ owned ! usize (Is usize) (uint-makes 𝓤 H A W w64) a3 _ (refl, fits3) $ fjoin ! $ move ! (2 ∷ 0 ∷ []) $ fjoin ! $ move ! (1 ∷ 0 ∷ []) $ fjoin ! $ owned ! usize (Is usize) (uint-makes 𝓤 H A W w64) a0 _ (refl, fits0) $ fjoin ! $ done !
 
   -- `clear`: what its contract binds, what it asks, and that this is had
@@ -80,10 +81,10 @@ module _ {M : Type 1} (𝓤 : URA M) (H : Heap 𝓤) (A : Atoms 𝓤) (W : Given
     abbrev asked-2 : List (Item 𝓤)
     asked-2 = ‵ (flft (ν1 ∷ []) fullShare) ∷ ‵ (flft (ν4 ∷ []) fullShare) ∷ ‵ (MutSlice (named 0) (ν1 ∷ []) u32 .own (renamed weights δ1 a1) ((sliceVal (weights .ptr) (length (weights .now))) ∷ [])) ∷ ‵ (MutRef (named 1) (ν4 ∷ []) R-Tally .own (renamed tally δ4 a4) ((vptr (tally .ptr .0) (tally .ptr .1)) ∷ [])) ∷ []
 
-    goes-2 : Clearing a0 a1 a4 → ent 𝓤 (⋆ 𝓤 H A asked-2) (F2 𝓤 H A at-mem run .pre to-2)
+    goes-2 : Clearing (upToThree a0) a1 a4 → ent 𝓤 (⋆ 𝓤 H A asked-2) (F2 𝓤 H A at-mem run .pre to-2)
     goes-2 needs-these = qed W asked-2 ∵ says ! needs-these $ nothing ! $ move ! (2 ∷ 0 ∷ []) $ join ! $ move ! (1 ∷ 0 ∷ []) $ join ! $ frame ! $ nothing ! $ move ! (2 ∷ 0 ∷ []) $ fjoin ! $ owned ! usize (Is usize) (uint-makes 𝓤 H A W w64) a3 _ (refl, fits3) $ fjoin ! $ owned ! R-SecretPlaces (Is R-SecretPlaces) (LL.makes SecretPlaces-row.the-type SecretPlaces-laws.the-plain 𝓤 H A) a2 _ fits2 $ fjoin ! $ move ! (1 ∷ 0 ∷ []) $ fjoin ! $ owned ! usize (Is usize) (uint-makes 𝓤 H A W w64) a0 _ (refl, fits0) $ fjoin ! $ done !
 
-  module _ (𝓣 : Tables 𝓤 H) (known-f1 : Triple 𝓤 (𝓣 .C #f1) (F1 𝓤 H A at-mem run)) (known-f2 : Triple 𝓤 (𝓣 .C #f2) (F2 𝓤 H A at-mem run)) (pre : Rounding n (weights .now) (choices .now) (tally .now)) where
+  module _ (𝓣 : Tables 𝓤 H) (known-f1 : Triple 𝓤 (𝓣 .C #f1) (F1 𝓤 H A at-mem run)) (known-f2 : Triple 𝓤 (𝓣 .C #f2) (F2 𝓤 H A at-mem run)) (pre : Rounding (upToThree n) (weights .now) (choices .now) (tally .now)) where
     abbrev C : Calls 𝓤 H
     C = 𝓣 .C
 
@@ -95,7 +96,7 @@ module _ {M : Type 1} (𝓤 : URA M) (H : Heap 𝓤) (A : Atoms 𝓤) (W : Given
 
     -- the loop: a turn is left while i is below (length (choices .now))
     abbrev Upto : Type 0
-    Upto = (i : ℕ) × ((weights′ : List ℕ) × ((choices′ : List ℕ) × ((tally′ : Tally) × (Turned n (weights .now) (choices .now) (tally .now) weights′ choices′ tally′ i))))
+    Upto = (i : ℕ) × ((weights′ : List ℕ) × ((choices′ : List ℕ) × ((tally′ : Tally) × (BeforeRound n (weights .now) (choices .now) (tally .now) weights′ choices′ tally′ i))))
 
     abbrev Nearer : Upto → Upto → Type 0
     Nearer j i = (length (choices .now)) - j .0 < (length (choices .now)) - i .0
@@ -142,8 +143,8 @@ module _ {M : Type 1} (𝓤 : URA M) (H : Heap 𝓤) (A : Atoms 𝓤) (W : Given
           move ! (8 ∷ 5 ∷ 2 ∷ 6 ∷ 3 ∷ 0 ∷ []) $ cut (asked-1 n n-fits ν1-1 δ1-1 (j .1 .0) ν1-2 δ1-2 (j .1 .1 .0) (j .0) (lt-of-le-of-lt ((j .1 .1 .1 .1) .upto) (choices-room .0)) ν1-4 δ1-4 (j .1 .1 .1 .0)) (raw (F1 𝓤 H A at-mem run .pre (to-1 n n-fits ν1-1 δ1-1 (j .1 .0) ν1-2 δ1-2 (j .1 .1 .0) (j .0) (lt-of-le-of-lt ((j .1 .1 .1 .1) .upto) (choices-room .0)) ν1-4 δ1-4 (j .1 .1 .1 .0))) ∷ []) _ (goes-1 n n-fits ν1-1 δ1-1 (j .1 .0) ν1-2 δ1-2 (j .1 .1 .0) (j .0) (lt-of-le-of-lt ((j .1 .1 .1 .1) .upto) (choices-room .0)) ν1-4 δ1-4 (j .1 .1 .1 .0) (asks-choose _ _ _ _ pre _ _ _ _ (j .1 .1 .1 .1) more)) $
           calls-at ! fm (F1 𝓤 H A at-mem run) known-f1 (to-1 n n-fits ν1-1 δ1-1 (j .1 .0) ν1-2 δ1-2 (j .1 .1 .0) (j .0) (lt-of-le-of-lt ((j .1 .1 .1 .1) .upto) (choices-room .0)) ν1-4 δ1-4 (j .1 .1 .1 .0)) (and-then ! (load ! (from ! (stop !)) (look ! 40 refl)) (and-then ! (load ! (from ! (stop !)) (look ! 22 refl)) (and-then ! (load ! (from ! (stop !)) (look ! 18 refl)) (and-then ! (load ! (from ! (stop !)) (look ! 32 refl)) (and-then ! (load ! (from ! (stop !)) (look ! 16 refl)) (no-more !)))))) (λ v1.
           use1 W (later (some (λ (r : SecretPlaces). ((‵ (flft (ν1-1 ∷ []) fullShare) ⊛ ‵ (flft (ν1-2 ∷ []) fullShare) ⊛ ‵ (flft (ν1-4 ∷ []) fullShare) ⊛ ‵ ftrue) ⊛ ‵ (R-SecretPlaces .own r (v1 ∷ []))) ⊛ raw (ensured 𝓤 H A f1.ended (f1.clauses 𝓤 H A at-mem run) ((ν1-1 ∷ []), ((ν1-2 ∷ []), ((ν1-4 ∷ []), tt))) (n, ((renamed weights δ1-1 (j .1 .0)), ((renamed choices δ1-2 (j .1 .1 .0)), ((j .0), ((renamed tally δ1-4 (j .1 .1 .1 .0)), tt))))) tt r)))) (id⊢ 𝓤 _) $ await ! tt $ pick ! (λ r1.
-          split ! $ move ! (1 ∷ []) $ use1 W (some (λ (zs : (Unit {0} × (Unit {0} × (List ℕ × (Unit {0} × (Tally × Unit {0})))))). ‵ (lasts f1.ended ((ν1-1 ∷ []), ((ν1-2 ∷ []), ((ν1-4 ∷ []), tt))) (n, ((renamed weights δ1-1 (j .1 .0)), ((renamed choices δ1-2 (j .1 .1 .0)), ((j .0), ((renamed tally δ1-4 (j .1 .1 .1 .0)), tt))))) zs) ⊛ raw (fact 𝓤 (((zs .1 .1 .0) ≡ set (j .1 .1 .0) (j .0) (choiceOf n (j .1 .0) (j .1 .1 .1 .0) .number)) × (counted (zs .1 .1 .1 .1 .0) ≡ choiceOf n (j .1 .0) (j .1 .1 .1 .0) .tally) × (shown r1 ≡ placesAt n (choiceOf n (j .1 .0) (j .1 .1 .1 .0) .number)))))) (id⊢ 𝓤 _) $ pick ! (λ zs1.
-          split ! $ move ! (1 ∷ []) $ heard ! (((zs1 .1 .1 .0) ≡ set (j .1 .1 .0) (j .0) (choiceOf n (j .1 .0) (j .1 .1 .1 .0) .number)) × (counted (zs1 .1 .1 .1 .1 .0) ≡ choiceOf n (j .1 .0) (j .1 .1 .1 .0) .tally) × (shown r1 ≡ placesAt n (choiceOf n (j .1 .0) (j .1 .1 .1 .0) .number))) (λ e1. fsplit ! $ drop ! $ fsplit ! $ drop ! $ fsplit ! $ fsplit ! $ move ! (1 ∷ []) $ feqL ! (λ long1-2. move ! (1 ∷ []) $ fsplit ! $ drop ! $ fsplit ! $ move ! (1 ∷ []) $ drop ! $
+          split ! $ move ! (1 ∷ []) $ use1 W (some (λ (zs : (Unit {0} × (Unit {0} × (List ℕ × (Unit {0} × (Tally × Unit {0})))))). ‵ (lasts f1.ended ((ν1-1 ∷ []), ((ν1-2 ∷ []), ((ν1-4 ∷ []), tt))) (n, ((renamed weights δ1-1 (j .1 .0)), ((renamed choices δ1-2 (j .1 .1 .0)), ((j .0), ((renamed tally δ1-4 (j .1 .1 .1 .0)), tt))))) zs) ⊛ raw (fact 𝓤 (((zs .1 .1 .0) ≡ set (j .1 .1 .0) (j .0) ((choiceOf (upToThree n) (j .1 .0) (j .1 .1 .1 .0)) .number)) × (counted (zs .1 .1 .1 .1 .0) ≡ (choiceOf (upToThree n) (j .1 .0) (j .1 .1 .1 .0)) .tally) × (shown r1 ≡ placesAt (upToThree n) ((choiceOf (upToThree n) (j .1 .0) (j .1 .1 .1 .0)) .number)))))) (id⊢ 𝓤 _) $ pick ! (λ zs1.
+          split ! $ move ! (1 ∷ []) $ heard ! (((zs1 .1 .1 .0) ≡ set (j .1 .1 .0) (j .0) ((choiceOf (upToThree n) (j .1 .0) (j .1 .1 .1 .0)) .number)) × (counted (zs1 .1 .1 .1 .1 .0) ≡ (choiceOf (upToThree n) (j .1 .0) (j .1 .1 .1 .0)) .tally) × (shown r1 ≡ placesAt (upToThree n) ((choiceOf (upToThree n) (j .1 .0) (j .1 .1 .1 .0)) .number))) (λ e1. fsplit ! $ drop ! $ fsplit ! $ drop ! $ fsplit ! $ fsplit ! $ move ! (1 ∷ []) $ feqL ! (λ long1-2. move ! (1 ∷ []) $ fsplit ! $ drop ! $ fsplit ! $ move ! (1 ∷ []) $ drop ! $
           move ! (2 ∷ []) $ split ! $ move ! (1 ∷ []) $ facts ! R-SecretPlaces (Is R-SecretPlaces) (shows 𝓤 H A R-SecretPlaces) r1 (v1 ∷ []) (λ got1. split ! $ move ! (1 ∷ []) $ split ! $ move ! (1 ∷ []) $ split ! $ move ! (1 ∷ []) $ drop ! $
           land ! (from ! (stop !)) (init ! 34 refl (LL.lawful SecretPlaces-row.the-type SecretPlaces-laws.the-laws 𝓤 H A W .typed r1 _ got1 .0)) $ rewrite ! 34 (λ (u : Val). ‵ (fat fullShare SecretPlaces-laws.mir l6 0 u)) (ap only (LL.tells SecretPlaces-row.the-type SecretPlaces-laws.the-laws r1 _ got1)) refl $
           move ! (2 ∷ []) $ lft-end ! tt $ move ! (0 ∷ 7 ∷ []) $ use2 W (later (‵ (MutSlice (named 0) κ0 u32 .own (renamed weights (weights .name) (j .1 .0)) ((sliceVal (weights .ptr) (length (weights .now))) ∷ [])) ⊛ ‵ (flft κ0 q0))) (shared-back u32 κ0 (ν1-1 ∷ []) q0 (weights .name) (weights .ptr .0) (weights .ptr .1) 𝓤 H A W (named 0) (named 0) ((sliceVal (weights .ptr) (length (weights .now))) ∷ []) (j .1 .0) (ap (λ (c : ℕ). sliceVal (weights .ptr) c ∷ []) (sym ((j .1 .1 .1 .1) .long))) (subst (Room u32) (sym ((j .1 .1 .1 .1) .long)) weights-room)) $ await ! tt $ split ! $
@@ -163,8 +164,8 @@ module _ {M : Type 1} (𝓤 : URA M) (H : Heap 𝓤) (A : Atoms 𝓤) (W : Given
           move ! (5 ∷ 2 ∷ 3 ∷ 0 ∷ []) $ cut (asked-2 n n-fits ν2-1 δ2-1 (j .1 .0) r1 (subst (Is R-SecretPlaces r1) (LL.tells SecretPlaces-row.the-type SecretPlaces-laws.the-laws r1 _ got1) got1) (((length (choices .now)) - (j .0)) - 1) (less-fits ((length (choices .now)) - (j .0)) 1 (less-fits (length (choices .now)) (j .0) (choices-room .0))) ν2-4 δ2-4 (zs1 .1 .1 .1 .1 .0)) (raw (F2 𝓤 H A at-mem run .pre (to-2 n n-fits ν2-1 δ2-1 (j .1 .0) r1 (subst (Is R-SecretPlaces r1) (LL.tells SecretPlaces-row.the-type SecretPlaces-laws.the-laws r1 _ got1) got1) (((length (choices .now)) - (j .0)) - 1) (less-fits ((length (choices .now)) - (j .0)) 1 (less-fits (length (choices .now)) (j .0) (choices-room .0))) ν2-4 δ2-4 (zs1 .1 .1 .1 .1 .0))) ∷ []) _ (goes-2 n n-fits ν2-1 δ2-1 (j .1 .0) r1 (subst (Is R-SecretPlaces r1) (LL.tells SecretPlaces-row.the-type SecretPlaces-laws.the-laws r1 _ got1) got1) (((length (choices .now)) - (j .0)) - 1) (less-fits ((length (choices .now)) - (j .0)) 1 (less-fits (length (choices .now)) (j .0) (choices-room .0))) ν2-4 δ2-4 (zs1 .1 .1 .1 .1 .0) (asks-clear _ _ _ _ pre _ _ _ _ (j .1 .1 .1 .1) more _ _ _ e1)) $
           calls-at ! fm (F2 𝓤 H A at-mem run) known-f2 (to-2 n n-fits ν2-1 δ2-1 (j .1 .0) r1 (subst (Is R-SecretPlaces r1) (LL.tells SecretPlaces-row.the-type SecretPlaces-laws.the-laws r1 _ got1) got1) (((length (choices .now)) - (j .0)) - 1) (less-fits ((length (choices .now)) - (j .0)) 1 (less-fits (length (choices .now)) (j .0) (choices-room .0))) ν2-4 δ2-4 (zs1 .1 .1 .1 .1 .0)) (and-then ! (load ! (from ! (stop !)) (look ! 41 refl)) (and-then ! (load ! (from ! (stop !)) (look ! 11 refl)) (and-then ! (load ! (from ! (stop !)) (look ! 31 refl)) (and-then ! (load ! (from ! (stop !)) (look ! 7 refl)) (and-then ! (load ! (from ! (stop !)) (look ! 5 refl)) (no-more !)))))) (λ v2.
           use1 W (later (some (λ (r : Unit {0}). ((‵ (flft (ν2-1 ∷ []) fullShare) ⊛ ‵ (flft (ν2-4 ∷ []) fullShare) ⊛ ‵ ftrue) ⊛ ‵ (Nothing .own r (v2 ∷ []))) ⊛ raw (ensured 𝓤 H A f2.ended (f2.clauses 𝓤 H A at-mem run) ((ν2-1 ∷ []), ((ν2-4 ∷ []), tt)) (n, ((renamed weights δ2-1 (j .1 .0)), (r1, ((((length (choices .now)) - (j .0)) - 1), ((renamed tally δ2-4 (zs1 .1 .1 .1 .1 .0)), tt))))) tt r)))) (id⊢ 𝓤 _) $ await ! tt $ pick ! (λ r2.
-          split ! $ move ! (1 ∷ []) $ use1 W (some (λ (zs : (Unit {0} × (List ℕ × (Unit {0} × (Unit {0} × (Tally × Unit {0})))))). ‵ (lasts f2.ended ((ν2-1 ∷ []), ((ν2-4 ∷ []), tt)) (n, ((renamed weights δ2-1 (j .1 .0)), (r1, ((((length (choices .now)) - (j .0)) - 1), ((renamed tally δ2-4 (zs1 .1 .1 .1 .1 .0)), tt))))) zs) ⊛ raw (fact 𝓤 (((zs .1 .0) ≡ Rounds.clearBefore (((length (choices .now)) - (j .0)) - 1) (subsetAt n (shown r1)) (subsets 3 n) (j .1 .0)) × (counted (zs .1 .1 .1 .1 .0) ≡ Rounds.clearingBefore (((length (choices .now)) - (j .0)) - 1) (subsets 3 n) (counted (zs1 .1 .1 .1 .1 .0))))))) (id⊢ 𝓤 _) $ pick ! (λ zs2.
-          split ! $ move ! (1 ∷ []) $ heard ! (((zs2 .1 .0) ≡ Rounds.clearBefore (((length (choices .now)) - (j .0)) - 1) (subsetAt n (shown r1)) (subsets 3 n) (j .1 .0)) × (counted (zs2 .1 .1 .1 .1 .0) ≡ Rounds.clearingBefore (((length (choices .now)) - (j .0)) - 1) (subsets 3 n) (counted (zs1 .1 .1 .1 .1 .0)))) (λ e2. fsplit ! $ drop ! $ fsplit ! $ fsplit ! $ move ! (1 ∷ []) $ feqL ! (λ long2-1. move ! (1 ∷ []) $ fsplit ! $ drop ! $ fsplit ! $ drop ! $ fsplit ! $ move ! (1 ∷ []) $ drop ! $
+          split ! $ move ! (1 ∷ []) $ use1 W (some (λ (zs : (Unit {0} × (List ℕ × (Unit {0} × (Unit {0} × (Tally × Unit {0})))))). ‵ (lasts f2.ended ((ν2-1 ∷ []), ((ν2-4 ∷ []), tt)) (n, ((renamed weights δ2-1 (j .1 .0)), (r1, ((((length (choices .now)) - (j .0)) - 1), ((renamed tally δ2-4 (zs1 .1 .1 .1 .1 .0)), tt))))) zs) ⊛ raw (fact 𝓤 (((zs .1 .0) ≡ Rounds.clearBefore (((length (choices .now)) - (j .0)) - 1) (subsetAt n (shown r1)) (order (upToThree n)) (j .1 .0)) × (counted (zs .1 .1 .1 .1 .0) ≡ Rounds.clearingTallyBefore (((length (choices .now)) - (j .0)) - 1) (order (upToThree n)) (counted (zs1 .1 .1 .1 .1 .0))))))) (id⊢ 𝓤 _) $ pick ! (λ zs2.
+          split ! $ move ! (1 ∷ []) $ heard ! (((zs2 .1 .0) ≡ Rounds.clearBefore (((length (choices .now)) - (j .0)) - 1) (subsetAt n (shown r1)) (order (upToThree n)) (j .1 .0)) × (counted (zs2 .1 .1 .1 .1 .0) ≡ Rounds.clearingTallyBefore (((length (choices .now)) - (j .0)) - 1) (order (upToThree n)) (counted (zs1 .1 .1 .1 .1 .0)))) (λ e2. fsplit ! $ drop ! $ fsplit ! $ fsplit ! $ move ! (1 ∷ []) $ feqL ! (λ long2-1. move ! (1 ∷ []) $ fsplit ! $ drop ! $ fsplit ! $ drop ! $ fsplit ! $ move ! (1 ∷ []) $ drop ! $
           move ! (2 ∷ []) $ split ! $ move ! (1 ∷ []) $ feqL ! (λ got2. split ! $ move ! (1 ∷ []) $ split ! $ move ! (1 ∷ []) $ drop ! $
           land ! (from ! (stop !)) (init ! 18 refl (subst (λ (y : Val). Holds (hasTy tyUnit y) × WT y) (sym (ap only got2)) (tt, tt))) $
           move ! (1 ∷ []) $ lft-end ! tt $ move ! (0 ∷ 5 ∷ 3 ∷ []) $ use3 W (later (‵ (MutSlice (named 0) κ0 u32 .own (renamed weights (weights .name) (zs2 .1 .0)) ((sliceVal (weights .ptr) (length (weights .now))) ∷ [])) ⊛ ‵ (flft κ0 q0))) (again-back u32 κ0 (ν2-1 ∷ []) q0 (weights .name) (weights .ptr .0) (weights .ptr .1) 𝓤 H A W (named 0) (named 0) ((sliceVal (weights .ptr) (length (weights .now))) ∷ []) (j .1 .0) δ2-1 (zs2 .1 .0) (ap (λ (c : ℕ). sliceVal (weights .ptr) c ∷ []) (sym ((j .1 .1 .1 .1) .long))) (subst (Room u32) (sym ((j .1 .1 .1 .1) .long)) weights-room) long2-1) $ await ! tt $ split ! $
@@ -200,7 +201,7 @@ module _ {M : Type 1} (𝓤 : URA M) (H : Heap 𝓤) (A : Atoms 𝓤) (W : Given
 module _ {M : Type 1} (𝓤 : URA M) (H : Heap 𝓤) (A : Atoms 𝓤) (W : Given 𝓤 H A) (at-mem : Memory → SProp 𝓤) (run : Routine → Fun 𝓤) where
   walks : (𝓣 : Tables 𝓤 H) → Triple 𝓤 (𝓣 .C #f1) (F1 𝓤 H A at-mem run) → Triple 𝓤 (𝓣 .C #f2) (F2 𝓤 H A at-mem run) → Walks 𝓤 H A me.ended stayed (WpFn 𝓤 H (𝓣 .C) (𝓣 .Λ) code.function) (me.clauses 𝓤 H A at-mem run)
   walks 𝓣 known-f1 known-f2 = walked 𝓤 H A me.ended stayed (me.clauses 𝓤 H A at-mem run) (WpFn 𝓤 H (𝓣 .C) (𝓣 .Λ) code.function) (λ κs. (uint-vals w64, (slice-vals, (slice-vals, (ptr-vals, tt))))) (λ κs. (uint-tells w64, (mut-slice-tells (named 0) (κs .0) u32, (mut-slice-tells (named 1) (κs .1 .0) u32, (mut-tells (named 2) (κs .1 .1 .0) R-Tally, tt)))))
-      (λ κs qs bounds a g are. needs 𝓤 (Rounding (a .0) (a .1 .0 .now) (a .1 .1 .0 .now) (a .1 .1 .1 .0 .now)) _ (walk 𝓤 H A W at-mem run (κs .0) (κs .1 .0) (κs .1 .1 .0) bounds (qs .0) (qs .1 .0) (qs .1 .1 .0) (a .0) (a .1 .0) (a .1 .1 .0) (a .1 .1 .1 .0) (are .0 .1) (are .1 .0 .0 .1) (are .1 .1 .0 .0 .1) 𝓣 known-f1 known-f2))
+      (λ κs qs bounds a g are. needs 𝓤 (Rounding (upToThree (a .0)) (a .1 .0 .now) (a .1 .1 .0 .now) (a .1 .1 .1 .0 .now)) _ (walk 𝓤 H A W at-mem run (κs .0) (κs .1 .0) (κs .1 .1 .0) bounds (qs .0) (qs .1 .0) (qs .1 .1 .0) (a .0) (a .1 .0) (a .1 .1 .0) (a .1 .1 .1 .0) (are .0 .1) (are .1 .0 .0 .1) (are .1 .1 .0 .0 .1) 𝓣 known-f1 known-f2))
 
   meets : (𝓣 : Tables 𝓤 H) → Triple 𝓤 (𝓣 .C #f1) (F1 𝓤 H A at-mem run) → Triple 𝓤 (𝓣 .C #f2) (F2 𝓤 H A at-mem run) → Meets 𝓤 H A me.signature (WpFn 𝓤 H (𝓣 .C) (𝓣 .Λ) code.function) (me.spec 𝓤 H A at-mem run)
   meets 𝓣 known-f1 known-f2 =

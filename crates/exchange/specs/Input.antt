@@ -1,0 +1,44 @@
+-- What planning is given: one record, with the floor and the largest size that document 01 leaves at 0 and 3. Assumes nothing.
+use Prim.Native.Nat.{ℕ}
+use mathlib.Core.List.{List}
+use Rattle.exchange.specs.Subsets.{Scope, scope, upToThree, entry}
+
+-- N and the largest size; the floor, above which a subset must weigh to be chosen; M(i, j) and W(i, j); the shuffle
+pub record Input : Type 0 where
+  pub scope : Scope
+  pub floor : ℕ
+  pub compatible : ℕ → ℕ → ℕ
+  pub weight : ℕ → ℕ → ℕ
+  pub shuffle : List ℕ
+
+abbrev pub given : ℕ → ℕ → ℕ → (ℕ → ℕ → ℕ) → (ℕ → ℕ → ℕ) → List ℕ → Input
+given f l n m w s = record { scope = scope l n; floor = f; compatible = m; weight = w; shuffle = s }
+
+-- the same as a caller lends it: M and W in rows of N
+pub record Request : Type 0 where
+  pub scope : Scope
+  pub floor : ℕ
+  pub compatibilities : List ℕ
+  pub weights : List ℕ
+  pub shuffle : List ℕ
+
+abbrev pub inputOf : Request → Input
+inputOf r =
+    record {
+      scope = r .scope;
+      floor = r .floor;
+      compatible = entry (r .compatibilities) (r .scope .pairs);
+      weight = entry (r .weights) (r .scope .pairs);
+      shuffle = r .shuffle;
+    }
+
+-- ## Document 01's: sizes to three, and floor 0. Here and nowhere else the two are put in
+
+abbrev pub noFloor : ℕ
+noFloor = 0
+
+abbrev pub input : ℕ → (ℕ → ℕ → ℕ) → (ℕ → ℕ → ℕ) → List ℕ → Input
+input n m w s = record { scope = upToThree n; floor = noFloor; compatible = m; weight = w; shuffle = s }
+
+abbrev pub request : ℕ → List ℕ → List ℕ → List ℕ → Request
+request n M W s = record { scope = upToThree n; floor = noFloor; compatibilities = M; weights = W; shuffle = s }

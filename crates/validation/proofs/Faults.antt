@@ -1,0 +1,124 @@
+-- What the checks find. Assumes nothing.
+use Prim.Native.Nat.{ℕ, _*_, _≤_, _<_}
+use mathlib.Core.Bool.{Bool, true, false, not}
+use mathlib.Core.List.{List}
+use mathlib.Core.Path.{_≡_, sym, ap, _∙_}
+use borrow.Author.Tests.{lt-ltb, le-ltb, ltb-false}
+use lib.Dec.{eqb, ltb}
+use lib.ListN.{length, getD}
+use Rattle.laws.specs.Below.{either, anyBelow}
+use Rattle.laws.proofs.Below.{any-hit, either-true}
+use Rattle.refusal.specs.Fault.{Fault, none, fault, refuse, _then_}
+use Rattle.refusal.specs.Number.{faultAt}
+use Rattle.refusal.specs.declared.Refusal.{Refusal}
+use Rattle.refusal.specs.declared.Verdict.{Verdict}
+use Rattle.refusal.specs.declared.Verdict.the-variants.{Sound, Faulty}
+use Rattle.refusal.proofs.Faults.{refuse-none, none-refuse, fault-refuse, then-none, then-assoc, none-then, fault-then, sound-none, faulty-fault}
+use Rattle.pool.specs.Faults.{shuffleFault, roomFault}
+use Rattle.exchange.specs.Subsets.{entry}
+use Rattle.exchange.specs.Input.{Request}
+use Rattle.exchange.specs.Planning.{Lengths, shortToRead, shortToFill, tableFault, planFault}
+
+-- ## 4 and 9
+
+pub many : (n : ℕ) (g : Fault) → 200 < n → fault 4 0 ≡ (refuse 4 0 (ltb 200 n) then g)
+many n g h = sym (fault-then _ g (fault-refuse 4 0 _ (lt-ltb 200 n h)))
+
+pub not-many : (n : ℕ) (g : Fault) → n ≤ 200 → g ≡ (refuse 4 0 (ltb 200 n) then g)
+not-many n g h = sym (none-then _ g (none-refuse 4 0 _ (le-ltb 200 n h)))
+
+pub short : (space due : ℕ) → space < due → fault 9 0 ≡ roomFault space due
+unfolding roomFault
+short space due h = sym (fault-refuse 9 0 _ (lt-ltb space due h))
+
+pub long : (space due : ℕ) → due ≤ space → none ≡ roomFault space due
+unfolding roomFault
+long space due h = sym (none-refuse 9 0 _ (le-ltb space due h))
+
+-- the first of two, and the second after none
+pub first : (f g : Fault) → fault 9 0 ≡ f → fault 9 0 ≡ (f then g)
+first f g e = sym (fault-then f g (sym e))
+
+pub second : (f g h : Fault) → none ≡ f → h ≡ g → h ≡ (f then g)
+second f g h e d = d ∙ sym (none-then f g (sym e))
+
+-- ## 10, row by row
+
+module _ (n : ℕ) (M : List ℕ) where
+  -- row i has a fault
+  abbrev pub bad : ℕ → Bool
+  bad i = either (anyBelow n (λ j. ltb 1 (entry M n i j))) (not (eqb (entry M n i i) 0))
+
+  pub hit : (i : ℕ) → i < n → bad i ≡ true → fault 10 0 ≡ tableFault n M
+  unfolding tableFault
+  hit i h e = sym (fault-refuse 10 0 _ (any-hit n bad i h e))
+
+  pub clean : (i : ℕ) → i ≡ n → anyBelow i bad ≡ false → none ≡ tableFault n M
+  unfolding tableFault
+  clean i h e = sym (none-refuse 10 0 _ (ap (λ (k : ℕ). anyBelow k bad) (sym h) ∙ e))
+
+-- a test and another
+pub either-first : (a b : Bool) → a ≡ true → either a b ≡ true
+unfolding either
+either-first a b e = rw e
+
+pub either-second : (a b : Bool) → b ≡ true → either a b ≡ true
+either-second a b e = ap (either a) e ∙ either-true a
+
+pub either-none : (a b : Bool) → a ≡ false → b ≡ false → either a b ≡ false
+unfolding either
+either-none a b e d = rw e d
+
+-- ## The checks, one after another: `a`, `b` and `c` are what each found
+
+-- of the tables that are read, by their lengths
+module _ (n m w s : ℕ) (a : Verdict) (ea : faultAt 0 a ≡ (refuse 4 0 (ltb 200 n) then shortToRead n m w s)) (ga : a ≡ Sound) where
+  read : (refuse 4 0 (ltb 200 n) then shortToRead n m w s) ≡ none
+  read = sound-none 0 a ea ga
+
+  pub read-few : n ≤ 200
+  read-few = ltb-false 200 n (refuse-none 4 0 _ (then-none _ _ read .0))
+
+  room : (space due : ℕ) → roomFault space due ≡ none → due ≤ space
+  unfolding roomFault
+  room space due e = ltb-false space due (refuse-none 9 0 _ e)
+
+  pub read-compatibility : n * n ≤ m
+  unfolding shortToRead
+  read-compatibility = room _ _ (then-none _ _ (then-none _ _ read .1) .0)
+
+  pub read-shuffle : n ≤ s
+  unfolding shortToRead
+  read-shuffle = room _ _ (then-none _ _ (then-none _ _ (then-none _ _ read .1) .1) .1)
+
+module _ (r : Request) (z : Lengths) (a : Verdict)
+    (ea : faultAt 0 a ≡ (refuse 4 0 (ltb 200 (r .scope .pairs)) then shortToRead (r .scope .pairs) (length (r .compatibilities)) (length (r .weights)) (length (r .shuffle)))) where
+  abbrev later : Fault
+  later = shuffleFault 0 (r .scope .pairs) (λ j. getD (r .shuffle) j 0) then tableFault (r .scope .pairs) (r .compatibilities)
+
+  in-two : planFault r z ≡ ((refuse 4 0 (ltb 200 (r .scope .pairs)) then shortToRead (r .scope .pairs) (length (r .compatibilities)) (length (r .weights)) (length (r .shuffle))) then shortToFill (r .scope) z then later)
+  unfolding planFault
+  in-two = sym (then-assoc _ _ _)
+
+  pub judge-read : (why : Refusal) → a ≡ Faulty why → faultAt 0 (Faulty why) ≡ planFault r z
+  unfolding faultAt
+  judge-read why g = sym (in-two ∙ fault-then _ _ (faulty-fault 0 a ea why g))
+
+  module _ (ga : a ≡ Sound) (b : Verdict) (eb : faultAt 0 b ≡ shortToFill (r .scope) z) where
+    after-read : planFault r z ≡ (shortToFill (r .scope) z then later)
+    after-read = in-two ∙ none-then _ _ (sound-none 0 a ea ga)
+
+    pub judge-fill : (why : Refusal) → b ≡ Faulty why → faultAt 0 (Faulty why) ≡ planFault r z
+    unfolding faultAt
+    judge-fill why g = sym (after-read ∙ fault-then _ _ (faulty-fault 0 b eb why g))
+
+    module _ (gb : b ≡ Sound) (c : Verdict) (ec : faultAt 0 c ≡ shuffleFault 0 (r .scope .pairs) (λ j. getD (r .shuffle) j 0)) where
+      after-fill : planFault r z ≡ later
+      after-fill = after-read ∙ none-then _ _ (sound-none 0 b eb gb)
+
+      pub judge-shuffle : (why : Refusal) → c ≡ Faulty why → faultAt 0 (Faulty why) ≡ planFault r z
+      unfolding faultAt
+      judge-shuffle why g = sym (after-fill ∙ fault-then _ _ (faulty-fault 0 c ec why g))
+
+      pub judge-table : c ≡ Sound → (d : Verdict) → faultAt 0 d ≡ tableFault (r .scope .pairs) (r .compatibilities) → faultAt 0 d ≡ planFault r z
+      judge-table gc d ed = ed ∙ sym (after-fill ∙ none-then _ _ (sound-none 0 c ec gc))

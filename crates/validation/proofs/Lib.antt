@@ -1,0 +1,2 @@
+-- `Faults`: what the checks find, as document 01's faults.
+pub mod Faults
