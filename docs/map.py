@@ -1,4 +1,4 @@
-"""Writes the picture and the table of rooms of docs/MAP.md from crates.txt and the crates' sources, between that file's two marks.
+"""Writes the picture and the table of crates of docs/MAP.md from crates.txt and the crates' sources, between that file's two marks.
 
 usage: python3 docs/map.py"""
 import pathlib
@@ -70,14 +70,8 @@ def says(name):
 
 
 def rooms():
-    lines = ['| crate | | functions | edits | what it is, in its own words |', '|---|---|--:|--:|---|']
-    for name in crates():
-        folder = top / 'crates' / name
-        code = ' '.join(f.read_text() for f in (folder / 'src').rglob('*.rt'))
-        functions = len(re.findall(r'^ *(?:pub )?(?:extern "C" )?fn ', code, re.M))
-        edits = len(list(folder.glob('must-fail/*.edit')))
-        lines.append(f'| [{name}](../crates/{name}) | {kind(name)} | {functions or ""} | {edits or ""} | {says(name)} |')
-    return '\n'.join(lines)
+    lines = ['| crate | kind | what it is, in the words of its source |', '|---|---|---|']
+    return '\n'.join(lines + [f'| [{name}](../crates/{name}) | {kind(name)} | {says(name)} |' for name in crates()])
 
 
 def anew(text):

@@ -1,7 +1,7 @@
-"""crates.txt holds to the tree: each crate builds on just those that its code, contracts, specs or proofs name (a library of the kit that another one
-brings along, as `io` does `libc`, is not listed either). And docs/MAP.md holds to it: its picture and its table of rooms are those that docs/map.py
-writes; of what stands there in backquotes, a path is there (a word in capitals stands for any name), a name that follows a path directly is defined in that file,
-`crate::name` is in that crate's code, and any other single name is in some file. Its links lead to files."""
+"""crates.txt holds to the tree: each crate lists just those that its code, contracts, specs or proofs use (`libc`, which `io` brings along, is not one of
+them, unless it is named). And docs/MAP.md holds to it: its picture and its table of crates are those that docs/map.py writes; of what stands there in
+backquotes, a path is there (a word in capitals stands for any name), a name that follows a path directly is defined in that file, `crate::name` is in
+that crate's code, and any other single name is in some file. Its links lead to files."""
 import pathlib
 import re
 import subprocess
@@ -37,10 +37,29 @@ def used_by(name):
     return found
 
 
+def code_of(name):
+    return '\n'.join(without_comments(file) for file in sorted((top / 'crates' / name / 'src').rglob('*.rt')))
+
+
+def carries(name):
+    """The fields and variants of a crate's types that have a type of another crate, each with that crate."""
+    code = code_of(name)
+    brought = {item: other for other, item in re.findall(r'^use (\w+)::(\w+);', code, re.M)}
+    bodies = ''.join(re.findall(r'^pub (?:struct|enum) \w+ \{\n(.*?)^\}', code, re.M | re.S))
+    return [(field, brought[item]) for field, kinds in re.findall(r'(\w+)(?:: |\()([^\n]*)', bodies) for item in re.findall(r'\w+', kinds) if item in brought]
+
+
+def reached_by(name):
+    """The crates whose types a crate's code looks into by a field or a variant of a type of another, as `plan.tally.products`: the checker needs
+    these to be listed, though they are not named."""
+    code = code_of(name)
+    return {other for near in house[name] if near in house for field, other in carries(near) if re.search(rf'(\w\.|::){field}\b', code)}
+
+
 for name, needs in house.items():
     used = used_by(name)
     for need in needs:
-        check(need in used, f'crates.txt: {name} lists {need}, and nothing of it uses that')
+        check(need in used or need in reached_by(name), f'crates.txt: {name} lists {need}, and nothing of it uses that')
     for need in sorted(set(used) - set(needs)):
         check(False, f'crates.txt: {name} does not list {need}, and {used[need]} uses it')
     check(len(set(needs)) == len(needs), f'crates.txt: {name} lists a crate twice')
