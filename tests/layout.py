@@ -1,4 +1,5 @@
-"""The sources are in the formatter's layout (rt fmt --check), and no file names a path of a machine."""
+"""The sources are in the formatter's layout (rt fmt --check), and no file names a path of a machine. No line of a contract has more than 150 characters,
+and no line of a definition or of a proof by hand more than 250."""
 import pathlib
 import re
 import subprocess
@@ -19,5 +20,33 @@ for name in tracked:
         text = re.sub(r'^#!.*', '', file.read_bytes().decode('utf-8', 'replace'))
         found = paths.search(text)
         check(not found, f'{name} names a path of a machine: {found and found.group(0)}')
+
+
+def contract_lines(text):
+    """The lines of the `requires` and `ensures` clauses, each with its number: from the word to the brace that closes the clause."""
+    depth, inside = 0, False
+    for number, line in enumerate(text.splitlines(), 1):
+        inside = inside or bool(re.match(r'\s*(requires|ensures)\b', line))
+        if inside:
+            yield number, line
+            depth += line.count('{') - line.count('}')
+            inside = depth > 0 or '{' not in line
+
+
+def too_long(lines, most):
+    """The numbers of the lines with more than that many characters, and the length of the longest."""
+    found = {number: len(line) for number, line in lines if len(line) > most}
+    return f'{len(found)} of more than {most}, up to {max(found.values())} (line {max(found, key=found.get)})' if found else ''
+
+
+for file in sorted((top / 'crates').rglob('*.rt')):
+    found = too_long(contract_lines(file.read_text()), 150)
+    check(not found, f'{file.relative_to(top)}: lines of contracts: {found}')
+
+for file in sorted((top / 'crates').rglob('*.antt')):
+    text = file.read_text()
+    if 'Rattle.lending.proofs.Walking' not in text:  # else it is a walk, which walks/walk.py writes
+        found = too_long(enumerate(text.splitlines(), 1), 250)
+        check(not found, f'{file.relative_to(top)}: lines: {found}')
 
 close()
