@@ -42,6 +42,8 @@ holds; `pre` is what the function requires, `e1`, `e2`, .. what the calls ensure
 `r2`, .. what they give; (x .now) is what a lent x held at entry, and `x-fits` that a value x is within its type. In a loop {x₀} is what x held at entry, {i}
 the counter, {inv} the invariant, `more` that a turn is left, `over` that none is.
 
+A clause of a contract may name things by `let` and have several facts, ⌜ .. ⌝ ∗ ⌜ .. ⌝, which count as clauses.
+
 It knows no more than is used: at most three `ensures`; one loop, with nothing but a return after it; no parameter with an underscore in its name; no two
 callees of one name in a function."""
 import functools
@@ -50,6 +52,8 @@ import re
 
 WIDTH = {'u8': ('w8', 8), 'u16': ('w16', 16), 'u32': ('w32', 32), 'u64': ('w64', 64), 'usize': ('w64', 64)}
 TOP = pathlib.Path(__file__).resolve().parent.parent
+# what gives lent tables one value in a contract, and what it holds of them at one moment
+LENT = {'lentPlan': ('Rattle.exchange.specs.Planning', 'lent')}
 
 
 # ## Text
@@ -352,7 +356,23 @@ class Source:
             return text
 
         return Fn(self.crate, name, params, result and self.kind(result), requires and contract(requires[1], values),
-                  [contract(clause, {**values, r: 'r'}) for r, clause in re.findall(r'ensures(?: \w+)? \{ λ (\w+)\. ⌜ (.*) ⌝ \}', contracts)])
+                  [contract(fact, {**values, r: 'r'}) for r, clause in re.findall(r'ensures(?: \w+)? \{ λ (\w+)\.\s(.*?⌝) \}$', contracts, re.S | re.M)
+                   for fact in self.facts(clause)])
+
+    def facts(self, clause):
+        """The facts of a clause. What it names by `let` is written out: lent tables at a moment as what they hold, and all else as it stands there."""
+        *lets, said = re.split(r' in (?=let |⌜)', ' '.join(clause.split()))
+        for name, term in (let.removeprefix('let ').split(' = ', 1) for let in reversed(lets)):
+            lent, *tables = term.split()
+            if lent in LENT:
+                module, holding = LENT[lent]
+                self.cited[holding] = module, holding
+                for moment in 'entry', 'exit':
+                    held = f'({holding} {" ".join(f"(now ({table} .{moment}))" for table in tables)})'
+                    said = re.sub(rf'\({name} \.{moment}\)|(?<!\S){name} \.{moment}(?!\S)', held, said)
+            else:
+                said = re.sub(rf'(?<![^\s(]){name}(?![^\s)])', f'({term})', said)
+        return re.findall(r'⌜ (.*?) ⌝', said)
 
     def citing(self, text, crate):
         """The imports of what a contract cites, as that crate names them."""

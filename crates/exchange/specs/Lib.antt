@@ -4,6 +4,7 @@
 pub mod Subsets
 pub mod Resolution
 pub mod Planning
+pub mod Lent
 pub mod Rivals
 pub mod Published
 pub mod Algorithm1
