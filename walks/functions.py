@@ -114,14 +114,15 @@ WALKS = [
         relend(17, 18, 'recipients'),
         relend(19, 20, 'records'),
         call(10, 'planner::plan', ['n', 'm', 'w', 'shuffle', 12, 14, 16, 18, 20]),
-        call(0, 'plan_numbers', [10]),
+        call(0, 'numbers::plan_numbers', [10]),
         give(0),
     ], [
-        'kept-plan (e2 .0) e1-0 e1-1 .0',
-        'kept-plan (e2 .0) e1-0 e1-1 .1',
-        'e2 .1',
+        'kept-plan e2 (plan-numbered _) e1 .0',
+        'kept-plan e2 (plan-numbered _) e1 .1 .0',
+        'kept-plan e2 (plan-numbered _) e1 .1 .1',
     ], [
-        'use Rattle.vadivuzhen.proofs.Told.{kept-plan}',
+        'use Rattle.numbers.proofs.Own.{plan-numbered}',
+        'use Rattle.vadivuzhen.proofs.Kept.{kept-plan}',
     ]),
 
     Walk('pools', 'plan', 22, [

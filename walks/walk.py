@@ -42,6 +42,8 @@ holds; `pre` is what the function requires, `e1`, `e2`, .. what the calls ensure
 `r2`, .. what they give; (x .now) is what a lent x held at entry, and `x-fits` that a value x is within its type. In a loop {x₀} is what x held at entry, {i}
 the counter, {inv} the invariant, `more` that a turn is left, `over` that none is.
 
+A clause of a contract may name things by `let` and have several facts, ⌜ .. ⌝ ∗ ⌜ .. ⌝, which count as clauses.
+
 It knows no more than is used: at most three `ensures`; one loop, with nothing but a return after it; no parameter with an underscore in its name; no two
 callees of one name in a function."""
 import functools
@@ -50,6 +52,8 @@ import re
 
 WIDTH = {'u8': ('w8', 8), 'u16': ('w16', 16), 'u32': ('w32', 32), 'u64': ('w64', 64), 'usize': ('w64', 64)}
 TOP = pathlib.Path(__file__).resolve().parent.parent
+# what gives lent tables one value in a contract, and what it holds of them at one moment
+LENT = {'lentPlan': ('Rattle.exchange.specs.Planning', 'lent')}
 
 
 # ## Text
@@ -306,23 +310,6 @@ class Fn:
 
 # ## Sources
 
-# one value for several lent tables, at entry and at exit: what it is made of, and the module of both names
-BUNDLES = {'lentPlan': ('lent', 'Rattle.exchange.specs.Planning')}
-
-
-def unbundled(clause):
-    """A clause whose `let`s are written out: what a bundle of lent tables is at a moment, or the term itself."""
-    found = re.fullmatch(r'(.*?)let (\w+) = (.*?) in (.*)', clause)
-    if not found:
-        return clause
-    before, name, term, after = found.groups()
-    bundle, *tables = term.split()
-    for moment in ('entry', 'exit') if bundle in BUNDLES else ():
-        at = ' '.join(f'(now ({table} .{moment}))' for table in tables)
-        after = after.replace(f'({name} .{moment})', f'({BUNDLES[bundle][0]} {at})')
-    return unbundled(before + re.sub(rf'(?<![^\s(]){name}(?![^\s)])', lambda _: f'({term})', after))
-
-
 class Source:
     """A crate's source: src/lib.rt, or a program's src/main.rt."""
 
@@ -341,7 +328,6 @@ class Source:
         for module, names in re.findall(r'^ghost use (\S+)\.\{(.*?)\};', self.text, re.M):
             self.cited.update({name.split(' as ')[-1]: (module, name) for name in names.split(', ')})
         self.cited.update({name: (module, None) for module, name in re.findall(r'^ghost use (\S+) as (\w+);', self.text, re.M)})
-        self.cited.update({name: (module, name) for bundle, (name, module) in BUNDLES.items() if bundle in self.cited})
 
     def kind(self, name):
         array = re.fullmatch(r'\[(\w+); (\d+)\]', name)
@@ -358,8 +344,7 @@ class Source:
 
     def fn(self, name):
         given, result, contracts = re.search(rf'fn {name}\(([^)]*)\)(?: -> (\S+(?: \d+\])?))?\n(.*?)^\{{$', self.text, re.S | re.M).groups()
-        clauses = [unbundled(re.sub(r'\s+', ' ', clause).strip()) for clause in re.split(r'^    (?=requires|ensures)', contracts, flags=re.M)[1:]]
-        requires = next((found for clause in clauses if (found := re.fullmatch(r'requires \{ ⌜ (.*) ⌝ \}', clause))), None)
+        requires = re.search(r'requires \{ ⌜ (.*) ⌝ \}', contracts)
         params = [self.param(p) for p in given.split(',') if p.strip()]
         values = {p.name: p.name for p in params if not p.lent}
 
@@ -371,7 +356,23 @@ class Source:
             return text
 
         return Fn(self.crate, name, params, result and self.kind(result), requires and contract(requires[1], values),
-                  [contract(clause[2], {**values, clause[1]: 'r'}) for clause in (re.fullmatch(r'ensures(?: \w+)? \{ λ (\w+)\. ⌜ (.*) ⌝ \}', clause) for clause in clauses) if clause])
+                  [contract(fact, {**values, r: 'r'}) for r, clause in re.findall(r'ensures(?: \w+)? \{ λ (\w+)\.\s(.*?⌝) \}$', contracts, re.S | re.M)
+                   for fact in self.facts(clause)])
+
+    def facts(self, clause):
+        """The facts of a clause. What it names by `let` is written out: lent tables at a moment as what they hold, and all else as it stands there."""
+        *lets, said = re.split(r' in (?=let |⌜)', ' '.join(clause.split()))
+        for name, term in (let.removeprefix('let ').split(' = ', 1) for let in reversed(lets)):
+            lent, *tables = term.split()
+            if lent in LENT:
+                module, holding = LENT[lent]
+                self.cited[holding] = module, holding
+                for moment in 'entry', 'exit':
+                    held = f'({holding} {" ".join(f"(now ({table} .{moment}))" for table in tables)})'
+                    said = re.sub(rf'\({name} \.{moment}\)|(?<!\S){name} \.{moment}(?!\S)', held, said)
+            else:
+                said = re.sub(rf'(?<![^\s(]){name}(?![^\s)])', f'({term})', said)
+        return re.findall(r'⌜ (.*?) ⌝', said)
 
     def citing(self, text, crate):
         """The imports of what a contract cites, as that crate names them."""

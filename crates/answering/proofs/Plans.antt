@@ -30,12 +30,12 @@ use Rattle.printout.specs.Promises.{planRoom, PrintsPlan}
 use Rattle.printout.specs.declared.Printing.{Printing}
 use Rattle.printout.specs.declared.Printing.the-variants as Printing
 use Rattle.printout.specs.declared.Printing.the-variants.{Length}
-use Rattle.planner.specs.Said.{planIn, answerOf}
+use Rattle.planner.specs.Answers.{planIn, answerOf}
 use Rattle.planner.specs.declared.Planned.{Planned}
 use Rattle.planner.specs.declared.Planning.{Planning}
 use Rattle.planner.specs.declared.Planning.the-variants.{Made, Refused}
 use Rattle.answering.specs.Answering.{most, planBy, putting}
-use Rattle.answering.specs.Steps.{FaultlessTables, cyclesOf, resultOf, Partnered}
+use Rattle.answering.specs.Preconditions.{FaultlessTables, cyclesOf, plannedResult, Partnered}
 use Rattle.answering.proofs.Texts.{plan-printed, plan-surely}
 
 -- ## Tables for 40 pairs
@@ -81,7 +81,7 @@ module _ (n : ℕ) (M W s : List ℕ) (p : FaultlessTables n M W s) (t : Lent) w
 
     -- a plan is made
     pub planned-is : planning n M W s t
-        ≡ outcome (finished (resultOf n M W s))
+        ≡ outcome (finished (plannedResult n M W s))
         (filledLent n (leftBy 0 3 n (entry M n) (entry W n) s) (cyclesOf n M W s) t)
     unfolding planning
     planned-is = unless-none _ _ _ _ (finished-none _ _ _ _ (answers-rightly n M W s t .accepts accepted .1) .0)
@@ -90,10 +90,10 @@ module _ (n : ℕ) (M W s : List ℕ) (p : FaultlessTables n M W s) (t : Lent) w
 
     module _ (a : Planning) (u : Lent) (e : outcome (answerOf a) u ≡ planning n M W s t) where
       outcome-is : outcome (answerOf a) u
-          ≡ outcome (finished (resultOf n M W s)) (filledLent n (leftBy 0 3 n (entry M n) (entry W n) s) (cyclesOf n M W s) t)
+          ≡ outcome (finished (plannedResult n M W s)) (filledLent n (leftBy 0 3 n (entry M n) (entry W n) s) (cyclesOf n M W s) t)
       outcome-is = e ∙ planned-is
 
-      answer-is : answerOf a ≡ finished (resultOf n M W s)
+      answer-is : answerOf a ≡ finished (plannedResult n M W s)
       answer-is = ap (λ (o : Outcome Plan Lent). o .answer) outcome-is
 
       pub never-refused : {A : Type 0} (why : Refusal) → a ≡ Refused why → A

@@ -24,8 +24,8 @@ use Rattle.weighing.specs.declared.Building.the-variants.{Refused}
 use Rattle.exchange.specs.Subsets.{entry}
 use Rattle.exchange.specs.Faultless.{Compatibility}
 use Rattle.exchange.proofs.Inverse.{Invertible, invertible}
-use Rattle.answering.specs.Answering.{planBy, planOf}
-use Rattle.answering.specs.Steps.{Read, FaultlessTables}
+use Rattle.answering.specs.Answering.{planBy, printedPlanOf}
+use Rattle.answering.specs.Preconditions.{Read, FaultlessTables}
 use Rattle.answering.proofs.Plans.{square-most, plan-agree}
 
 -- ## The first n entries of a table
@@ -43,8 +43,8 @@ module _ (n : ℕ) (pair : ℕ → Pair) (s : ℕ → ℕ) (w : Faultless n pair
   shuffle-seated = invertible n (table n s) (omega (arith, length-table n s)) each-once
 
   -- its plan depends on its n pairs alone
-  pub same-plan : (other : ℕ → Pair) (t : ℕ → ℕ) → ((i : ℕ) → i < n → pair i ≡ other i) → table n s ≡ table n t → planOf n pair s ≡ planOf n other t
-  unfolding planOf compatibility weight
+  pub same-plan : (other : ℕ → Pair) (t : ℕ → ℕ) → ((i : ℕ) → i < n → pair i ≡ other i) → table n s ≡ table n t → printedPlanOf n pair s ≡ printedPlanOf n other t
+  unfolding printedPlanOf compatibility weight
   same-plan other t h g =
       plan-agree n (compatibility pair) (compatibility other) (weight documentPoints pair) (weight documentPoints other) (table n s) shuffle-seated
       (λ i j _ _. compatibility-most pair i j) (λ i j a b. rw (h i a, h j b)) (λ i j a b. rw (h i a, h j b)) (table n (λ i. pair i .id))
@@ -93,8 +93,8 @@ module _ (n : ℕ) (t : Tables) (p : Read n t) (old : Graph) (room : (1600 ≤ l
 
   -- its plan is the pool's
   pub plan-is : planBy n (take n (t .fields .ids)) (entry (new .compatibilities) n) (entry (new .weights) n) (take n (t .shuffle))
-      ≡ planOf n (pairIn (t .fields)) (λ j. getD (t .shuffle) j 0)
-  unfolding planOf pairIn entry
+      ≡ printedPlanOf n (pairIn (t .fields)) (λ j. getD (t .shuffle) j 0)
+  unfolding printedPlanOf pairIn entry
   plan-is =
       let e = w .built surely in
       ap₂ (λ (ids shuffle : List ℕ). planBy n ids (entry (new .compatibilities) n) (entry (new .weights) n) shuffle)

@@ -31,7 +31,7 @@ use Rattle.exchange.proofs.Partners.{edges-all, same-donors, same-recipients}
 use Rattle.exchange.proofs.Checked.{answers-rightly}
 use Rattle.exchange.proofs.Guaranteed.{cycles-below}
 use Rattle.printout.specs.Printed.{digitsWithin, decimal, line, partner, pairLine, pairLines, planText}
-use Rattle.answering.specs.Answering.{most, planBy, planOf, orRefusal, answerText}
+use Rattle.answering.specs.Answering.{most, planBy, printedPlanOf, orRefusal, answerText}
 use Rattle.answering.specs.Promises.{BuiltIsPlanned, PlanAnswered, PlansGuaranteed, ExampleAnswered}
 use Rattle.answering.proofs.Pools.{shuffle-seated}
 
@@ -51,11 +51,11 @@ built-is-planned n f old g s t built left once long =
 pub plan-answered : PlanAnswered
 unfolding answerText orRefusal
 plan-answered b s few =
-    ap (λ (f : Fault). orRefusal f (planText (planOf (pairsIn b) (pairAt b) (shuffleAt b (pairsIn b)))))
+    ap (λ (f : Fault). orRefusal f (planText (printedPlanOf (pairsIn b) (pairAt b) (shuffleAt b (pairsIn b)))))
     (none-then _ _ (sheet-none b s) ∙ room-none most (pairsIn b) few)
 
 pub plans-guaranteed : PlansGuaranteed
-unfolding planOf planBy
+unfolding printedPlanOf planBy
 plans-guaranteed n pair s w =
     let m : ℕ → ℕ → ℕ = compatibility pair in
     let v : ℕ → ℕ → ℕ = weight documentPoints pair in
@@ -76,7 +76,7 @@ plans-guaranteed n pair s w =
     }
 
 pub example-answered : ExampleAnswered
-unfolding answerText orRefusal planOf planBy planText pairLines pairLine partner line decimal digitsWithin flatMap flatten table either anyBelow
+unfolding answerText orRefusal printedPlanOf planBy planText pairLines pairLine partner line decimal digitsWithin flatMap flatten table either anyBelow
     countBelow one bigEndian refuse _then_ firstBelow pairsIn pairAt shuffleAt groupFault idFault pairFault shuffleFault fieldFault headFault
     pairFieldFault shuffleFieldFault endFault sheetFault roomFault bloodTable suits has shareBit compatibility documentPoints mismatches
     mismatchPoints agePoints weight among meets raise nextRound join byHalves choosing clear clearingTally rounds ascending subsets eachFirst orders

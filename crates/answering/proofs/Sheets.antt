@@ -22,8 +22,8 @@ use Rattle.reader.specs.Said.{said}
 use Rattle.reader.specs.declared.Reading.{Reading}
 use Rattle.reader.specs.declared.Reading.the-variants.{Pairs, Refused}
 use Rattle.printout.specs.Printed.{planText, refusalText}
-use Rattle.answering.specs.Answering.{most, planOf, orRefusal, answerText, putting, answering}
-use Rattle.answering.specs.Steps.{Read}
+use Rattle.answering.specs.Answering.{most, printedPlanOf, orRefusal, answerText, putting, answering}
+use Rattle.answering.specs.Preconditions.{Read}
 use Rattle.answering.proofs.Texts.{put-fits}
 use Rattle.answering.proofs.Pools.{same-plan}
 
@@ -36,7 +36,7 @@ module _ (b : List ℕ) (t left : Tables) (r : Reading) (e : outcome (said r) le
   refused-text : (k o : ℕ) → reading b t .answer ≡ refused k o → answerText b ≡ refusalText k o
   unfolding answerText orRefusal reading
   refused-text k o g =
-      ap (λ (f : Fault). orRefusal f (planText (planOf (pairsIn b) (pairAt b) (shuffleAt b (pairsIn b)))))
+      ap (λ (f : Fault). orRefusal f (planText (printedPlanOf (pairsIn b) (pairAt b) (shuffleAt b (pairsIn b)))))
       (ap (λ (x : ℕ). sheetFault b then roomFault x (pairsIn b)) (sym room-is) ∙ refused-fault _ _ _ _ g)
 
   pub refused-answer : (out new : List ℕ) (why : Refusal) (o k : ℕ) → r ≡ Refused why o → outcome (finished k) new ≡ putting (refusalText (numberOf why) o) out
@@ -68,21 +68,21 @@ module _ (b : List ℕ) (t left : Tables) (r : Reading) (e : outcome (said r) le
     read-accepted =
         record { few = omega (arith, hold-room n t (passed .2), room-is); faultless = rw (left-is, passed .0) filled-faultless }
 
-    accepted-text : answerText b ≡ planText (planOf (pairsIn b) (pairAt b) (shuffleAt b (pairsIn b)))
+    accepted-text : answerText b ≡ planText (printedPlanOf (pairsIn b) (pairAt b) (shuffleAt b (pairsIn b)))
     unfolding answerText orRefusal reading
     accepted-text =
-        ap (λ (f : Fault). orRefusal f (planText (planOf (pairsIn b) (pairAt b) (shuffleAt b (pairsIn b)))))
+        ap (λ (f : Fault). orRefusal f (planText (printedPlanOf (pairsIn b) (pairAt b) (shuffleAt b (pairsIn b)))))
         (ap (λ (x : ℕ). sheetFault b then roomFault x (pairsIn b)) (sym room-is) ∙ finished-none _ _ _ _ finished-is .0)
 
     -- the plan of the tables that were filled is the plan of the sheet
-    plan-read : planOf n (pairIn (left .fields)) (λ j. getD (left .shuffle) j 0) ≡ planOf (pairsIn b) (pairAt b) (shuffleAt b (pairsIn b))
+    plan-read : printedPlanOf n (pairIn (left .fields)) (λ j. getD (left .shuffle) j 0) ≡ printedPlanOf (pairsIn b) (pairAt b) (shuffleAt b (pairsIn b))
     unfolding poolOf poolIn filledTables
     plan-read =
-        ap₂ (λ (k : ℕ) (x : Tables). planOf k (pairIn (x .fields)) (λ j. getD (x .shuffle) j 0)) (passed .0) left-is
+        ap₂ (λ (k : ℕ) (x : Tables). printedPlanOf k (pairIn (x .fields)) (λ j. getD (x .shuffle) j 0)) (passed .0) left-is
         ∙ same-plan (pairsIn b) _ _ (filled-faultless .pool) (pairAt b) (shuffleAt b (pairsIn b)) (pair-in-filled (pairsIn b) (pairAt b) (t .fields))
         (ap (λ (p : Pool). p .shuffle) (pool-in-filled (pairsIn b) (pairAt b) (shuffleAt b (pairsIn b)) t))
 
-    pub accepted-answer : (out new : List ℕ) (k : ℕ) → outcome (finished k) new ≡ putting (planText (planOf n (pairIn (left .fields)) (λ j. getD (left .shuffle) j 0))) out
+    pub accepted-answer : (out new : List ℕ) (k : ℕ) → outcome (finished k) new ≡ putting (planText (printedPlanOf n (pairIn (left .fields)) (λ j. getD (left .shuffle) j 0))) out
         → outcome (finished k) new ≡ answering b out
     unfolding answering
     accepted-answer out new k h = h ∙ ap (λ (x : List ℕ). putting x out) (ap planText plan-read ∙ sym accepted-text)

@@ -28,8 +28,8 @@ planBy n ids m w s =
     plan n (length cs) (total m w cs) ids (donorTable n cs) (recipientTable n cs) (r .tally .comparisons) (r .tally .products) (r .tally .rounds)
 
 -- the plan of n pairs and their shuffle
-unfoldable pub planOf : ℕ → (ℕ → Pair) → (ℕ → ℕ) → Plan
-planOf n pair s = planBy n (table n (λ i. pair i .id)) (compatibility pair) (weight documentPoints pair) (table n s)
+unfoldable pub printedPlanOf : ℕ → (ℕ → Pair) → (ℕ → ℕ) → Plan
+printedPlanOf n pair s = planBy n (table n (λ i. pair i .id)) (compatibility pair) (weight documentPoints pair) (table n s)
 
 -- the refusal, where there is one, and else the text
 unfoldable pub orRefusal : Fault → List ℕ → List ℕ
@@ -39,7 +39,7 @@ orRefusal (fault number place) text = refusalText number place
 -- "prints `REFUSED` with number and place, or" the plan of the pool that the sheet says: reading alone refuses, with tables for 40 pairs
 unfoldable pub answerText : List ℕ → List ℕ
 answerText b =
-    orRefusal (sheetFault b then roomFault most (pairsIn b)) (planText (planOf (pairsIn b) (pairAt b) (shuffleAt b (pairsIn b))))
+    orRefusal (sheetFault b then roomFault most (pairsIn b)) (planText (printedPlanOf (pairsIn b) (pairAt b) (shuffleAt b (pairsIn b))))
 
 -- a text fills the start of the lent buffer, and its length is the answer; past it nothing changes
 abbrev pub putting : List ℕ → List ℕ → Outcome ℕ (List ℕ)

@@ -22,7 +22,7 @@ use Rattle.exchange.specs.Rivals.{ExchangeSet}
 use Rattle.exchange.specs.Promises.{TallyOf}
 use Rattle.printout.specs.Printed as Printed
 use Rattle.printout.specs.Printed.{bytesOf, planText}
-use Rattle.answering.specs.Answering.{most, planOf, answerText}
+use Rattle.answering.specs.Answering.{most, printedPlanOf, answerText}
 
 -- tables that were built are planned, with any shuffle and any tables that are long enough: they have no fault 10
 abbrev pub BuiltIsPlanned : Type 0
@@ -40,7 +40,7 @@ PlanAnswered =
     (b : List ℕ)
     → FaultlessSheet b
     → pairsIn b ≤ most
-    → answerText b ≡ planText (planOf (pairsIn b) (pairAt b) (shuffleAt b (pairsIn b)))
+    → answerText b ≡ planText (printedPlanOf (pairsIn b) (pairAt b) (shuffleAt b (pairsIn b)))
 
 -- ## Demands 2 and 3, for the plan p that is printed of n pairs and their shuffle s, with M(i, j) and W(i, j) of those pairs
 
@@ -63,7 +63,7 @@ pub record PlanGuarantee (n : ℕ) (pair : ℕ → Pair) (s : List ℕ) (p : Pri
   pub recipients : p .recipients ≡ Algorithm1.recipients n s (Algorithm1.chosenCycles 0 3 n (compatibility pair) (weight documentPoints pair) s)
 
 abbrev pub PlansGuaranteed : Type 0
-PlansGuaranteed = (n : ℕ) (pair : ℕ → Pair) (s : ℕ → ℕ) → Faultless n pair s → PlanGuarantee n pair (table n s) (planOf n pair s)
+PlansGuaranteed = (n : ℕ) (pair : ℕ → Pair) (s : ℕ → ℕ) → Faultless n pair s → PlanGuarantee n pair (table n s) (printedPlanOf n pair s)
 
 -- ## Document 01's example
 

@@ -12,12 +12,13 @@ ghost use Prim.Native.Nat.{_≤_};
 ghost use lib.ListN.{getD, length};
 ghost use Rattle.refusal.specs.Answer.{finished, outcome};
 ghost use Rattle.refusal.specs.Number.{numberOf};
-ghost use Rattle.pool.specs.Tables.{fields, tables, pairIn};
+ghost use Rattle.pool.specs.Tables.{pairIn};
+ghost use Rattle.pool.specs.Lent.{lentTables, tablesNow};
 ghost use Rattle.exchange.specs.Subsets.{entry};
 ghost use Rattle.printout.specs.Printed.{planText, refusalText};
-ghost use Rattle.planner.specs.Said.{planIn};
-ghost use Rattle.answering.specs.Answering.{planBy, planOf, putting, answering};
-ghost use Rattle.answering.specs.Steps.{Read, FaultlessTables, Partnered};
+ghost use Rattle.planner.specs.Answers.{planIn};
+ghost use Rattle.answering.specs.Answering.{planBy, printedPlanOf, putting, answering};
+ghost use Rattle.answering.specs.Preconditions.{Read, FaultlessTables, Partnered};
 
 // The plan of n pairs with these tables, which planning does not refuse, and its partners.
 fn plan_tables(
@@ -29,7 +30,9 @@ fn plan_tables(
     recipients: &mut [u16],
 ) -> Planned
     requires { ⌜ FaultlessTables n (now m) (now w) (now shuffle) × (n ≤ length (now donors)) × (n ≤ length (now recipients)) ⌝ }
-    ensures { λ r. ⌜ Partnered n (now (m .entry)) (now (w .entry)) (now (shuffle .entry)) (now (donors .entry)) (now (recipients .entry)) (planIn r) (now (donors .exit)) (now (recipients .exit)) ⌝ }
+    ensures { λ r.
+        ⌜ Partnered n (now (m .entry)) (now (w .entry)) (now (shuffle .entry)) (now (donors .entry)) (now (recipients .entry))
+        (planIn r) (now (donors .exit)) (now (recipients .exit)) ⌝ }
 {
     // 40 pairs have (40³ − 40) / 6 subsets and 20 rounds. The records are not printed, so no table of 20 stands here.
     let mut weights = [0u32; 10660];
@@ -70,7 +73,9 @@ fn print_planned(
     out: &mut [u8; 1458],
 ) -> usize
     requires { ⌜ FaultlessTables n (now m) (now w) (now shuffle) × (n ≤ length (now ids)) ⌝ }
-    ensures { λ r. ⌜ outcome (finished r) (now (out .exit)) ≡ putting (planText (planBy n (now (ids .entry)) (entry (now (m .entry)) n) (entry (now (w .entry)) n) (now (shuffle .entry)))) (now (out .entry)) ⌝ }
+    ensures { λ r.
+        let plan = planBy n (now (ids .entry)) (entry (now (m .entry)) n) (entry (now (w .entry)) n) (now (shuffle .entry)) in
+        ⌜ outcome (finished r) (now (out .exit)) ≡ putting (planText plan) (now (out .entry)) ⌝ }
 {
     let mut donors = [0u16; 40];
     let mut recipients = [0u16; 40];
@@ -106,8 +111,14 @@ fn print_pool(
     shuffle: &[u16],
     out: &mut [u8; 1458],
 ) -> usize
-    requires { ⌜ Read n (tables (fields (now ids) (now «donor_blood») (now «patient_blood») (now «donor_age») (now «patient_age») (now «donor_antigens») (now «patient_antigens») (now «patient_antibodies»)) (now shuffle)) ⌝ }
-    ensures { λ r. ⌜ outcome (finished r) (now (out .exit)) ≡ putting (planText (planOf n (pairIn (fields (now (ids .entry)) (now («donor_blood» .entry)) (now («patient_blood» .entry)) (now («donor_age» .entry)) (now («patient_age» .entry)) (now («donor_antigens» .entry)) (now («patient_antigens» .entry)) (now («patient_antibodies» .entry)))) (λ j. getD (now (shuffle .entry)) j 0))) (now (out .entry)) ⌝ }
+    requires { ⌜ Read n
+        (tablesNow ids «donor_blood» «patient_blood» «donor_age» «patient_age»
+        «donor_antigens» «patient_antigens» «patient_antibodies» shuffle) ⌝ }
+    ensures { λ r.
+        let t = lentTables ids «donor_blood» «patient_blood» «donor_age» «patient_age»
+        «donor_antigens» «patient_antigens» «patient_antibodies» shuffle in
+        let plan = printedPlanOf n (pairIn (t .entry .fields)) (λ j. getD (t .entry .shuffle) j 0) in
+        ⌜ outcome (finished r) (now (out .exit)) ≡ putting (planText plan) (now (out .entry)) ⌝ }
 {
     // 40 rows of 40.
     let mut m = [0u8; 1600];

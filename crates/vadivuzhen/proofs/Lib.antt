@@ -1,2 +1,2 @@
--- What the exported answers say.
-pub mod Told
+-- `Kept`: an exported call keeps what the library's call promised.
+pub mod Kept

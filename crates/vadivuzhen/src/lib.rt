@@ -1,76 +1,30 @@
-// The library's calls with a C boundary (include/vadivuzhen.h). Each hands its arguments on, and answers in numbers.
-use planner::Planning;
-use printout::Printing;
-use reader::Reading;
+// The library's calls with a C boundary (include/vadivuzhen.h). Each hands its arguments on, and answers in numbers (crate `numbers`).
+use numbers::BuildAnswer;
+use numbers::PlanAnswer;
+use numbers::PrintAnswer;
+use numbers::ReadAnswer;
+use numbers::WriteAnswer;
 use records::Cycle;
-use refusal::Refusal;
-use weighing::Building;
-use writer::Writing;
 ghost use mathlib.Core.Path.{_≡_};
 ghost use lib.ListN.{length};
-ghost use Rattle.refusal.specs.Answer.{finished, outcome};
-ghost use Rattle.refusal.specs.Number.{numberOf};
-ghost use Rattle.pool.specs.Tables.{fields, tables};
+ghost use Rattle.pool.specs.Lent.{lentFields, lentTables};
 ghost use Rattle.pool.specs.Calls.{reading, writing};
 ghost use Rattle.pool.specs.Promises.{ReadsRightly, WritesRightly};
 ghost use Rattle.weighing.specs.Weight.{documentPoints};
 ghost use Rattle.weighing.specs.Building.{graph, building};
 ghost use Rattle.weighing.specs.Promises.{BuildsRightly};
-ghost use Rattle.exchange.specs.Planning.{lent, Plan, planning};
-ghost use Rattle.exchange.specs.Promises.{Guarantee};
-ghost use Rattle.planner.specs.Said.{answerOf};
+ghost use Rattle.exchange.specs.Input.{request};
+ghost use Rattle.exchange.specs.Planning.{planning};
+ghost use Rattle.exchange.specs.Lent.{lentPlan};
+ghost use Rattle.exchange.specs.Promises.{PlansRightly};
 ghost use Rattle.printout.specs.Printed.{plan};
 ghost use Rattle.printout.specs.Calls.{printingPlan, printingRefusal};
-ghost use Rattle.printout.specs.Said.{said as Printout·said};
 ghost use Rattle.printout.specs.Promises.{PrintsPlan, PrintsRefused};
-ghost use Rattle.vadivuzhen.specs.Answers.{readSaid, readNumbers, writeSaid, writeNumbers, buildSaid, planSaid, planNumbers, printSaid, printNumbers};
+ghost use Rattle.numbers.specs.Numbers.{readNumbers, writeNumbers, buildNumbers, planNumbers, printNumbers};
+ghost use Rattle.numbers.specs.Promises.{Numbered, NumberedAt0};
 
-// In every answer `refusal` is document 01's number, or 0 where the call finished; a field that the answer does not use is 0.
-
-// N of the sheet, or the refusal's place.
-#[repr(C)]
-pub struct ReadAnswer {
-    pub refusal: u32,
-    pub place: usize,
-    pub pairs: usize,
-}
-
-// The sheet's length.
-#[repr(C)]
-pub struct WriteAnswer {
-    pub refusal: u32,
-    pub length: usize,
-}
-
-#[repr(C)]
-pub struct BuildAnswer {
-    pub refusal: u32,
-}
-
-// The plan's number of cycles, weight and tally.
-#[repr(C)]
-pub struct PlanAnswer {
-    pub refusal: u32,
-    pub cycles: usize,
-    pub weight: u64,
-    pub comparisons: u64,
-    pub products: u64,
-    pub rounds: u64,
-}
-
-// The text's length.
-#[repr(C)]
-pub struct PrintAnswer {
-    pub refusal: u32,
-    pub length: usize,
-}
-
-// Document 01's number of a refusal, in the answers' width.
-fn number_of(why: Refusal) -> u32
-    ensures { λ r. ⌜ r ≡ numberOf why ⌝ }
-{
-    refusal::number(why) as u32
-}
+// Each contract says: the numbers are those of the answer that is due, and of no other; all that was lent is left as is due; and the call's promise holds
+// of that answer.
 
 // Reads a sheet into the lent tables.
 #[no_mangle]
@@ -86,11 +40,15 @@ pub extern "C" fn vadivuzhen_read(
     patient_antibodies: &mut [u64],
     shuffle: &mut [u16],
 ) -> ReadAnswer
-    ensures { λ r. ⌜ outcome (readSaid r) (tables (fields (now (ids .exit)) (now («donor_blood» .exit)) (now («patient_blood» .exit)) (now («donor_age» .exit)) (now («patient_age» .exit)) (now («donor_antigens» .exit)) (now («patient_antigens» .exit)) (now («patient_antibodies» .exit))) (now (shuffle .exit))) ≡ reading (now (sheet .entry)) (tables (fields (now (ids .entry)) (now («donor_blood» .entry)) (now («patient_blood» .entry)) (now («donor_age» .entry)) (now («patient_age» .entry)) (now («donor_antigens» .entry)) (now («patient_antigens» .entry)) (now («patient_antibodies» .entry))) (now (shuffle .entry))) ⌝ }
-    ensures { λ r. ⌜ ReadsRightly (now (sheet .entry)) (tables (fields (now (ids .entry)) (now («donor_blood» .entry)) (now («patient_blood» .entry)) (now («donor_age» .entry)) (now («patient_age» .entry)) (now («donor_antigens» .entry)) (now («patient_antigens» .entry)) (now («patient_antibodies» .entry))) (now (shuffle .entry))) (readSaid r) ⌝ }
-    ensures { λ r. ⌜ r ≡ readNumbers (readSaid r) ⌝ }
+    ensures { λ r.
+        let t = lentTables ids «donor_blood» «patient_blood» «donor_age» «patient_age»
+        «donor_antigens» «patient_antigens» «patient_antibodies» shuffle in
+        let due = reading (now (sheet .entry)) (t .entry) in
+        ⌜ (r ≡ readNumbers (due .answer)) × Numbered (due .answer) ⌝
+        ∗ ⌜ t .exit ≡ due .lent ⌝
+        ∗ ⌜ ReadsRightly (now (sheet .entry)) (t .entry) (due .answer) ⌝ }
 {
-    match reader::read(
+    let answer = reader::read(
         sheet,
         ids,
         donor_blood,
@@ -101,18 +59,8 @@ pub extern "C" fn vadivuzhen_read(
         patient_antigens,
         patient_antibodies,
         shuffle,
-    ) {
-        Reading::Refused(why, place) => ReadAnswer {
-            refusal: number_of(why),
-            place: place,
-            pairs: 0,
-        },
-        Reading::Pairs(n) => ReadAnswer {
-            refusal: 0,
-            place: 0,
-            pairs: n,
-        },
-    }
+    );
+    numbers::read_numbers(answer)
 }
 
 // Writes the pool in the first n entries of the tables as a sheet into the lent buffer.
@@ -130,11 +78,15 @@ pub extern "C" fn vadivuzhen_write(
     shuffle: &[u16],
     out: &mut [u8],
 ) -> WriteAnswer
-    ensures { λ r. ⌜ outcome (writeSaid r) (now (out .exit)) ≡ writing n (tables (fields (now (ids .entry)) (now («donor_blood» .entry)) (now («patient_blood» .entry)) (now («donor_age» .entry)) (now («patient_age» .entry)) (now («donor_antigens» .entry)) (now («patient_antigens» .entry)) (now («patient_antibodies» .entry))) (now (shuffle .entry))) (now (out .entry)) ⌝ }
-    ensures { λ r. ⌜ WritesRightly n (tables (fields (now (ids .entry)) (now («donor_blood» .entry)) (now («patient_blood» .entry)) (now («donor_age» .entry)) (now («patient_age» .entry)) (now («donor_antigens» .entry)) (now («patient_antigens» .entry)) (now («patient_antibodies» .entry))) (now (shuffle .entry))) (length (now (out .entry))) (writeSaid r) ⌝ }
-    ensures { λ r. ⌜ r ≡ writeNumbers (writeSaid r) ⌝ }
+    ensures { λ r.
+        let t = lentTables ids «donor_blood» «patient_blood» «donor_age» «patient_age»
+        «donor_antigens» «patient_antigens» «patient_antibodies» shuffle in
+        let due = writing n (t .entry) (now (out .entry)) in
+        ⌜ (r ≡ writeNumbers (due .answer)) × NumberedAt0 (due .answer) ⌝
+        ∗ ⌜ now (out .exit) ≡ due .lent ⌝
+        ∗ ⌜ WritesRightly n (t .entry) (length (now (out .entry))) (due .answer) ⌝ }
 {
-    match writer::write(
+    let answer = writer::write(
         n,
         ids,
         donor_blood,
@@ -146,16 +98,8 @@ pub extern "C" fn vadivuzhen_write(
         patient_antibodies,
         shuffle,
         out,
-    ) {
-        Writing::Refused(why) => WriteAnswer {
-            refusal: number_of(why),
-            length: 0,
-        },
-        Writing::Length(length) => WriteAnswer {
-            refusal: 0,
-            length: length,
-        },
-    }
+    );
+    numbers::write_numbers(answer)
 }
 
 // Builds the tables M and W from the first n entries of a pool's fields.
@@ -173,10 +117,17 @@ pub extern "C" fn vadivuzhen_build(
     compatibilities: &mut [u8],
     weights: &mut [u16],
 ) -> BuildAnswer
-    ensures { λ r. ⌜ outcome (buildSaid r) (graph (now (compatibilities .exit)) (now (weights .exit))) ≡ building documentPoints n (fields (now (ids .entry)) (now («donor_blood» .entry)) (now («patient_blood» .entry)) (now («donor_age» .entry)) (now («patient_age» .entry)) (now («donor_antigens» .entry)) (now («patient_antigens» .entry)) (now («patient_antibodies» .entry))) (graph (now (compatibilities .entry)) (now (weights .entry))) ⌝ }
-    ensures { λ r. ⌜ BuildsRightly n (fields (now (ids .entry)) (now («donor_blood» .entry)) (now («patient_blood» .entry)) (now («donor_age» .entry)) (now («patient_age» .entry)) (now («donor_antigens» .entry)) (now («patient_antigens» .entry)) (now («patient_antibodies» .entry))) (graph (now (compatibilities .entry)) (now (weights .entry))) (buildSaid r) (graph (now (compatibilities .exit)) (now (weights .exit))) ⌝ }
+    ensures { λ r.
+        let f = lentFields ids «donor_blood» «patient_blood» «donor_age» «patient_age»
+        «donor_antigens» «patient_antigens» «patient_antibodies» in
+        let lent = graph (now (compatibilities .entry)) (now (weights .entry)) in
+        let left = graph (now (compatibilities .exit)) (now (weights .exit)) in
+        let due = building documentPoints n (f .entry) lent in
+        ⌜ (r ≡ buildNumbers (due .answer)) × NumberedAt0 (due .answer) ⌝
+        ∗ ⌜ left ≡ due .lent ⌝
+        ∗ ⌜ BuildsRightly n (f .entry) lent (due .answer) left ⌝ }
 {
-    match weighing::build(
+    let answer = weighing::build(
         n,
         ids,
         donor_blood,
@@ -188,39 +139,8 @@ pub extern "C" fn vadivuzhen_build(
         patient_antibodies,
         compatibilities,
         weights,
-    ) {
-        Building::Refused(why) => BuildAnswer {
-            refusal: number_of(why),
-        },
-        Building::Built => BuildAnswer { refusal: 0 },
-    }
-}
-
-// What planning answered, in numbers.
-fn plan_numbers(answer: Planning) -> PlanAnswer
-    ensures { λ r. ⌜ (planSaid r ≡ answerOf answer) × (r ≡ planNumbers (planSaid r)) ⌝ }
-{
-    match answer {
-        Planning::Refused(why) => PlanAnswer {
-            refusal: number_of(why),
-            cycles: 0,
-            weight: 0,
-            comparisons: 0,
-            products: 0,
-            rounds: 0,
-        },
-        Planning::Made(made) => {
-            let tally = made.tally;
-            PlanAnswer {
-                refusal: 0,
-                cycles: made.cycles,
-                weight: made.weight,
-                comparisons: tally.comparisons,
-                products: tally.products,
-                rounds: tally.rounds,
-            }
-        }
-    }
+    );
+    numbers::build_numbers(answer)
 }
 
 // Plans the pool of n pairs whose tables are m and w, with the shuffle.
@@ -236,9 +156,13 @@ pub extern "C" fn vadivuzhen_plan(
     recipients: &mut [u16],
     records: &mut [Cycle],
 ) -> PlanAnswer
-    ensures { λ r. ⌜ outcome (planSaid r) (lent (now (weights .exit)) (now (choices .exit)) (now (donors .exit)) (now (recipients .exit)) (now (records .exit))) ≡ planning n (now (m .entry)) (now (w .entry)) (now (shuffle .entry)) (lent (now (weights .entry)) (now (choices .entry)) (now (donors .entry)) (now (recipients .entry)) (now (records .entry))) ⌝ }
-    ensures guarantee { λ r. ⌜ ((p : Plan) → planSaid r ≡ finished p → Guarantee n (now (m .entry)) (now (w .entry)) (now (shuffle .entry)) p (lent (now (weights .exit)) (now (choices .exit)) (now (donors .exit)) (now (recipients .exit)) (now (records .exit)))) ⌝ }
-    ensures { λ r. ⌜ r ≡ planNumbers (planSaid r) ⌝ }
+    ensures { λ r.
+        let a = request n (now (m .entry)) (now (w .entry)) (now (shuffle .entry)) in
+        let t = lentPlan weights choices donors recipients records in
+        let due = planning a (t .entry) in
+        ⌜ (r ≡ planNumbers (due .answer)) × NumberedAt0 (due .answer) ⌝
+        ∗ ⌜ t .exit ≡ due .lent ⌝
+        ∗ ⌜ PlansRightly a (t .entry) due ⌝ }
 {
     let answer = planner::plan(
         n,
@@ -251,23 +175,7 @@ pub extern "C" fn vadivuzhen_plan(
         recipients,
         records,
     );
-    plan_numbers(answer)
-}
-
-// What printing answered, in numbers.
-fn printed(answer: Printing) -> PrintAnswer
-    ensures { λ r. ⌜ (printSaid r ≡ Printout·said answer) × (r ≡ printNumbers (printSaid r)) ⌝ }
-{
-    match answer {
-        Printing::Refused(why) => PrintAnswer {
-            refusal: number_of(why),
-            length: 0,
-        },
-        Printing::Length(size) => PrintAnswer {
-            refusal: 0,
-            length: size,
-        },
-    }
+    numbers::plan_numbers(answer)
 }
 
 // Prints a plan of n pairs into the lent buffer.
@@ -284,9 +192,12 @@ pub extern "C" fn vadivuzhen_print_plan(
     rounds: u64,
     out: &mut [u8],
 ) -> PrintAnswer
-    ensures { λ r. ⌜ outcome (printSaid r) (now (out .exit)) ≡ printingPlan (plan n cycles weight (now (ids .entry)) (now (donors .entry)) (now (recipients .entry)) comparisons products rounds) (now (out .entry)) ⌝ }
-    ensures { λ r. ⌜ PrintsPlan (plan n cycles weight (now (ids .entry)) (now (donors .entry)) (now (recipients .entry)) comparisons products rounds) (length (now (out .entry))) (printSaid r) ⌝ }
-    ensures { λ r. ⌜ r ≡ printNumbers (printSaid r) ⌝ }
+    ensures { λ r.
+        let p = plan n cycles weight (now (ids .entry)) (now (donors .entry)) (now (recipients .entry)) comparisons products rounds in
+        let due = printingPlan p (now (out .entry)) in
+        ⌜ (r ≡ printNumbers (due .answer)) × NumberedAt0 (due .answer) ⌝
+        ∗ ⌜ now (out .exit) ≡ due .lent ⌝
+        ∗ ⌜ PrintsPlan p (length (now (out .entry))) (due .answer) ⌝ }
 {
     let answer = printout::print_plan(
         n,
@@ -300,15 +211,17 @@ pub extern "C" fn vadivuzhen_print_plan(
         rounds,
         out,
     );
-    printed(answer)
+    numbers::print_numbers(answer)
 }
 
 // Prints `REFUSED`, any number and a place into the lent buffer.
 #[no_mangle]
 pub extern "C" fn vadivuzhen_print_refusal(number: u32, place: usize, out: &mut [u8]) -> PrintAnswer
-    ensures { λ r. ⌜ outcome (printSaid r) (now (out .exit)) ≡ printingRefusal number place (now (out .entry)) ⌝ }
-    ensures { λ r. ⌜ PrintsRefused number place (length (now (out .entry))) (printSaid r) ⌝ }
-    ensures { λ r. ⌜ r ≡ printNumbers (printSaid r) ⌝ }
+    ensures { λ r.
+        let due = printingRefusal number place (now (out .entry)) in
+        ⌜ (r ≡ printNumbers (due .answer)) × NumberedAt0 (due .answer) ⌝
+        ∗ ⌜ now (out .exit) ≡ due .lent ⌝
+        ∗ ⌜ PrintsRefused number place (length (now (out .entry))) (due .answer) ⌝ }
 {
-    printed(printout::print_refused(number, place, out))
+    numbers::print_numbers(printout::print_refused(number, place, out))
 }

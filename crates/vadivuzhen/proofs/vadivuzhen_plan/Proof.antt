@@ -2,18 +2,21 @@
 use Rattle.lending.proofs.Walking.{_≡_, refl, ap, subst, [], _∷_, List, ℕ, _<_, _^_, length, URA, fullShare, named, w64, Val, vint, SProp, ent, id⊢, via, emp, fst∗, Lft, Share, GName, ftrue, fat, flft, Memory, Routine, Heap, Calls, Loops, WpFn, Tables, Atoms, Fun, fact, AllOutlive, givenOf, tables, tablesOf, Given, ‵, raw, some, later, _⊛_, ⋆, Item, _$_, _∵_, !, qed, by, move, keep, drop, use1, use2, use3, cut, split, join, pick, rewrite, fsplit, fjoin, feqL, suffices, frame, await, done, look, init, forget, stop, hop, fld, from, load, addr, and-then, no-more, land, assigns, returns, enter, alloc1, alloc0, params1, pass1, pass0, free1, free0, agg, whole, sub, look-in, lft-new, lft-end, FmC, fmOf, WpFn-mono, RattleType, owns, Is, shows, uint-vals, uint-tells, uint-makes, u8, u16, u32, usize, RefT, sliceVal, MutSlice, ShrSlice, Room, slice-vals, mut-slice-tells, shr-slice-tells, shr-slice-copy, plain, shrSliceOf, only, owned, facts, heard, nothing, onEntry, Meets, tripleOf, Contract, Triple, calls-at, ensured, lasts, entered, cited, Stays, stay-dropped, stay-slice, walkOf, goes-dropped, goes-slice, Walks, ends-at, walked, walk-meets, yes, renamed, LentAgain, again-out, again-back, says-three}
 use denote.Struct.Laws as LL
 use denote.Enum.Laws as EL
-use Rattle.refusal.specs.Answer.{outcome, finished}
-use Rattle.vadivuzhen.specs.Answers.{planSaid, planNumbers}
-use Rattle.exchange.specs.Planning.{lent, planning, Plan}
-use Rattle.exchange.specs.Promises.{Guarantee}
-use Rattle.planner.specs.Said.{answerOf}
-use Rattle.vadivuzhen.proofs.Told.{kept-plan}
+use Rattle.numbers.specs.Numbers.{planNumbers}
+use Rattle.exchange.specs.Planning.{planning, lent}
+use Rattle.exchange.specs.Input.{request}
+use Rattle.numbers.specs.Promises.{NumberedAt0}
+use Rattle.exchange.specs.Promises.{PlansRightly}
+use Rattle.refusal.specs.Answer.{outcome}
+use Rattle.planner.specs.Answers.{answerOf, answerOf as Planner·answerOf}
+use Rattle.numbers.proofs.Own.{plan-numbered}
+use Rattle.vadivuzhen.proofs.Kept.{kept-plan}
 use Rattle.records.specs.declared.Cycle.{Cycle}
 use Rattle.records.proofs.Cycle as Cycle-row
 use Rattle.records.proofs.Cycle.Laws as Cycle-laws
-use Rattle.vadivuzhen.specs.declared.PlanAnswer.{PlanAnswer}
-use Rattle.vadivuzhen.proofs.PlanAnswer as PlanAnswer-row
-use Rattle.vadivuzhen.proofs.PlanAnswer.Laws as PlanAnswer-laws
+use Rattle.numbers.specs.declared.PlanAnswer.{PlanAnswer}
+use Rattle.numbers.proofs.PlanAnswer as PlanAnswer-row
+use Rattle.numbers.proofs.PlanAnswer.Laws as PlanAnswer-laws
 use Rattle.planner.specs.declared.Planning.{Planning}
 use Rattle.planner.proofs.Planning as Planning-row
 use Rattle.planner.proofs.Planning.Laws as Planning-laws
@@ -21,10 +24,10 @@ use Rattle.planner.proofs.plan as f1
 use Rattle.planner.proofs.plan.Symbol as f1-def
 use Rattle.planner.proofs.plan.Symbol.{name as #f1}
 use Rattle.planner.proofs.plan.Met as f1-thm
-use Rattle.vadivuzhen.proofs.plan_numbers as f2
-use Rattle.vadivuzhen.proofs.plan_numbers.Symbol as f2-def
-use Rattle.vadivuzhen.proofs.plan_numbers.Symbol.{name as #f2}
-use Rattle.vadivuzhen.proofs.plan_numbers.Met as f2-thm
+use Rattle.numbers.proofs.plan_numbers as f2
+use Rattle.numbers.proofs.plan_numbers.Symbol as f2-def
+use Rattle.numbers.proofs.plan_numbers.Symbol.{name as #f2}
+use Rattle.numbers.proofs.plan_numbers.Met as f2-thm
 use Rattle.vadivuzhen.proofs.vadivuzhen_plan.Key.{name as #me}
 use Rattle.vadivuzhen.proofs.vadivuzhen_plan as me
 use Rattle.vadivuzhen.proofs.vadivuzhen_plan.Statement as stated
@@ -58,7 +61,7 @@ module _ {M : Type 1} (𝓤 : URA M) (H : Heap 𝓤) (A : Atoms 𝓤) (W : Given
   abbrev Post : Val → SProp 𝓤
   Post = walkOf 𝓤 H A me.ended stayed (me.clauses 𝓤 H A at-mem run) .post (((κ0, (κ1, (κ2, (κ3, (κ4, (κ5, (κ6, (κ7, tt)))))))), (q0, (q1, (q2, (q3, (q4, (q5, (q6, (q7, tt)))))))), bounds, x, at), tt)
 
-  exits : (r : PlanAnswer) (r-fits : Is R-PlanAnswer r ((PlanAnswer-laws.lowered r) ∷ [])) (weights′ : List ℕ) (choices′ : List ℕ) (donors′ : List ℕ) (recipients′ : List ℕ) (records′ : List Cycle) → (outcome (planSaid r) (lent weights′ choices′ donors′ recipients′ records′) ≡ planning n (m .now) (w .now) (shuffle .now) (lent (weights .now) (choices .now) (donors .now) (recipients .now) (records .now))) → (((p : Plan) → planSaid r ≡ finished p → Guarantee n (m .now) (w .now) (shuffle .now) p (lent weights′ choices′ donors′ recipients′ records′))) → (r ≡ planNumbers (planSaid r)) → (length weights′) ≡ (length (weights .now)) → (length choices′) ≡ (length (choices .now)) → (length donors′) ≡ (length (donors .now)) → (length recipients′) ≡ (length (recipients .now)) → (length records′) ≡ (length (records .now))
+  exits : (r : PlanAnswer) (r-fits : Is R-PlanAnswer r ((PlanAnswer-laws.lowered r) ∷ [])) (weights′ : List ℕ) (choices′ : List ℕ) (donors′ : List ℕ) (recipients′ : List ℕ) (records′ : List Cycle) → ((r ≡ planNumbers ((planning (request n (m .now) (w .now) (shuffle .now)) (lent (weights .now) (choices .now) (donors .now) (recipients .now) (records .now))) .answer)) × NumberedAt0 ((planning (request n (m .now) (w .now) (shuffle .now)) (lent (weights .now) (choices .now) (donors .now) (recipients .now) (records .now))) .answer)) → ((lent weights′ choices′ donors′ recipients′ records′) ≡ (planning (request n (m .now) (w .now) (shuffle .now)) (lent (weights .now) (choices .now) (donors .now) (recipients .now) (records .now))) .lent) → (PlansRightly (request n (m .now) (w .now) (shuffle .now)) (lent (weights .now) (choices .now) (donors .now) (recipients .now) (records .now)) (planning (request n (m .now) (w .now) (shuffle .now)) (lent (weights .now) (choices .now) (donors .now) (recipients .now) (records .now)))) → (length weights′) ≡ (length (weights .now)) → (length choices′) ≡ (length (choices .now)) → (length donors′) ≡ (length (donors .now)) → (length recipients′) ≡ (length (recipients .now)) → (length records′) ≡ (length (records .now))
       → ent 𝓤 (⋆ 𝓤 H A (‵ (flft κ0 q0) ∷ ‵ (flft κ1 q1) ∷ ‵ (flft κ2 q2) ∷ ‵ (flft κ3 q3) ∷ ‵ (flft κ4 q4) ∷ ‵ (flft κ5 q5) ∷ ‵ (flft κ6 q6) ∷ ‵ (flft κ7 q7) ∷ ‵ (MutSlice (named 3) κ3 u32 .own (renamed weights (weights .name) weights′) ((sliceVal (weights .ptr) (length (weights .now))) ∷ [])) ∷ ‵ (MutSlice (named 4) κ4 u32 .own (renamed choices (choices .name) choices′) ((sliceVal (choices .ptr) (length (choices .now))) ∷ [])) ∷ ‵ (MutSlice (named 5) κ5 u16 .own (renamed donors (donors .name) donors′) ((sliceVal (donors .ptr) (length (donors .now))) ∷ [])) ∷ ‵ (MutSlice (named 6) κ6 u16 .own (renamed recipients (recipients .name) recipients′) ((sliceVal (recipients .ptr) (length (recipients .now))) ∷ [])) ∷ ‵ (MutSlice (named 7) κ7 R-Cycle .own (renamed records (records .name) records′) ((sliceVal (records .ptr) (length (records .now))) ∷ [])) ∷ [])) (Post (PlanAnswer-laws.lowered r))
   exits r r-fits weights′ choices′ donors′ recipients′ records′ e-0 e-1 e-2 long-weights long-choices long-donors long-recipients long-records =
       qed W (‵ (flft κ0 q0) ∷ ‵ (flft κ1 q1) ∷ ‵ (flft κ2 q2) ∷ ‵ (flft κ3 q3) ∷ ‵ (flft κ4 q4) ∷ ‵ (flft κ5 q5) ∷ ‵ (flft κ6 q6) ∷ ‵ (flft κ7 q7) ∷ ‵ (MutSlice (named 3) κ3 u32 .own (renamed weights (weights .name) weights′) ((sliceVal (weights .ptr) (length (weights .now))) ∷ [])) ∷ ‵ (MutSlice (named 4) κ4 u32 .own (renamed choices (choices .name) choices′) ((sliceVal (choices .ptr) (length (choices .now))) ∷ [])) ∷ ‵ (MutSlice (named 5) κ5 u16 .own (renamed donors (donors .name) donors′) ((sliceVal (donors .ptr) (length (donors .now))) ∷ [])) ∷ ‵ (MutSlice (named 6) κ6 u16 .own (renamed recipients (recipients .name) recipients′) ((sliceVal (recipients .ptr) (length (recipients .now))) ∷ [])) ∷ ‵ (MutSlice (named 7) κ7 R-Cycle .own (renamed records (records .name) records′) ((sliceVal (records .ptr) (length (records .now))) ∷ [])) ∷ []) ∵
@@ -131,8 +134,8 @@ module _ {M : Type 1} (𝓤 : URA M) (H : Heap 𝓤) (A : Atoms 𝓤) (W : Given
         move ! (23 ∷ 22 ∷ 21 ∷ 14 ∷ 11 ∷ 8 ∷ 5 ∷ 2 ∷ 19 ∷ 17 ∷ 15 ∷ 12 ∷ 9 ∷ 6 ∷ 3 ∷ 0 ∷ []) $ cut (asked-1 n n-fits ν1-4 δ1-4 (weights .now) ν1-5 δ1-5 (choices .now) ν1-6 δ1-6 (donors .now) ν1-7 δ1-7 (recipients .now) ν1-8 δ1-8 (records .now)) (raw (F1 𝓤 H A at-mem run .pre (to-1 n n-fits ν1-4 δ1-4 (weights .now) ν1-5 δ1-5 (choices .now) ν1-6 δ1-6 (donors .now) ν1-7 δ1-7 (recipients .now) ν1-8 δ1-8 (records .now))) ∷ []) _ (goes-1 n n-fits ν1-4 δ1-4 (weights .now) ν1-5 δ1-5 (choices .now) ν1-6 δ1-6 (donors .now) ν1-7 δ1-7 (recipients .now) ν1-8 δ1-8 (records .now)) $
         calls-at ! fm (F1 𝓤 H A at-mem run) known-f1 (to-1 n n-fits ν1-4 δ1-4 (weights .now) ν1-5 δ1-5 (choices .now) ν1-6 δ1-6 (donors .now) ν1-7 δ1-7 (recipients .now) ν1-8 δ1-8 (records .now)) (and-then ! (load ! (from ! (stop !)) (look ! 47 refl)) (and-then ! (load ! (from ! (stop !)) (look ! 45 refl)) (and-then ! (load ! (from ! (stop !)) (look ! 43 refl)) (and-then ! (load ! (from ! (stop !)) (look ! 41 refl)) (and-then ! (load ! (from ! (stop !)) (look ! 25 refl)) (and-then ! (load ! (from ! (stop !)) (look ! 21 refl)) (and-then ! (load ! (from ! (stop !)) (look ! 17 refl)) (and-then ! (load ! (from ! (stop !)) (look ! 13 refl)) (and-then ! (load ! (from ! (stop !)) (look ! 9 refl)) (no-more !)))))))))) (λ v1.
         use1 W (later (some (λ (r : Planning). ((‵ (flft κ0 q0) ⊛ ‵ (flft κ1 q1) ⊛ ‵ (flft κ2 q2) ⊛ ‵ (flft (ν1-4 ∷ []) fullShare) ⊛ ‵ (flft (ν1-5 ∷ []) fullShare) ⊛ ‵ (flft (ν1-6 ∷ []) fullShare) ⊛ ‵ (flft (ν1-7 ∷ []) fullShare) ⊛ ‵ (flft (ν1-8 ∷ []) fullShare) ⊛ ‵ ftrue) ⊛ ‵ (R-Planning .own r (v1 ∷ []))) ⊛ raw (ensured 𝓤 H A f1.ended (f1.clauses 𝓤 H A at-mem run) (κ0, (κ1, (κ2, ((ν1-4 ∷ []), ((ν1-5 ∷ []), ((ν1-6 ∷ []), ((ν1-7 ∷ []), ((ν1-8 ∷ []), tt)))))))) (n, (m, (w, (shuffle, ((renamed weights δ1-4 (weights .now)), ((renamed choices δ1-5 (choices .now)), ((renamed donors δ1-6 (donors .now)), ((renamed recipients δ1-7 (recipients .now)), ((renamed records δ1-8 (records .now)), tt))))))))) tt r)))) (id⊢ 𝓤 _) $ await ! tt $ pick ! (λ r1.
-        split ! $ move ! (1 ∷ []) $ use1 W (some (λ (zs : (Unit {0} × (Unit {0} × (Unit {0} × (Unit {0} × (List ℕ × (List ℕ × (List ℕ × (List ℕ × (List Cycle × Unit {0})))))))))). ‵ (lasts f1.ended (κ0, (κ1, (κ2, ((ν1-4 ∷ []), ((ν1-5 ∷ []), ((ν1-6 ∷ []), ((ν1-7 ∷ []), ((ν1-8 ∷ []), tt)))))))) (n, (m, (w, (shuffle, ((renamed weights δ1-4 (weights .now)), ((renamed choices δ1-5 (choices .now)), ((renamed donors δ1-6 (donors .now)), ((renamed recipients δ1-7 (recipients .now)), ((renamed records δ1-8 (records .now)), tt))))))))) zs) ⊛ raw (fact 𝓤 (outcome (answerOf r1) (lent (zs .1 .1 .1 .1 .0) (zs .1 .1 .1 .1 .1 .0) (zs .1 .1 .1 .1 .1 .1 .0) (zs .1 .1 .1 .1 .1 .1 .1 .0) (zs .1 .1 .1 .1 .1 .1 .1 .1 .0)) ≡ planning n (m .now) (w .now) (shuffle .now) (lent (weights .now) (choices .now) (donors .now) (recipients .now) (records .now)))) ⊛ raw (fact 𝓤 (((p : Plan) → answerOf r1 ≡ finished p → Guarantee n (m .now) (w .now) (shuffle .now) p (lent (zs .1 .1 .1 .1 .0) (zs .1 .1 .1 .1 .1 .0) (zs .1 .1 .1 .1 .1 .1 .0) (zs .1 .1 .1 .1 .1 .1 .1 .0) (zs .1 .1 .1 .1 .1 .1 .1 .1 .0))))))) (id⊢ 𝓤 _) $ pick ! (λ zs1.
-        split ! $ move ! (1 ∷ []) $ split ! $ heard ! (outcome (answerOf r1) (lent (zs1 .1 .1 .1 .1 .0) (zs1 .1 .1 .1 .1 .1 .0) (zs1 .1 .1 .1 .1 .1 .1 .0) (zs1 .1 .1 .1 .1 .1 .1 .1 .0) (zs1 .1 .1 .1 .1 .1 .1 .1 .1 .0)) ≡ planning n (m .now) (w .now) (shuffle .now) (lent (weights .now) (choices .now) (donors .now) (recipients .now) (records .now))) (λ e1-0. heard ! (((p : Plan) → answerOf r1 ≡ finished p → Guarantee n (m .now) (w .now) (shuffle .now) p (lent (zs1 .1 .1 .1 .1 .0) (zs1 .1 .1 .1 .1 .1 .0) (zs1 .1 .1 .1 .1 .1 .1 .0) (zs1 .1 .1 .1 .1 .1 .1 .1 .0) (zs1 .1 .1 .1 .1 .1 .1 .1 .1 .0)))) (λ e1-1. fsplit ! $ drop ! $ fsplit ! $ drop ! $ fsplit ! $ drop ! $ fsplit ! $ drop ! $ fsplit ! $ fsplit ! $ move ! (1 ∷ []) $ feqL ! (λ long1-4. move ! (1 ∷ []) $ fsplit ! $ fsplit ! $ move ! (1 ∷ []) $ feqL ! (λ long1-5. move ! (1 ∷ []) $ fsplit ! $ fsplit ! $ move ! (1 ∷ []) $ feqL ! (λ long1-6. move ! (1 ∷ []) $ fsplit ! $ fsplit ! $ move ! (1 ∷ []) $ feqL ! (λ long1-7. move ! (1 ∷ []) $ fsplit ! $ fsplit ! $ move ! (1 ∷ []) $ feqL ! (λ long1-8. move ! (1 ∷ []) $ drop ! $
+        split ! $ move ! (1 ∷ []) $ use1 W (some (λ (zs : (Unit {0} × (Unit {0} × (Unit {0} × (Unit {0} × (List ℕ × (List ℕ × (List ℕ × (List ℕ × (List Cycle × Unit {0})))))))))). ‵ (lasts f1.ended (κ0, (κ1, (κ2, ((ν1-4 ∷ []), ((ν1-5 ∷ []), ((ν1-6 ∷ []), ((ν1-7 ∷ []), ((ν1-8 ∷ []), tt)))))))) (n, (m, (w, (shuffle, ((renamed weights δ1-4 (weights .now)), ((renamed choices δ1-5 (choices .now)), ((renamed donors δ1-6 (donors .now)), ((renamed recipients δ1-7 (recipients .now)), ((renamed records δ1-8 (records .now)), tt))))))))) zs) ⊛ raw (fact 𝓤 (PlansRightly (request n (m .now) (w .now) (shuffle .now)) (lent (weights .now) (choices .now) (donors .now) (recipients .now) (records .now)) (outcome (answerOf r1) (lent (zs .1 .1 .1 .1 .0) (zs .1 .1 .1 .1 .1 .0) (zs .1 .1 .1 .1 .1 .1 .0) (zs .1 .1 .1 .1 .1 .1 .1 .0) (zs .1 .1 .1 .1 .1 .1 .1 .1 .0))))))) (id⊢ 𝓤 _) $ pick ! (λ zs1.
+        split ! $ move ! (1 ∷ []) $ heard ! (PlansRightly (request n (m .now) (w .now) (shuffle .now)) (lent (weights .now) (choices .now) (donors .now) (recipients .now) (records .now)) (outcome (answerOf r1) (lent (zs1 .1 .1 .1 .1 .0) (zs1 .1 .1 .1 .1 .1 .0) (zs1 .1 .1 .1 .1 .1 .1 .0) (zs1 .1 .1 .1 .1 .1 .1 .1 .0) (zs1 .1 .1 .1 .1 .1 .1 .1 .1 .0)))) (λ e1. fsplit ! $ drop ! $ fsplit ! $ drop ! $ fsplit ! $ drop ! $ fsplit ! $ drop ! $ fsplit ! $ fsplit ! $ move ! (1 ∷ []) $ feqL ! (λ long1-4. move ! (1 ∷ []) $ fsplit ! $ fsplit ! $ move ! (1 ∷ []) $ feqL ! (λ long1-5. move ! (1 ∷ []) $ fsplit ! $ fsplit ! $ move ! (1 ∷ []) $ feqL ! (λ long1-6. move ! (1 ∷ []) $ fsplit ! $ fsplit ! $ move ! (1 ∷ []) $ feqL ! (λ long1-7. move ! (1 ∷ []) $ fsplit ! $ fsplit ! $ move ! (1 ∷ []) $ feqL ! (λ long1-8. move ! (1 ∷ []) $ drop ! $
         move ! (5 ∷ []) $ split ! $ move ! (1 ∷ []) $ facts ! R-Planning (Is R-Planning) (shows 𝓤 H A R-Planning) r1 (v1 ∷ []) (λ got1. split ! $ move ! (1 ∷ []) $ split ! $ move ! (1 ∷ []) $ split ! $ move ! (1 ∷ []) $ split ! $ move ! (1 ∷ []) $ split ! $ move ! (1 ∷ []) $ split ! $ move ! (1 ∷ []) $ split ! $ move ! (1 ∷ []) $ split ! $ move ! (1 ∷ []) $ drop ! $
         land ! (from ! (stop !)) (init ! 41 refl (EL.lawful Planning-row.the-type Planning-laws.the-laws 𝓤 H A W tt .typed r1 _ got1 .0)) $ rewrite ! 41 (λ (u : Val). ‵ (fat fullShare Planning-laws.mir l10 0 u)) (ap only (Planning-laws.lowers .val-is r1 _ got1)) refl $
         move ! (4 ∷ []) $ lft-end ! tt $ move ! (0 ∷ 17 ∷ 12 ∷ []) $ use3 W (later (‵ (MutSlice (named 3) κ3 u32 .own (renamed weights (weights .name) (zs1 .1 .1 .1 .1 .0)) ((sliceVal (weights .ptr) (length (weights .now))) ∷ [])) ⊛ ‵ (flft κ3 q3))) (again-back u32 κ3 (ν1-4 ∷ []) q3 (weights .name) (weights .ptr .0) (weights .ptr .1) 𝓤 H A W (named 3) (named 3) ((sliceVal (weights .ptr) (length (weights .now))) ∷ []) (weights .now) δ1-4 (zs1 .1 .1 .1 .1 .0) refl weights-room long1-4) $ await ! tt $ split ! $
@@ -144,13 +147,13 @@ module _ {M : Type 1} (𝓤 : URA M) (H : Heap 𝓤) (A : Atoms 𝓤) (W : Given
         cut (asked-2 r1 (subst (Is R-Planning r1) (Planning-laws.lowers .val-is r1 _ got1) got1)) (raw (F2 𝓤 H A at-mem run .pre (to-2 r1 (subst (Is R-Planning r1) (Planning-laws.lowers .val-is r1 _ got1) got1))) ∷ []) _ (goes-2 r1 (subst (Is R-Planning r1) (Planning-laws.lowers .val-is r1 _ got1) got1)) $
         calls-at ! fm (F2 𝓤 H A at-mem run) known-f2 (to-2 r1 (subst (Is R-Planning r1) (Planning-laws.lowers .val-is r1 _ got1) got1)) (and-then ! (load ! (from ! (stop !)) (look ! 37 refl)) (no-more !)) (λ v2.
         use1 W (later (some (λ (r : PlanAnswer). ((‵ ftrue) ⊛ ‵ (R-PlanAnswer .own r (v2 ∷ []))) ⊛ raw (ensured 𝓤 H A f2.ended (f2.clauses 𝓤 H A at-mem run) tt (r1, tt) tt r)))) (id⊢ 𝓤 _) $ await ! tt $ pick ! (λ r2.
-        split ! $ move ! (1 ∷ []) $ use1 W (some (λ (zs : (Unit {0} × Unit {0})). ‵ (lasts f2.ended tt (r1, tt) zs) ⊛ raw (fact 𝓤 ((planSaid r2 ≡ answerOf r1) × (r2 ≡ planNumbers (planSaid r2)))))) (id⊢ 𝓤 _) $ pick ! (λ zs2.
-        split ! $ move ! (1 ∷ []) $ heard ! ((planSaid r2 ≡ answerOf r1) × (r2 ≡ planNumbers (planSaid r2))) (λ e2. drop ! $
+        split ! $ move ! (1 ∷ []) $ use1 W (some (λ (zs : (Unit {0} × Unit {0})). ‵ (lasts f2.ended tt (r1, tt) zs) ⊛ raw (fact 𝓤 (r2 ≡ planNumbers (Planner·answerOf r1))))) (id⊢ 𝓤 _) $ pick ! (λ zs2.
+        split ! $ move ! (1 ∷ []) $ heard ! (r2 ≡ planNumbers (Planner·answerOf r1)) (λ e2. drop ! $
         split ! $ move ! (1 ∷ []) $ facts ! R-PlanAnswer (Is R-PlanAnswer) (shows 𝓤 H A R-PlanAnswer) r2 (v2 ∷ []) (λ got2. drop ! $
         land ! (from ! (stop !)) (init ! 56 refl (LL.lawful PlanAnswer-row.the-type PlanAnswer-laws.the-laws 𝓤 H A W .typed r2 _ got2 .0)) $ rewrite ! 56 (λ (u : Val). ‵ (fat fullShare PlanAnswer-laws.mir l0 0 u)) (ap only (LL.tells PlanAnswer-row.the-type PlanAnswer-laws.the-laws r2 _ got2)) refl $
         returns ! (look ! 56 refl) $ forget ! 16 refl $ forget ! 18 refl $ forget ! 20 refl $ forget ! 22 refl $ forget ! 24 refl $ forget ! 26 refl $ forget ! 28 refl $ forget ! 30 refl $ forget ! 32 refl $ forget ! 34 refl $ forget ! 36 refl $ forget ! 38 refl $ forget ! 40 refl $ forget ! 42 refl $ forget ! 44 refl $ forget ! 46 refl $ forget ! 48 refl $ forget ! 50 refl $ forget ! 52 refl $ forget ! 54 refl $ forget ! 56 refl $
         move ! (56 ∷ 57 ∷ []) $ free1 ! $ move ! (54 ∷ 55 ∷ []) $ free1 ! $ move ! (52 ∷ 53 ∷ []) $ free1 ! $ move ! (50 ∷ 51 ∷ []) $ free1 ! $ move ! (48 ∷ 49 ∷ []) $ free1 ! $ move ! (46 ∷ 47 ∷ []) $ free1 ! $ move ! (44 ∷ 45 ∷ []) $ free1 ! $ move ! (42 ∷ 43 ∷ []) $ free1 ! $ move ! (40 ∷ 41 ∷ []) $ free1 ! $ move ! (38 ∷ 39 ∷ []) $ free1 ! $ move ! (36 ∷ 37 ∷ []) $ free1 ! $ move ! (34 ∷ 35 ∷ []) $ free1 ! $ move ! (32 ∷ 33 ∷ []) $ free1 ! $ move ! (30 ∷ 31 ∷ []) $ free1 ! $ move ! (28 ∷ 29 ∷ []) $ free1 ! $ move ! (26 ∷ 27 ∷ []) $ free1 ! $ move ! (24 ∷ 25 ∷ []) $ free1 ! $ move ! (22 ∷ 23 ∷ []) $ free1 ! $ move ! (20 ∷ 21 ∷ []) $ free1 ! $ move ! (18 ∷ 19 ∷ []) $ free1 ! $ move ! (16 ∷ 17 ∷ []) $ free1 ! $ free0 ! $
-        keep ! (12 ∷ 11 ∷ 10 ∷ 9 ∷ 7 ∷ 5 ∷ 3 ∷ 1 ∷ 8 ∷ 6 ∷ 4 ∷ 2 ∷ 0 ∷ []) $ by ! (exits r2 (subst (Is R-PlanAnswer r2) (LL.tells PlanAnswer-row.the-type PlanAnswer-laws.the-laws r2 _ got2) got2) (zs1 .1 .1 .1 .1 .0) (zs1 .1 .1 .1 .1 .1 .0) (zs1 .1 .1 .1 .1 .1 .1 .0) (zs1 .1 .1 .1 .1 .1 .1 .1 .0) (zs1 .1 .1 .1 .1 .1 .1 .1 .1 .0) (kept-plan (e2 .0) e1-0 e1-1 .0) (kept-plan (e2 .0) e1-0 e1-1 .1) (e2 .1) long1-4 long1-5 long1-6 long1-7 long1-8))))))))))))))))))))))))))))))))))))))))))))))))
+        keep ! (12 ∷ 11 ∷ 10 ∷ 9 ∷ 7 ∷ 5 ∷ 3 ∷ 1 ∷ 8 ∷ 6 ∷ 4 ∷ 2 ∷ 0 ∷ []) $ by ! (exits r2 (subst (Is R-PlanAnswer r2) (LL.tells PlanAnswer-row.the-type PlanAnswer-laws.the-laws r2 _ got2) got2) (zs1 .1 .1 .1 .1 .0) (zs1 .1 .1 .1 .1 .1 .0) (zs1 .1 .1 .1 .1 .1 .1 .0) (zs1 .1 .1 .1 .1 .1 .1 .1 .0) (zs1 .1 .1 .1 .1 .1 .1 .1 .1 .0) (kept-plan e2 (plan-numbered _) e1 .0) (kept-plan e2 (plan-numbered _) e1 .1 .0) (kept-plan e2 (plan-numbered _) e1 .1 .1) long1-4 long1-5 long1-6 long1-7 long1-8)))))))))))))))))))))))))))))))))))))))))))))))
 
 module _ {M : Type 1} (𝓤 : URA M) (H : Heap 𝓤) (A : Atoms 𝓤) (W : Given 𝓤 H A) (at-mem : Memory → SProp 𝓤) (run : Routine → Fun 𝓤) where
   walks : (𝓣 : Tables 𝓤 H) → Triple 𝓤 (𝓣 .C #f1) (F1 𝓤 H A at-mem run) → Triple 𝓤 (𝓣 .C #f2) (F2 𝓤 H A at-mem run) → Walks 𝓤 H A me.ended stayed (WpFn 𝓤 H (𝓣 .C) (𝓣 .Λ) code.function) (me.clauses 𝓤 H A at-mem run)
@@ -169,4 +172,4 @@ vadivuzhen-plan-spec 𝓤 H 𝓜 𝓖 𝓡 =
     (tables 𝓤 H 𝓜 𝓡 code.env .C) (tables 𝓤 H 𝓜 𝓡 code.env .Λ) #me code.function (code.unfolded 𝓤 H 𝓜 𝓡)
     (meets 𝓤 H (𝓖 .A) (givenOf 𝓤 H 𝓜 𝓖) (𝓜 .mem) (𝓡 .run) (tablesOf 𝓤 H 𝓜 (tables 𝓤 H 𝓜 𝓡 code.env))
     (cited 𝓤 H (F1 𝓤 H (𝓖 .A) (𝓜 .mem) (𝓡 .run)) 𝓜 𝓡 code.env #f1 f1-def.routine code.calls-planner·plan (f1-thm.met 𝓤 H 𝓜 𝓖 𝓡))
-    (cited 𝓤 H (F2 𝓤 H (𝓖 .A) (𝓜 .mem) (𝓡 .run)) 𝓜 𝓡 code.env #f2 f2-def.routine code.calls-vadivuzhen·plan-numbers (f2-thm.met 𝓤 H 𝓜 𝓖 𝓡)))
+    (cited 𝓤 H (F2 𝓤 H (𝓖 .A) (𝓜 .mem) (𝓡 .run)) 𝓜 𝓡 code.env #f2 f2-def.routine code.calls-numbers·plan-numbers (f2-thm.met 𝓤 H 𝓜 𝓖 𝓡)))

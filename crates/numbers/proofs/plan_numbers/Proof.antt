@@ -1,8 +1,8 @@
--- `vadivuzhen::plan_numbers` meets its contract. Assumes nothing.
-use Rattle.vadivuzhen.proofs.Told.{plan-refused, plan-made}
+-- `numbers::plan_numbers` meets its contract. Assumes nothing.
+use Rattle.numbers.proofs.Given.{plan-refused, plan-made}
 use borrow.Author.Needs.{needs}
-use Rattle.vadivuzhen.proofs.plan_numbers.Statement.{statement}
-use Rattle.vadivuzhen.proofs.plan_numbers.Tie as tie
+use Rattle.numbers.proofs.plan_numbers.Statement.{statement}
+use Rattle.numbers.proofs.plan_numbers.Tie as tie
 
 enum-known-answer : tie.Need-enum-known-answer
 enum-known-answer c = search needs

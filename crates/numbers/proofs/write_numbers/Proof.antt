@@ -1,8 +1,8 @@
--- `vadivuzhen::printed` meets its contract. Assumes nothing.
-use Rattle.vadivuzhen.proofs.Told.{print-refused, print-finished}
+-- `numbers::write_numbers` meets its contract. Assumes nothing.
+use Rattle.numbers.proofs.Given.{write-refused, write-finished}
 use borrow.Author.Needs.{needs}
-use Rattle.vadivuzhen.proofs.printed.Statement.{statement}
-use Rattle.vadivuzhen.proofs.printed.Tie as tie
+use Rattle.numbers.proofs.write_numbers.Statement.{statement}
+use Rattle.numbers.proofs.write_numbers.Tie as tie
 
 enum-known-answer : tie.Need-enum-known-answer
 enum-known-answer c = search needs
@@ -15,13 +15,13 @@ enum-known-answer-2 c = search needs
 
 returns : tie.Need-returns
 returns c =
-    print-refused _ _ (c .before .before .answer .given .1) _ (c .number-of .ensures)
+    write-refused _ _ (c .before .before .answer .given .1) _ (c .number-of .ensures)
 
 returns-2 : tie.Need-returns-2
 returns-2 c =
-    print-finished _ _ (c .before .answer2 .given .1)
+    write-finished _ _ (c .before .answer2 .given .1)
 
-pub printed-spec : {M : Type 1} → statement M
-printed-spec =
+pub write-numbers-spec : {M : Type 1} → statement M
+write-numbers-spec =
     tie.close
     (tie.spec enum-known-answer number-of-requires enum-known-answer-2 returns returns-2)

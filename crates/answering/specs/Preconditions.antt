@@ -31,12 +31,12 @@ pub record FaultlessTables (n : ℕ) (M W s : List ℕ) : Type 0 where
 abbrev pub cyclesOf : ℕ → List ℕ → List ℕ → List ℕ → List (List ℕ)
 cyclesOf n M W s = plannedBy 0 3 n (entry M n) (entry W n) s
 
-abbrev pub resultOf : ℕ → List ℕ → List ℕ → List ℕ → Plan
-resultOf n M W s =
+abbrev pub plannedResult : ℕ → List ℕ → List ℕ → List ℕ → Plan
+plannedResult n M W s =
     plan (total (entry M n) (entry W n) (cyclesOf n M W s)) (length (cyclesOf n M W s)) (leftBy 0 3 n (entry M n) (entry W n) s .tally)
 
 -- the result p, and the partners in lent tables that were a and b, and are d and r
 pub record Partnered (n : ℕ) (M W s a b : List ℕ) (p : Plan) (d r : List ℕ) : Type 0 where
-  pub result : p ≡ resultOf n M W s
+  pub result : p ≡ plannedResult n M W s
   pub donors : d ≡ filled (donorTable n (cyclesOf n M W s)) a
   pub recipients : r ≡ filled (recipientTable n (cyclesOf n M W s)) b

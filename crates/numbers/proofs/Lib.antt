@@ -1,0 +1,3 @@
+-- `Given`: the numbers that each function gives. `Own`: the promises of the numbers.
+pub mod Given
+pub mod Own

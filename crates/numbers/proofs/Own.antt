@@ -1,0 +1,119 @@
+-- The promises of the numbers: no two answers have the same, and what each call answers is such an answer. Assumes nothing.
+use mathlib.Core.Path.{_≡_, refl, ap}
+use Prim.Native.Nat.{ℕ, _≤_}
+use native.Mathlib.Omega.{arith}
+use Rattle.refusal.specs.Answer.{Answer, finished, refused}
+use Rattle.refusal.specs.Number.{numberOf}
+use Rattle.refusal.specs.declared.Refusal.{Refusal}
+use Rattle.refusal.specs.declared.Refusal.the-variants.{CutOff, WrongField, WrongVersion, TooManyPairs, LeftOver, OutOfRange, RepeatedId, NotAShuffle, TooShort, NotCompatibility}
+use Rattle.greedy.specs.Tally.{tally}
+use Rattle.exchange.specs.Planning.{Plan, plan}
+use Rattle.reader.specs.Said as Reader
+use Rattle.reader.specs.declared.Reading.{Reading}
+use Rattle.reader.specs.declared.Reading.the-variants as Reading
+use Rattle.writer.specs.Said as Writer
+use Rattle.writer.specs.declared.Writing.{Writing}
+use Rattle.writer.specs.declared.Writing.the-variants as Writing
+use Rattle.weighing.specs.Said as Weighing
+use Rattle.weighing.specs.declared.Building.{Building}
+use Rattle.weighing.specs.declared.Building.the-variants as Building
+use Rattle.planner.specs.Answers as Planner
+use Rattle.planner.specs.declared.Planning.{Planning}
+use Rattle.planner.specs.declared.Planning.the-variants as Planning
+use Rattle.printout.specs.Said as Printout
+use Rattle.printout.specs.declared.Printing.{Printing}
+use Rattle.printout.specs.declared.Printing.the-variants as Printing
+use Rattle.numbers.specs.declared.PlanAnswer.{PlanAnswer}
+use Rattle.numbers.specs.Numbers.{readNumbers, writeNumbers, buildNumbers, planNumbers, printNumbers}
+use Rattle.numbers.specs.Promises.{Numbered, NumberedAt0, Own, OneAnswer}
+
+-- ## No two answers have the same numbers
+
+own-read : Own Numbered readNumbers
+unfolding readNumbers
+own-read (finished m) (finished n) p q e = ap (λ x. finished (x .pairs)) e
+own-read (finished m) (refused k o) p q e = absurd (let h = q k o refl in let z = ap (λ x. x .refusal) e in omega arith)
+own-read (refused k o) (finished n) p q e = absurd (let h = p k o refl in let z = ap (λ x. x .refusal) e in omega arith)
+own-read (refused k o) (refused l u) p q e = ap (λ x. refused (x .refusal) (x .place)) e
+
+same-refusal : {Result : Type 0} {k l o u at : ℕ} → k ≡ l → o ≡ at → u ≡ at → _≡_ {A = Answer Result} (refused k o) (refused l u)
+same-refusal e f g = cc
+
+own-write : Own NumberedAt0 writeNumbers
+unfolding writeNumbers
+own-write (finished m) (finished n) p q e = ap (λ x. finished (x .length)) e
+own-write (finished m) (refused k o) p q e = absurd (let h = q k o refl .0 in let z = ap (λ x. x .refusal) e in omega arith)
+own-write (refused k o) (finished n) p q e = absurd (let h = p k o refl .0 in let z = ap (λ x. x .refusal) e in omega arith)
+own-write (refused k o) (refused l u) p q e = same-refusal (ap (λ x. x .refusal) e) (p k o refl .1) (q l u refl .1)
+
+own-build : Own NumberedAt0 buildNumbers
+unfolding buildNumbers
+own-build (finished u) (finished v) p q e = refl
+own-build (finished m) (refused k o) p q e = absurd (let h = q k o refl .0 in let z = ap (λ x. x .refusal) e in omega arith)
+own-build (refused k o) (finished n) p q e = absurd (let h = p k o refl .0 in let z = ap (λ x. x .refusal) e in omega arith)
+own-build (refused k o) (refused l u) p q e = same-refusal (ap (λ x. x .refusal) e) (p k o refl .1) (q l u refl .1)
+
+planIn : PlanAnswer → Plan
+planIn r = plan (r .weight) (r .cycles) (tally (r .comparisons) (r .products) (r .rounds))
+
+own-plan : Own NumberedAt0 planNumbers
+unfolding planNumbers planIn
+own-plan (finished m) (finished n) p q e = ap (λ x. finished (planIn x)) e
+own-plan (finished m) (refused k o) p q e = absurd (let h = q k o refl .0 in let z = ap (λ x. x .refusal) e in omega arith)
+own-plan (refused k o) (finished n) p q e = absurd (let h = p k o refl .0 in let z = ap (λ x. x .refusal) e in omega arith)
+own-plan (refused k o) (refused l u) p q e = same-refusal (ap (λ x. x .refusal) e) (p k o refl .1) (q l u refl .1)
+
+own-print : Own NumberedAt0 printNumbers
+unfolding printNumbers
+own-print (finished m) (finished n) p q e = ap (λ x. finished (x .length)) e
+own-print (finished m) (refused k o) p q e = absurd (let h = q k o refl .0 in let z = ap (λ x. x .refusal) e in omega arith)
+own-print (refused k o) (finished n) p q e = absurd (let h = p k o refl .0 in let z = ap (λ x. x .refusal) e in omega arith)
+own-print (refused k o) (refused l u) p q e = same-refusal (ap (λ x. x .refusal) e) (p k o refl .1) (q l u refl .1)
+
+pub one-answer : OneAnswer
+one-answer = record { read = own-read; write = own-write; build = own-build; plan = own-plan; print = own-print }
+
+-- ## What each call answers
+
+from-one : (why : Refusal) → 1 ≤ numberOf why
+from-one CutOff = omega arith
+from-one WrongField = omega arith
+from-one WrongVersion = omega arith
+from-one TooManyPairs = omega arith
+from-one LeftOver = omega arith
+from-one OutOfRange = omega arith
+from-one RepeatedId = omega arith
+from-one NotAShuffle = omega arith
+from-one TooShort = omega arith
+from-one NotCompatibility = omega arith
+
+at-0 : {Result : Type 0} (why : Refusal) → NumberedAt0 {Result = Result} (refused (numberOf why) 0)
+at-0 why k o e = let f : k ≡ numberOf why = cc in let g : o ≡ 0 = cc in (rw f (from-one why), g)
+
+of-finished : {Result : Type 0} (x : Result) → NumberedAt0 (finished x)
+of-finished x k o e = let z : _≡_ {A = ℕ} 0 1 = cc in absurd (omega arith)
+
+pub read-numbered : (r : Reading) → Numbered (Reader.said r)
+unfolding Reader.said
+read-numbered (Reading.Pairs n) k o e = of-finished n k o e .0
+read-numbered (Reading.Refused why place) k o e = let f : k ≡ numberOf why = cc in rw f (from-one why)
+
+pub write-numbered : (r : Writing) → NumberedAt0 (Writer.said r)
+unfolding Writer.said
+write-numbered (Writing.Length n) = of-finished n
+write-numbered (Writing.Refused why) = at-0 why
+
+pub build-numbered : (r : Building) → NumberedAt0 (Weighing.said r)
+unfolding Weighing.said
+build-numbered Building.Built = of-finished tt
+build-numbered (Building.Refused why) = at-0 why
+
+pub plan-numbered : (r : Planning) → NumberedAt0 (Planner.answerOf r)
+unfolding Planner.answerOf
+plan-numbered (Planning.Made p) = of-finished _
+plan-numbered (Planning.Refused why) = at-0 why
+
+pub print-numbered : (r : Printing) → NumberedAt0 (Printout.said r)
+unfolding Printout.said
+print-numbered (Printing.Length n) = of-finished n
+print-numbered (Printing.Refused why) = at-0 why

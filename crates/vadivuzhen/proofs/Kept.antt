@@ -1,0 +1,44 @@
+-- An exported call gives the numbers of what the library's call answered, so it keeps what that one promised. Assumes nothing.
+use mathlib.Core.Path.{_≡_, refl}
+use mathlib.Core.List.{List}
+use Prim.Native.Nat.{ℕ}
+use Rattle.refusal.specs.Answer.{Answer, Outcome, outcome}
+use Rattle.pool.specs.Tables.{Fields}
+use Rattle.weighing.specs.Building.{Graph}
+use Rattle.weighing.specs.Promises.{BuildsRightly}
+use Rattle.exchange.specs.Input.{Request}
+use Rattle.exchange.specs.Planning.{Lent, Plan, planning}
+use Rattle.exchange.specs.Promises.{PlansRightly}
+use Rattle.numbers.specs.Numbers.{buildNumbers, planNumbers}
+use Rattle.numbers.specs.Promises.{NumberedAt0}
+use Rattle.numbers.specs.declared.BuildAnswer.{BuildAnswer}
+use Rattle.numbers.specs.declared.PlanAnswer.{PlanAnswer}
+
+-- what an exported call ensures, for the numbers r and what is left of all that was lent, where `due` is due
+abbrev Ensures : {Given Result Left : Type 0} → (Answer Result → Given) → (Answer Result → Type 0) → (Answer Result → Type 0) → Given → Left → Outcome Result Left → Type 0
+Ensures numbers Are Promised r left due =
+    ((r ≡ numbers (due .answer)) × Are (due .answer)) × ((left ≡ due .lent) × Promised (due .answer))
+
+pub kept : {Given Result Left : Type 0} (numbers : Answer Result → Given) (Are Promised : Answer Result → Type 0)
+    {a : Answer Result} {r : Given} {left : Left} {due : Outcome Result Left}
+    → r ≡ numbers a
+    → Are a
+    → outcome a left ≡ due
+    → Promised a
+    → Ensures numbers Are Promised r left due
+kept numbers Are Promised e are w p = rw (← w) ((e, are), (refl, p))
+
+pub kept-built : {n : ℕ} {f : Fields} {old new : Graph} {a : Answer (Unit {0})} {r : BuildAnswer} {due : Outcome (Unit {0}) Graph}
+    → r ≡ buildNumbers a
+    → NumberedAt0 a
+    → outcome a new ≡ due
+    → BuildsRightly n f old a new
+    → Ensures buildNumbers NumberedAt0 (λ x. BuildsRightly n f old x new) r new due
+kept-built {n} {f} {old} {new} = kept buildNumbers NumberedAt0 (λ x. BuildsRightly n f old x new)
+
+pub kept-plan : {q : Request} {t left : Lent} {a : Answer Plan} {r : PlanAnswer}
+    → r ≡ planNumbers a
+    → NumberedAt0 a
+    → PlansRightly q t (outcome a left)
+    → Ensures planNumbers NumberedAt0 (λ x. PlansRightly q t (planning q t)) r left (planning q t)
+kept-plan {q} {t} e are w = rw (← (w .equal)) ((e, are), (refl, w))

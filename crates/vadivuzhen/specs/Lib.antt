@@ -1,2 +1,0 @@
--- What the exported answers stand for.
-pub mod Answers
