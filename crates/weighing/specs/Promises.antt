@@ -9,7 +9,7 @@ use lib.ListN.{length, getD}
 use Rattle.refusal.specs.Answer.{Answer, finished, refused}
 use Rattle.pool.specs.Pool.{Pair}
 use Rattle.pool.specs.Tables.{Fields, pairIn}
-use Rattle.pool.specs.Faultless.{InRange, Unlike, FieldsHold, Before}
+use Rattle.pool.specs.Faultless.{InRange, Unlike, FieldsHold, PairsFault}
 use Rattle.weighing.specs.Compatibility.{suits, entries, has, compatibility}
 use Rattle.weighing.specs.Weight.{documentPoints, weight}
 use Rattle.weighing.specs.Building.{Graph}
@@ -28,21 +28,9 @@ pub record Fit (n : ℕ) (g : Graph) : Type 0 where
   pub compatibilities : n * n ≤ length (g .compatibilities)
   pub weights : n * n ≤ length (g .weights)
 
--- fault k of building: it is there, and none that is looked for before it
+-- fault k of building: one of the pairs, or 9 of the tables to be filled, which is looked for after them
 pub data BuildFault (n : ℕ) (f : Fields) (g : Graph) : ℕ → Type 0 where
-  tooManyPairs : 200 < n → BuildFault n f g 4
-  fieldsTooShort : n ≤ 200 → (FieldsHold n f → ⊥) → BuildFault n f g 9
-  outOfRange : (i : ℕ) → i < n → n ≤ 200 → FieldsHold n f → Before i (pairIn f) → (InRange (pairIn f i) → ⊥) → BuildFault n f g 6
-  repeatedId :
-      (i j : ℕ)
-      → j < i
-      → i < n
-      → n ≤ 200
-      → FieldsHold n f
-      → Before i (pairIn f)
-      → InRange (pairIn f i)
-      → pairIn f j .id ≡ pairIn f i .id
-      → BuildFault n f g 7
+  pairs : (k : ℕ) → PairsFault n (FieldsHold n f) (pairIn f) k → BuildFault n f g k
   tablesTooShort : FaultlessFields n f → (Fit n g → ⊥) → BuildFault n f g 9
 
 -- ## What is built
