@@ -13,12 +13,12 @@ use Rattle.pool.specs.Pool.{Pair}
 use Rattle.pool.specs.Tables.{Tables, pairIn}
 use Rattle.pool.specs.Faultless.{EachOnce, Faultless}
 use Rattle.pool.proofs.Pairs.{faultless-cong}
-use Rattle.weighing.specs.Compatibility.{compatibility}
-use Rattle.weighing.specs.Weight.{documentPoints, weight}
+use Rattle.donation.specs.Compatibility.{compatibility}
+use Rattle.donation.specs.Weight.{documentPoints, weight}
 use Rattle.weighing.specs.Building.{Graph}
 use Rattle.weighing.specs.Promises as Weighing
-use Rattle.weighing.specs.Said as Weighing·Said
-use Rattle.weighing.proofs.Promised.{compatibility-most}
+use Rattle.weighing.specs.Answers as Weighing·Answers
+use Rattle.donation.proofs.Compatible.{compatibility-most}
 use Rattle.weighing.specs.declared.Building.{Building}
 use Rattle.weighing.specs.declared.Building.the-variants.{Refused}
 use Rattle.exchange.specs.Subsets.{entry}
@@ -54,8 +54,8 @@ module _ (n : ℕ) (pair : ℕ → Pair) (s : ℕ → ℕ) (w : Faultless n pair
 -- ## What was read is built
 
 module _ (n : ℕ) (t : Tables) (p : Read n t) (old : Graph) (room : (1600 ≤ length (old .compatibilities)) × (1600 ≤ length (old .weights))) (a : Building) (new : Graph)
-    (w : Weighing.BuildsRightly n (t .fields) old (Weighing·Said.said a) new) where
-  surely : Weighing·Said.said a ≡ finished tt
+    (w : Weighing.BuildsRightly n (t .fields) old (Weighing·Answers.answerOf a) new) where
+  surely : Weighing·Answers.answerOf a ≡ finished tt
   surely =
       w .accepts
       (record {
@@ -67,7 +67,7 @@ module _ (n : ℕ) (t : Tables) (p : Read n t) (old : Graph) (room : (1600 ≤ l
       (record { compatibilities = omega (arith, square-most n (p .few), room .0); weights = omega (arith, square-most n (p .few), room .1) })
 
   pub never-unbuilt : {A : Type 0} (why : Refusal) → a ≡ Refused why → A
-  unfolding Weighing·Said.said
+  unfolding Weighing·Answers.answerOf
   never-unbuilt why g =
       let h = rw g at surely in
       let z : _≡_ {A = ℕ} 0 1 = cc in

@@ -11,9 +11,10 @@ use Rattle.refusal.proofs.Faults.{none-then}
 use Rattle.pool.specs.Sheet.{pairsIn, pairAt, shuffleAt}
 use Rattle.pool.specs.Faults.{groupFault, idFault, pairFault, shuffleFault, fieldFault, headFault, pairFieldFault, shuffleFieldFault, endFault, sheetFault, roomFault}
 use Rattle.pool.proofs.Reading.{sheet-none, room-none}
-use Rattle.weighing.specs.Compatibility.{bloodTable, suits, has, shareBit, compatibility}
-use Rattle.weighing.specs.Weight.{documentPoints, mismatches, mismatchPoints, agePoints, weight}
-use Rattle.weighing.proofs.Promised.{compatibility-most, rightly}
+use Rattle.donation.specs.Compatibility.{bloodTable, suits, has, shareBit, compatibility}
+use Rattle.donation.specs.Weight.{documentPoints, mismatches, mismatchPoints, agePoints, weight}
+use Rattle.donation.proofs.Compatible.{compatibility-most}
+use Rattle.weighing.proofs.Promised.{rightly}
 use Rattle.greedy.specs.Places.{among, meets}
 use Rattle.greedy.specs.Tally.{raise, nextRound}
 use Rattle.greedy.specs.Rounds.{join, byHalves, choosing, clear, clearing, rounds}

@@ -9,8 +9,8 @@ use Rattle.refusal.specs.Answer.{Outcome, outcome, finished}
 use Rattle.pool.specs.Pool.{Pair}
 use Rattle.pool.specs.Sheet.{pairsIn, pairAt, shuffleAt}
 use Rattle.pool.specs.Faults.{sheetFault, roomFault}
-use Rattle.weighing.specs.Compatibility.{compatibility}
-use Rattle.weighing.specs.Weight.{documentPoints, weight}
+use Rattle.donation.specs.Compatibility.{compatibility}
+use Rattle.donation.specs.Weight.{documentPoints, weight}
 use Rattle.greedy.specs.Rounds.{Left}
 use Rattle.exchange.specs.Resolution.{total, donorTable, recipientTable}
 use Rattle.exchange.specs.Planning.{leftBy, plannedBy}

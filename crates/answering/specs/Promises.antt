@@ -9,8 +9,8 @@ use Rattle.pool.specs.Pool.{Pair}
 use Rattle.pool.specs.Sheet.{pairsIn, pairAt, shuffleAt}
 use Rattle.pool.specs.Tables.{Fields}
 use Rattle.pool.specs.Faultless.{EachOnce, Faultless, FaultlessSheet}
-use Rattle.weighing.specs.Compatibility.{compatibility}
-use Rattle.weighing.specs.Weight.{documentPoints, weight}
+use Rattle.donation.specs.Compatibility.{compatibility}
+use Rattle.donation.specs.Weight.{documentPoints, weight}
 use Rattle.weighing.specs.Building.{Graph, building}
 use Rattle.greedy.specs.Tally.{tally}
 use Rattle.exchange.specs.Subsets.{pairsAt}

@@ -13,7 +13,7 @@ use Rattle.reader.specs.declared.Reading.the-variants as Reading
 use Rattle.writer.specs.Said as Writer
 use Rattle.writer.specs.declared.Writing.{Writing}
 use Rattle.writer.specs.declared.Writing.the-variants as Writing
-use Rattle.weighing.specs.Said as Weighing
+use Rattle.weighing.specs.Answers as Weighing
 use Rattle.weighing.specs.declared.Building.{Building}
 use Rattle.weighing.specs.declared.Building.the-variants as Building
 use Rattle.weighing.specs.Building.{Graph}
@@ -68,12 +68,12 @@ unfolding answered writeSaid writeNumbers Writer.said
 write-finished r n e = rw e (refl, refl)
 
 pub build-refused : (r : Building) (why : Refusal) → r ≡ Building.Refused why → (k : ℕ) → k ≡ numberOf why
-    → buildSaid (record { refusal = k }) ≡ Weighing.said r
-unfolding buildSaid Weighing.said
+    → buildSaid (record { refusal = k }) ≡ Weighing.answerOf r
+unfolding buildSaid Weighing.answerOf
 build-refused r why e k f = rw (e, f, answered-number _ why)
 
-pub build-finished : (r : Building) → r ≡ Building.Built → buildSaid (record { refusal = 0 }) ≡ Weighing.said r
-unfolding answered buildSaid Weighing.said
+pub build-finished : (r : Building) → r ≡ Building.Built → buildSaid (record { refusal = 0 }) ≡ Weighing.answerOf r
+unfolding answered buildSaid Weighing.answerOf
 build-finished r e = rw e
 
 pub plan-refused : (r : Planning) (why : Refusal) → r ≡ Planning.Refused why → (k : ℕ) → k ≡ numberOf why

@@ -13,7 +13,7 @@ ghost use Rattle.refusal.specs.Number.{numberOf};
 ghost use Rattle.pool.specs.Tables.{fields, tables};
 ghost use Rattle.pool.specs.Calls.{reading, writing};
 ghost use Rattle.pool.specs.Promises.{ReadsRightly, WritesRightly};
-ghost use Rattle.weighing.specs.Weight.{documentPoints};
+ghost use Rattle.donation.specs.Weight.{documentPoints};
 ghost use Rattle.weighing.specs.Building.{graph, building};
 ghost use Rattle.weighing.specs.Promises.{BuildsRightly};
 ghost use Rattle.exchange.specs.Planning.{lent, Plan, planning};

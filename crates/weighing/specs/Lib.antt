@@ -1,7 +1,7 @@
--- Document 01's 'Compatibility and weight'. Believe `Compatibility`, `Weight` and `Building`: the contracts cite them, and `Said` for the answer.
--- `Promises` has the statements.
-pub mod Compatibility
-pub mod Weight
+-- Document 01's building of M and W. Believe `Building`: the contracts cite it, with `Answers` for the answer, `Lent` for what is lent and
+-- `Preconditions` for what the steps ask. `Promises` has the statements.
 pub mod Building
-pub mod Said
+pub mod Answers
+pub mod Lent
+pub mod Preconditions
 pub mod Promises

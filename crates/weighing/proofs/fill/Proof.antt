@@ -6,10 +6,10 @@ use native.Mathlib.Omega.{arith}
 use borrow.Author.Needs.{needs}
 use Rattle.laws.proofs.Lent.{Filling}
 use Rattle.pool.specs.Tables.{fields, pairIn}
-use Rattle.weighing.specs.Compatibility.{compatibility}
-use Rattle.weighing.specs.Weight.{documentPoints, weight}
-use Rattle.weighing.specs.Building.{Graph, graph, filledGraph}
-use Rattle.weighing.specs.Said.{withRow, Buildable}
+use Rattle.donation.specs.Compatibility.{compatibility}
+use Rattle.donation.specs.Weight.{documentPoints, weight}
+use Rattle.weighing.specs.Building.{Graph, graph, filledGraph, withRow}
+use Rattle.weighing.specs.Preconditions.{Buildable}
 use Rattle.weighing.proofs.Rows.{cell, rows-none, rows-more, rows-all, still-buildable}
 use Rattle.weighing.proofs.fill.Statement.{statement}
 use Rattle.weighing.proofs.fill.Tie as tie

@@ -6,10 +6,10 @@ use mathlib.Core.List.{[]}
 use native.Mathlib.Omega.{arith}
 use borrow.Author.Needs.{needs}
 use Rattle.pool.specs.Tables.{fields, pairIn}
-use Rattle.weighing.specs.Compatibility.{compatibility}
-use Rattle.weighing.specs.Weight.{documentPoints, weight}
-use Rattle.weighing.specs.Building.{graph}
-use Rattle.weighing.specs.Said.{withRow, Buildable}
+use Rattle.donation.specs.Compatibility.{compatibility}
+use Rattle.donation.specs.Weight.{documentPoints, weight}
+use Rattle.weighing.specs.Building.{graph, withRow}
+use Rattle.weighing.specs.Preconditions.{Buildable}
 use Rattle.weighing.proofs.Rows.{row-fits, rows-few, Storing, storing-none, storing-more, storing-all}
 use Rattle.weighing.proofs.fill_row.Statement.{statement}
 use Rattle.weighing.proofs.fill_row.Tie as tie

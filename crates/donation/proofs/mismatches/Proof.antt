@@ -1,8 +1,8 @@
--- `weighing::mismatches` meets its contract. Assumes nothing.
+-- `donation::mismatches` meets its contract. Assumes nothing.
 use borrow.Author.Needs.{needs}
-use Rattle.weighing.proofs.Bits.{xor-mismatches}
-use Rattle.weighing.proofs.mismatches.Statement.{statement}
-use Rattle.weighing.proofs.mismatches.Tie as tie
+use Rattle.donation.proofs.Bits.{xor-mismatches}
+use Rattle.donation.proofs.mismatches.Statement.{statement}
+use Rattle.donation.proofs.mismatches.Tie as tie
 
 returns : tie.Need-returns
 returns c = xor-mismatches (c .args .donor) (c .args .patient) (search needs) (search needs)

@@ -11,8 +11,8 @@ use lib.Count.{ones, ones-step}
 use lib.Dec.{eqb}
 use Rattle.laws.specs.Below.{either, anyBelow, one, countBelow}
 use Rattle.laws.proofs.Below.{any-cong, count-cong}
-use Rattle.weighing.specs.Compatibility.{entries, has, shareBit}
-use Rattle.weighing.specs.Weight.{mismatches}
+use Rattle.donation.specs.Compatibility.{entries, has, shareBit}
+use Rattle.donation.specs.Weight.{mismatches}
 
 -- ## The first of them, and the others
 

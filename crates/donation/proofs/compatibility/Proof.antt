@@ -1,10 +1,10 @@
--- `weighing::compatibility` meets its contract. Assumes nothing.
+-- `donation::compatibility` meets its contract. Assumes nothing.
 use mathlib.Core.Path.{sym, _∙_}
 use borrow.Author.Needs.{needs}
 use borrow.Author.Tests.{eq-eqb, ne-eqb}
 use Rattle.laws.specs.Below.{one}
-use Rattle.weighing.proofs.compatibility.Statement.{statement}
-use Rattle.weighing.proofs.compatibility.Tie as tie
+use Rattle.donation.proofs.compatibility.Statement.{statement}
+use Rattle.donation.proofs.compatibility.Tie as tie
 
 returns : tie.Need-returns
 unfolding one

@@ -6,7 +6,7 @@ use native.Mathlib.Omega.{arith}
 use borrow.Author.Tests.{eq-eqb, ne-eqb}
 use lib.Dec.{lit<, eqb, leb}
 use Rattle.pool.specs.Pool.{Pair}
-use Rattle.weighing.specs.Weight.{Points, documentPoints, young, senior, mismatches, mismatchPoints, agePoints, weight}
+use Rattle.donation.specs.Weight.{Points, documentPoints, young, senior, mismatches, mismatchPoints, agePoints, weight}
 
 cond-most : (most : ℕ) (t : Bool) (x y : ℕ) → x ≤ most → y ≤ most → cond t x y ≤ most
 cond-most most true x y h k = h

@@ -4,7 +4,7 @@ use mathlib.Core.Bool.{_&&_, xor, cond}
 use lib.Dec.{eqb, leb}
 use Rattle.laws.specs.Below.{countBelow}
 use Rattle.pool.specs.Pool.{Pair}
-use Rattle.weighing.specs.Compatibility.{entries, has}
+use Rattle.donation.specs.Compatibility.{entries, has}
 
 -- ## Points
 

@@ -5,8 +5,8 @@ use Prim.Native.Nat.{ℕ}
 use native.Mathlib.Omega.{arith}
 use Rattle.laws.specs.Below.{anyBelow, either}
 use Rattle.laws.proofs.Below.{any-none, true-false}
-use Rattle.weighing.specs.Compatibility.{bloodTable, suits}
-use Rattle.weighing.specs.Promises.{suitsInWords, TableIsRule}
+use Rattle.donation.specs.Compatibility.{bloodTable, suits}
+use Rattle.donation.specs.Promises.{suitsInWords, TableIsRule}
 
 -- the two differ at this donor and patient
 differs : ℕ → ℕ → Bool

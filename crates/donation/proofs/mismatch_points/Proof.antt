@@ -1,8 +1,8 @@
--- `weighing::mismatch_points` meets its contract: each constant is the point value that its test leads to. Assumes nothing.
+-- `donation::mismatch_points` meets its contract: each constant is the point value that its test leads to. Assumes nothing.
 use borrow.Author.Tests.{eq-eqb, ne-eqb, le-leb, lt-leb}
-use Rattle.weighing.specs.Weight.{documentPoints, mismatchPoints}
-use Rattle.weighing.proofs.mismatch_points.Statement.{statement}
-use Rattle.weighing.proofs.mismatch_points.Tie as tie
+use Rattle.donation.specs.Weight.{documentPoints, mismatchPoints}
+use Rattle.donation.proofs.mismatch_points.Statement.{statement}
+use Rattle.donation.proofs.mismatch_points.Tie as tie
 
 returns : tie.Need-returns
 unfolding mismatchPoints documentPoints

@@ -1,11 +1,11 @@
--- `weighing::weight` meets its contract. Assumes nothing.
+-- `donation::weight` meets its contract. Assumes nothing.
 use native.Mathlib.Omega.{arith}
 use borrow.Author.Needs.{needs}
 use borrow.Author.Tests.{eq-eqb, ne-eqb}
-use Rattle.weighing.specs.Weight.{documentPoints}
-use Rattle.weighing.proofs.Steps.{documentMismatch-most, documentAge-most}
-use Rattle.weighing.proofs.weight.Statement.{statement}
-use Rattle.weighing.proofs.weight.Tie as tie
+use Rattle.donation.specs.Weight.{documentPoints}
+use Rattle.donation.proofs.Points.{documentMismatch-most, documentAge-most}
+use Rattle.donation.proofs.weight.Statement.{statement}
+use Rattle.donation.proofs.weight.Tie as tie
 
 mismatches-requires : tie.Need-mismatches-requires
 mismatches-requires c κs = search needs

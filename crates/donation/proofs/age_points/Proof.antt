@@ -1,9 +1,9 @@
--- `weighing::age_points` meets its contract: each constant is the point value that its test leads to. Assumes nothing.
+-- `donation::age_points` meets its contract: each constant is the point value that its test leads to. Assumes nothing.
 use mathlib.Core.Logic.{⊎-elim}
 use borrow.Author.Tests.{eq-eqb, ne-eqb}
-use Rattle.weighing.specs.Weight.{documentPoints, agePoints}
-use Rattle.weighing.proofs.age_points.Statement.{statement}
-use Rattle.weighing.proofs.age_points.Tie as tie
+use Rattle.donation.specs.Weight.{documentPoints, agePoints}
+use Rattle.donation.proofs.age_points.Statement.{statement}
+use Rattle.donation.proofs.age_points.Tie as tie
 
 returns : tie.Need-returns
 unfolding agePoints documentPoints

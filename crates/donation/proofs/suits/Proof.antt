@@ -1,9 +1,9 @@
--- `weighing::suits` meets its contract: the code's table is the definition's. Assumes nothing.
+-- `donation::suits` meets its contract: the code's table is the definition's. Assumes nothing.
 use mathlib.Core.Path.{refl}
 use borrow.Author.Needs.{needs}
-use Rattle.weighing.specs.Compatibility.{bloodTable, suits}
-use Rattle.weighing.proofs.suits.Statement.{statement}
-use Rattle.weighing.proofs.suits.Tie as tie
+use Rattle.donation.specs.Compatibility.{bloodTable, suits}
+use Rattle.donation.proofs.suits.Statement.{statement}
+use Rattle.donation.proofs.suits.Tie as tie
 
 mul-result : tie.Need-mul-result
 mul-result c = search needs
