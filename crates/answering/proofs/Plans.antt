@@ -24,8 +24,8 @@ use Rattle.cursor.proofs.Number.{six-times}
 use Rattle.printout.specs.Printed as Printed
 use Rattle.printout.specs.Printed.{planText}
 use Rattle.printout.specs.Calls.{printingPlan}
-use Rattle.printout.specs.Said.{said}
-use Rattle.printout.specs.Steps.{Hold}
+use Rattle.printout.specs.Answers.{answerOf}
+use Rattle.partners.specs.Preconditions.{PlanTablesHold}
 use Rattle.printout.specs.Promises.{planRoom, PrintsPlan}
 use Rattle.printout.specs.declared.Printing.{Printing}
 use Rattle.printout.specs.declared.Printing.the-variants as Printing
@@ -126,7 +126,7 @@ module _ (n : ℕ) (m k w v : ℕ → ℕ → ℕ) (s : List ℕ) (sh : Seated n
       let cs : plannedBy 0 3 n m w s ≡ plannedBy 0 3 n k v s = planned-agree n m k w v a b 0 3 s sh in
       let sum : total m w (plannedBy 0 3 n m w s) ≡ total k v (plannedBy 0 3 n k v s) =
       total-agree n m k w v a b 3 _ (planned-set 0 3 n m w s sh bits .exchanges) ∙ ap (total k v) cs in
-      λ i. Printed.plan n (length (cs i)) (sum i) ids (donorTable n (cs i)) (recipientTable n (cs i)) (left i .tally .comparisons)
+      λ i. Printed.printedPlan n (length (cs i)) (sum i) ids (donorTable n (cs i)) (recipientTable n (cs i)) (left i .tally .comparisons)
       (left i .tally .products) (left i .tally .rounds)
 
 -- ## The printed plan
@@ -153,25 +153,25 @@ module _ (n : ℕ) (M W s a b : List ℕ) (q : Planned) (d r : List ℕ) (w : Pa
   length-recipients = sym (ap length first-recipients ∙ length-table n _)
 
   module _ (few : n ≤ most) (ids : List ℕ) (held : n ≤ length ids) where
-    abbrev madePlan : Printed.Plan
+    abbrev madePlan : Printed.PrintedPlan
     madePlan =
-        Printed.plan n (q .cycles) (q .weight) ids (take n d) (take n r) (q .tally .comparisons) (q .tally .products) (q .tally .rounds)
+        Printed.printedPlan n (q .cycles) (q .weight) ids (take n d) (take n r) (q .tally .comparisons) (q .tally .products) (q .tally .rounds)
 
     made-is : madePlan ≡ planBy n ids (entry M n) (entry W n) s
     unfolding planBy
     made-is i =
         let p : Plan = w .result i in
-        Printed.plan n (p .cycles) (p .weight) ids (first-donors i) (first-recipients i) (p .tally .comparisons) (p .tally .products) (p .tally .rounds)
+        Printed.printedPlan n (p .cycles) (p .weight) ids (first-donors i) (first-recipients i) (p .tally .comparisons) (p .tally .products) (p .tally .rounds)
 
-    module _ (out new : List ℕ) (l : length out ≡ planRoom most) (x : Printing) (e : outcome (said x) new ≡ printingPlan madePlan out)
-        (u : PrintsPlan madePlan (length out) (said x)) where
-      hold : Hold n ids (take n d) (take n r)
+    module _ (out new : List ℕ) (l : length out ≡ planRoom most) (x : Printing) (e : outcome (answerOf x) new ≡ printingPlan madePlan out)
+        (u : PrintsPlan madePlan (length out) (answerOf x)) where
+      hold : PlanTablesHold n ids (take n d) (take n r)
       hold = record { ids = held; donors = omega (arith, length-donors); recipients = omega (arith, length-recipients) }
 
       pub made-printed : (k : ℕ) → x ≡ Length k
           → outcome (finished k) new ≡ putting (planText (planBy n ids (entry M n) (entry W n) s)) out
       made-printed k g =
-          plan-printed out new l x madePlan e u hold few k g ∙ ap (λ (p : Printed.Plan). putting (planText p) out) made-is
+          plan-printed out new l x madePlan e u hold few k g ∙ ap (λ (p : Printed.PrintedPlan). putting (planText p) out) made-is
 
       pub made-surely : {A : Type 0} (why : Refusal) → x ≡ Printing.Refused why → A
       made-surely = plan-surely out new l x madePlan e u hold few

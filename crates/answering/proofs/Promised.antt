@@ -31,7 +31,9 @@ use Rattle.exchange.proofs.Shuffled.{same-cycles}
 use Rattle.exchange.proofs.Partners.{edges-all, same-donors, same-recipients}
 use Rattle.exchange.proofs.Checked.{answers-rightly}
 use Rattle.exchange.proofs.Guaranteed.{cycles-below}
-use Rattle.printout.specs.Printed.{digitsWithin, decimal, line, partner, pairLine, pairLines, planText}
+use Rattle.text.specs.Text.{digitsWithin, decimal, line}
+use Rattle.partners.specs.Pairs.{partner, pairLine, pairLines}
+use Rattle.printout.specs.Printed.{planText}
 use Rattle.answering.specs.Answering.{most, planBy, planOf, orRefusal, answerText}
 use Rattle.answering.specs.Promises.{BuiltIsPlanned, PlanAnswered, PlansGuaranteed, ExampleAnswered}
 use Rattle.answering.proofs.Pools.{shuffle-seated}

@@ -14,21 +14,21 @@ use Rattle.donation.specs.Weight.{documentPoints, weight}
 use Rattle.greedy.specs.Rounds.{Left}
 use Rattle.exchange.specs.Resolution.{total, donorTable, recipientTable}
 use Rattle.exchange.specs.Planning.{leftBy, plannedBy}
-use Rattle.printout.specs.Printed.{Plan, plan, planText, refusalText}
+use Rattle.printout.specs.Printed.{PrintedPlan, printedPlan, planText, refusalText}
 
 -- "lends buffers for 40 pairs"
 abbrev pub most : ℕ
 most = 40
 
 -- the plan of n pairs with these ids, m and w giving M(i, j) and W(i, j), s the shuffle, as it is printed
-unfoldable pub planBy : ℕ → List ℕ → (ℕ → ℕ → ℕ) → (ℕ → ℕ → ℕ) → List ℕ → Plan
+unfoldable pub planBy : ℕ → List ℕ → (ℕ → ℕ → ℕ) → (ℕ → ℕ → ℕ) → List ℕ → PrintedPlan
 planBy n ids m w s =
     let r : Left = leftBy 0 3 n m w s in
     let cs : List (List ℕ) = plannedBy 0 3 n m w s in
-    plan n (length cs) (total m w cs) ids (donorTable n cs) (recipientTable n cs) (r .tally .comparisons) (r .tally .products) (r .tally .rounds)
+    printedPlan n (length cs) (total m w cs) ids (donorTable n cs) (recipientTable n cs) (r .tally .comparisons) (r .tally .products) (r .tally .rounds)
 
 -- the plan of n pairs and their shuffle
-unfoldable pub planOf : ℕ → (ℕ → Pair) → (ℕ → ℕ) → Plan
+unfoldable pub planOf : ℕ → (ℕ → Pair) → (ℕ → ℕ) → PrintedPlan
 planOf n pair s = planBy n (table n (λ i. pair i .id)) (compatibility pair) (weight documentPoints pair) (table n s)
 
 -- the refusal, where there is one, and else the text

@@ -21,7 +21,8 @@ use Rattle.exchange.specs.Faultless.{LongEnough}
 use Rattle.exchange.specs.Rivals.{ExchangeSet}
 use Rattle.exchange.specs.Promises.{TallyOf}
 use Rattle.printout.specs.Printed as Printed
-use Rattle.printout.specs.Printed.{bytesOf, planText}
+use Rattle.text.specs.Text.{bytesOf}
+use Rattle.printout.specs.Printed.{planText}
 use Rattle.answering.specs.Answering.{most, planOf, answerText}
 
 -- tables that were built are planned, with any shuffle and any tables that are long enough: they have no fault 10
@@ -44,7 +45,7 @@ PlanAnswered =
 
 -- ## Demands 2 and 3, for the plan p that is printed of n pairs and their shuffle s, with M(i, j) and W(i, j) of those pairs
 
-pub record PlanGuarantee (n : ℕ) (pair : ℕ → Pair) (s : List ℕ) (p : Printed.Plan) : Type 0 where
+pub record PlanGuarantee (n : ℕ) (pair : ℕ → Pair) (s : List ℕ) (p : Printed.PrintedPlan) : Type 0 where
   -- the planned cycles: "executable, no pair is in two of them"
   pub planned : List (List ℕ)
   pub exchanges : ExchangeSet 3 n (compatibility pair) planned

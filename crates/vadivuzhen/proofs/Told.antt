@@ -24,7 +24,7 @@ use Rattle.planner.specs.Said.{answerOf}
 use Rattle.planner.specs.declared.Planned.{Planned}
 use Rattle.planner.specs.declared.Planning.{Planning}
 use Rattle.planner.specs.declared.Planning.the-variants as Planning
-use Rattle.printout.specs.Said as Printout
+use Rattle.printout.specs.Answers as Printout
 use Rattle.printout.specs.declared.Printing.{Printing}
 use Rattle.printout.specs.declared.Printing.the-variants as Printing
 use Rattle.vadivuzhen.specs.Answers.{answered, readSaid, readNumbers, writeSaid, writeNumbers, buildSaid, planSaid, planNumbers, printSaid, printNumbers}
@@ -95,12 +95,12 @@ unfolding answered planSaid planNumbers answerOf
 plan-made r p e = rw e (refl, refl)
 
 pub print-refused : (r : Printing) (why : Refusal) → r ≡ Printing.Refused why → (k : ℕ) → k ≡ numberOf why
-    → Told printSaid printNumbers (Printout.said r) (record { refusal = k; length = 0 })
-unfolding printSaid printNumbers Printout.said
+    → Told printSaid printNumbers (Printout.answerOf r) (record { refusal = k; length = 0 })
+unfolding printSaid printNumbers Printout.answerOf
 print-refused r why e k f = rw (e, f, answered-number _ why) (refl, refl)
 
-pub print-finished : (r : Printing) (n : ℕ) → r ≡ Printing.Length n → Told printSaid printNumbers (Printout.said r) (record { refusal = 0; length = n })
-unfolding answered printSaid printNumbers Printout.said
+pub print-finished : (r : Printing) (n : ℕ) → r ≡ Printing.Length n → Told printSaid printNumbers (Printout.answerOf r) (record { refusal = 0; length = n })
+unfolding answered printSaid printNumbers Printout.answerOf
 print-finished r n e = rw e (refl, refl)
 
 -- ## So the exported call keeps what the called function promised

@@ -19,9 +19,9 @@ ghost use Rattle.weighing.specs.Promises.{BuildsRightly};
 ghost use Rattle.exchange.specs.Planning.{lent, Plan, planning};
 ghost use Rattle.exchange.specs.Promises.{Guarantee};
 ghost use Rattle.planner.specs.Said.{answerOf};
-ghost use Rattle.printout.specs.Printed.{plan};
+ghost use Rattle.printout.specs.Printed.{printedPlan};
 ghost use Rattle.printout.specs.Calls.{printingPlan, printingRefusal};
-ghost use Rattle.printout.specs.Said.{said as Printout·said};
+ghost use Rattle.printout.specs.Answers.{answerOf as Printout·answerOf};
 ghost use Rattle.printout.specs.Promises.{PrintsPlan, PrintsRefused};
 ghost use Rattle.vadivuzhen.specs.Answers.{readSaid, readNumbers, writeSaid, writeNumbers, buildSaid, planSaid, planNumbers, printSaid, printNumbers};
 
@@ -256,7 +256,7 @@ pub extern "C" fn vadivuzhen_plan(
 
 // What printing answered, in numbers.
 fn printed(answer: Printing) -> PrintAnswer
-    ensures { λ r. ⌜ (printSaid r ≡ Printout·said answer) × (r ≡ printNumbers (printSaid r)) ⌝ }
+    ensures { λ r. ⌜ (printSaid r ≡ Printout·answerOf answer) × (r ≡ printNumbers (printSaid r)) ⌝ }
 {
     match answer {
         Printing::Refused(why) => PrintAnswer {
@@ -284,8 +284,8 @@ pub extern "C" fn vadivuzhen_print_plan(
     rounds: u64,
     out: &mut [u8],
 ) -> PrintAnswer
-    ensures { λ r. ⌜ outcome (printSaid r) (now (out .exit)) ≡ printingPlan (plan n cycles weight (now (ids .entry)) (now (donors .entry)) (now (recipients .entry)) comparisons products rounds) (now (out .entry)) ⌝ }
-    ensures { λ r. ⌜ PrintsPlan (plan n cycles weight (now (ids .entry)) (now (donors .entry)) (now (recipients .entry)) comparisons products rounds) (length (now (out .entry))) (printSaid r) ⌝ }
+    ensures { λ r. ⌜ outcome (printSaid r) (now (out .exit)) ≡ printingPlan (printedPlan n cycles weight (now (ids .entry)) (now (donors .entry)) (now (recipients .entry)) comparisons products rounds) (now (out .entry)) ⌝ }
+    ensures { λ r. ⌜ PrintsPlan (printedPlan n cycles weight (now (ids .entry)) (now (donors .entry)) (now (recipients .entry)) comparisons products rounds) (length (now (out .entry))) (printSaid r) ⌝ }
     ensures { λ r. ⌜ r ≡ printNumbers (printSaid r) ⌝ }
 {
     let answer = printout::print_plan(
