@@ -37,7 +37,9 @@ fn put_pair(
     requires { ⌜ PlanTablesHold n (now ids) (now donors) (now recipients) ⌝ }
     requires { ⌜ i < n ⌝ }
     requires { ⌜ at + length (pairLine n (now ids) (now donors) (now recipients) i) ≤ length (now out) ⌝ }
-    ensures { λ r. ⌜ Put at (pairLine n (now (ids .entry)) (now (donors .entry)) (now (recipients .entry)) i) (now (out .entry)) (now (out .exit)) r ⌝ }
+    ensures { λ r.
+        let line = pairLine n (now (ids .entry)) (now (donors .entry)) (now (recipients .entry)) i in
+        ⌜ Put at line (now (out .entry)) (now (out .exit)) r ⌝ }
 {
     let after_id = text::put_number(out, at, ids[i] as u64);
     let after_donor = put_partner(out, after_id, n, ids, donors[i]);
@@ -57,7 +59,9 @@ pub fn put_pairs(
 ) -> usize
     requires { ⌜ PlanTablesHold n (now ids) (now donors) (now recipients) ⌝ }
     requires { ⌜ at + length (pairLines n (now ids) (now donors) (now recipients)) ≤ length (now out) ⌝ }
-    ensures { λ r. ⌜ Put at (pairLines n (now (ids .entry)) (now (donors .entry)) (now (recipients .entry))) (now (out .entry)) (now (out .exit)) r ⌝ }
+    ensures { λ r.
+        let lines = pairLines n (now (ids .entry)) (now (donors .entry)) (now (recipients .entry)) in
+        ⌜ Put at lines (now (out .entry)) (now (out .exit)) r ⌝ }
 {
     let mut end = at;
     let mut i: usize = 0;
