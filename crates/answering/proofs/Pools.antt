@@ -15,7 +15,7 @@ use Rattle.pool.specs.Faultless.{EachOnce, Faultless}
 use Rattle.pool.proofs.Pairs.{faultless-cong}
 use Rattle.donation.specs.Compatibility.{compatibility}
 use Rattle.donation.specs.Weight.{documentPoints, weight}
-use Rattle.weighing.specs.Building.{Graph}
+use Rattle.graph.specs.Graph.{Graph}
 use Rattle.weighing.specs.Promises as Weighing
 use Rattle.weighing.specs.Answers as Weighing·Answers
 use Rattle.donation.proofs.Compatible.{compatibility-most}

@@ -11,7 +11,8 @@ use Rattle.pool.specs.Tables.{Fields}
 use Rattle.pool.specs.Faultless.{EachOnce, Faultless, FaultlessSheet}
 use Rattle.donation.specs.Compatibility.{compatibility}
 use Rattle.donation.specs.Weight.{documentPoints, weight}
-use Rattle.weighing.specs.Building.{Graph, building}
+use Rattle.graph.specs.Graph.{Graph}
+use Rattle.weighing.specs.Building.{building}
 use Rattle.greedy.specs.Tally.{tally}
 use Rattle.exchange.specs.Subsets.{pairsAt}
 use Rattle.exchange.specs.Resolution.{total}

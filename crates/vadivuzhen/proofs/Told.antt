@@ -16,7 +16,7 @@ use Rattle.writer.specs.declared.Writing.the-variants as Writing
 use Rattle.weighing.specs.Answers as Weighing
 use Rattle.weighing.specs.declared.Building.{Building}
 use Rattle.weighing.specs.declared.Building.the-variants as Building
-use Rattle.weighing.specs.Building.{Graph}
+use Rattle.graph.specs.Graph.{Graph}
 use Rattle.weighing.specs.Promises.{BuildsRightly}
 use Rattle.exchange.specs.Planning.{Lent, Plan}
 use Rattle.exchange.specs.Promises.{Guarantee}

@@ -20,7 +20,8 @@ use Rattle.pool.proofs.Rooms.{fieldRoom-hold, hold-fieldRoom}
 use Rattle.pool.proofs.Reading.{room-none, room-passed, room-fault}
 use Rattle.pool.proofs.Writing.{pairs-none, pairs-passed, pairs-fault}
 use Rattle.checks.specs.Agree.{Spaced}
-use Rattle.weighing.specs.Building.{Graph, buildFault}
+use Rattle.graph.specs.Graph.{Graph}
+use Rattle.weighing.specs.Building.{buildFault}
 use Rattle.weighing.specs.Promises.{FaultlessFields, Fit, BuildFault}
 
 -- the shortest of the tables is the shortest of those that are looked at, or shorter

@@ -1,4 +1,3 @@
--- `Rows`: tables filled row by row. `Faults`: what building checks. `Promised`: what is built, and the promise of the call.
-pub mod Rows
+-- `Faults`: what building checks. `Promised`: what is built, and the promise of the call.
 pub mod Faults
 pub mod Promised

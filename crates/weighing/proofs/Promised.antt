@@ -13,14 +13,15 @@ use Rattle.refusal.proofs.Faults.{sound-none, faulty-fault, unless-none, unless
 use Rattle.pool.specs.Tables.{Fields, fields, pairIn}
 use Rattle.donation.specs.Compatibility.{compatibility}
 use Rattle.donation.specs.Weight.{documentPoints, weight}
-use Rattle.weighing.specs.Building.{Graph, filledGraph, buildFault, building}
+use Rattle.graph.specs.Graph.{Graph, filledGraph}
+use Rattle.weighing.specs.Building.{buildFault, building}
 use Rattle.weighing.specs.Answers.{answerOf}
-use Rattle.weighing.specs.Preconditions.{Buildable}
+use Rattle.graph.specs.Preconditions.{Buildable}
 use Rattle.weighing.specs.declared.Building.the-variants.{Built, Refused}
 use Rattle.weighing.specs.Promises.{entryAt, Entries, Plannable, BuildsRightly}
 use Rattle.donation.proofs.Compatible.{compatibility-most, compatibility-same}
 use Rattle.donation.proofs.Points.{weight-same, document-least, document-most, document-some}
-use Rattle.weighing.proofs.Rows.{rows-entry}
+use Rattle.graph.proofs.Rows.{rows-entry}
 use Rattle.weighing.proofs.Faults.{build-none, build-passed, build-fault}
 
 -- ## What is built

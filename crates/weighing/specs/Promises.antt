@@ -8,7 +8,7 @@ use Rattle.pool.specs.Tables.{Fields, pairIn}
 use Rattle.pool.specs.Faultless.{InRange, Unlike, FieldsHold, PairsFault}
 use Rattle.donation.specs.Compatibility.{compatibility}
 use Rattle.donation.specs.Weight.{documentPoints, weight}
-use Rattle.weighing.specs.Building.{Graph}
+use Rattle.graph.specs.Graph.{Graph}
 
 -- ## What has none of the faults, and what each fault is, said without building
 

@@ -3,108 +3,19 @@
 use refusal::Refusal;
 use refusal::Verdict;
 ghost use mathlib.Core.Path.{_≡_};
-ghost use Prim.Native.Nat.{_<_};
 ghost use Rattle.refusal.specs.Answer.{outcome};
 ghost use Rattle.refusal.specs.Number.{faultAt};
-ghost use Rattle.pool.specs.Tables.{pairIn};
 ghost use Rattle.pool.specs.Lent.{lentFields};
 ghost use Rattle.donation.specs.Weight.{documentPoints};
-ghost use Rattle.weighing.specs.Building.{filledGraph, withRow, buildFault, building};
+ghost use Rattle.graph.specs.Lent.{lentGraph};
+ghost use Rattle.weighing.specs.Building.{buildFault, building};
 ghost use Rattle.weighing.specs.Answers.{answerOf};
-ghost use Rattle.weighing.specs.Lent.{graphNow, lentGraph, idlessNow, lentIdless};
-ghost use Rattle.weighing.specs.Preconditions.{Buildable};
 ghost use Rattle.weighing.specs.Promises.{BuildsRightly};
 
 // What building answers: the tables are built, or the refusal.
 pub enum Building {
     Built,
     Refused(Refusal),
-}
-
-// Row i of both tables: donor i, and each patient.
-fn fill_row(
-    i: usize,
-    n: usize,
-    donor_blood: &[u8],
-    patient_blood: &[u8],
-    donor_age: &[u8],
-    patient_age: &[u8],
-    donor_antigens: &[u64],
-    patient_antigens: &[u64],
-    patient_antibodies: &[u64],
-    compatibilities: &mut [u8],
-    weights: &mut [u16],
-)
-    requires { let f = idlessNow «donor_blood» «patient_blood» «donor_age» «patient_age» «donor_antigens» «patient_antigens» «patient_antibodies» in
-        ⌜ (i < n) × Buildable n f (graphNow compatibilities weights) ⌝ }
-    ensures { λ _.
-        let f = lentIdless «donor_blood» «patient_blood» «donor_age» «patient_age» «donor_antigens» «patient_antigens» «patient_antibodies» in
-        let g = lentGraph compatibilities weights in
-        ⌜ g .exit ≡ withRow documentPoints n (pairIn (f .entry)) i (g .entry) ⌝ }
-{
-    let blood = donor_blood[i];
-    let age = donor_age[i];
-    let antigens = donor_antigens[i];
-    let start = i * n;
-    let mut j: usize = 0;
-    while j < n {
-        compatibilities[start + j] = donation::compatibility(
-            i,
-            j,
-            blood,
-            patient_blood[j],
-            antigens,
-            patient_antibodies[j],
-        );
-        weights[start + j] = donation::weight(
-            i,
-            j,
-            age,
-            patient_age[j],
-            antigens,
-            patient_antigens[j],
-        );
-        j += 1;
-    }
-}
-
-// N rows of both tables.
-fn fill(
-    n: usize,
-    donor_blood: &[u8],
-    patient_blood: &[u8],
-    donor_age: &[u8],
-    patient_age: &[u8],
-    donor_antigens: &[u64],
-    patient_antigens: &[u64],
-    patient_antibodies: &[u64],
-    compatibilities: &mut [u8],
-    weights: &mut [u16],
-)
-    requires { let f = idlessNow «donor_blood» «patient_blood» «donor_age» «patient_age» «donor_antigens» «patient_antigens» «patient_antibodies» in
-        ⌜ Buildable n f (graphNow compatibilities weights) ⌝ }
-    ensures { λ _.
-        let f = lentIdless «donor_blood» «patient_blood» «donor_age» «patient_age» «donor_antigens» «patient_antigens» «patient_antibodies» in
-        let g = lentGraph compatibilities weights in
-        ⌜ g .exit ≡ filledGraph documentPoints n (pairIn (f .entry)) (g .entry) ⌝ }
-{
-    let mut i: usize = 0;
-    while i < n {
-        fill_row(
-            i,
-            n,
-            donor_blood,
-            patient_blood,
-            donor_age,
-            patient_age,
-            donor_antigens,
-            patient_antigens,
-            patient_antibodies,
-            compatibilities,
-            weights,
-        );
-        i += 1;
-    }
 }
 
 // 4, 9, 6 and 7 of the fields; then 9 of the tables to be filled, by their lengths.
@@ -195,7 +106,7 @@ pub fn build(
     ) {
         Verdict::Faulty(why) => Building::Refused(why),
         Verdict::Sound => {
-            fill(
+            graph::fill(
                 n,
                 donor_blood,
                 patient_blood,

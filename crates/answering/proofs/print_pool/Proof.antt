@@ -6,7 +6,7 @@ use lib.Dec.{lit≤}
 use lib.ListN.{length, replicate}
 use lib.Seq.{length-take-le}
 use Rattle.pool.specs.Tables.{Tables, fields, tables}
-use Rattle.weighing.specs.Building.{Graph, graph}
+use Rattle.graph.specs.Graph.{Graph, graph}
 use Rattle.printout.specs.Printed.{PrintedPlan, planText}
 use Rattle.answering.specs.Answering.{putting}
 use Rattle.answering.proofs.Pools.{never-unbuilt, plannable, plan-is}

@@ -13,8 +13,8 @@ use Rattle.laws.specs.Lent.{filled, stored}
 use Rattle.laws.proofs.Below.{length-table, getD-table, table-cong}
 use Rattle.laws.proofs.Lent.{Filling, filling-none, getD-filled, length-stored, stored-none, stored-filled, stored-then}
 use Rattle.pool.specs.Tables.{Fields}
-use Rattle.weighing.specs.Building.{Graph, inRows}
-use Rattle.weighing.specs.Preconditions.{Buildable}
+use Rattle.graph.specs.Graph.{Graph, inRows}
+use Rattle.graph.specs.Preconditions.{Buildable}
 
 -- ## Sizes
 

@@ -1,4 +1,4 @@
--- `weighing::fill_row` meets its contract. The loop's invariant: the entries of the columns passed stand in row i of both tables, as long as they were.
+-- `graph::fill_row` meets its contract. The loop's invariant: the entries of the columns passed stand in row i of both tables, as long as they were.
 -- Assumes nothing.
 use Prim.Native.Nat.{_-_, _*_, _≤_, _<_}
 use mathlib.Core.Path.{ap₂}
@@ -8,11 +8,11 @@ use borrow.Author.Needs.{needs}
 use Rattle.pool.specs.Tables.{fields, pairIn}
 use Rattle.donation.specs.Compatibility.{compatibility}
 use Rattle.donation.specs.Weight.{documentPoints, weight}
-use Rattle.weighing.specs.Building.{graph, withRow}
-use Rattle.weighing.specs.Preconditions.{Buildable}
-use Rattle.weighing.proofs.Rows.{row-fits, rows-few, Storing, storing-none, storing-more, storing-all}
-use Rattle.weighing.proofs.fill_row.Statement.{statement}
-use Rattle.weighing.proofs.fill_row.Tie as tie
+use Rattle.graph.specs.Graph.{graph, withRow}
+use Rattle.graph.specs.Preconditions.{Buildable}
+use Rattle.graph.proofs.Rows.{row-fits, rows-few, Storing, storing-none, storing-more, storing-all}
+use Rattle.graph.proofs.fill_row.Statement.{statement}
+use Rattle.graph.proofs.fill_row.Tie as tie
 
 abbrev Inv-loop : tie.InvT-loop
 Inv-loop i n donor-blood patient-blood donor-age patient-age donor-antigens patient-antigens patient-antibodies compatibilities₀ weights₀ blood age antigens start j₀ compatibilities weights j =

@@ -1,4 +1,4 @@
--- `weighing::fill` meets its contract. The loop's invariant: the rows passed stand in both tables, as long as they were. Assumes nothing.
+-- `graph::fill` meets its contract. The loop's invariant: the rows passed stand in both tables, as long as they were. Assumes nothing.
 use Prim.Native.Nat.{_-_, _*_, _≤_}
 use mathlib.Core.Path.{ap, ap₂}
 use mathlib.Core.List.{[]}
@@ -8,11 +8,11 @@ use Rattle.laws.proofs.Lent.{Filling}
 use Rattle.pool.specs.Tables.{fields, pairIn}
 use Rattle.donation.specs.Compatibility.{compatibility}
 use Rattle.donation.specs.Weight.{documentPoints, weight}
-use Rattle.weighing.specs.Building.{Graph, graph, filledGraph, withRow}
-use Rattle.weighing.specs.Preconditions.{Buildable}
-use Rattle.weighing.proofs.Rows.{cell, rows-none, rows-more, rows-all, still-buildable}
-use Rattle.weighing.proofs.fill.Statement.{statement}
-use Rattle.weighing.proofs.fill.Tie as tie
+use Rattle.graph.specs.Graph.{Graph, graph, filledGraph, withRow}
+use Rattle.graph.specs.Preconditions.{Buildable}
+use Rattle.graph.proofs.Rows.{cell, rows-none, rows-more, rows-all, still-buildable}
+use Rattle.graph.proofs.fill.Statement.{statement}
+use Rattle.graph.proofs.fill.Tie as tie
 
 abbrev Inv-loop : tie.InvT-loop
 Inv-loop n donor-blood patient-blood donor-age patient-age donor-antigens patient-antigens patient-antibodies compatibilities₀ weights₀ i₀ compatibilities weights i =

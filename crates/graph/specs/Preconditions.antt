@@ -2,7 +2,7 @@
 use Prim.Native.Nat.{ℕ, _*_, _≤_, _<_}
 use lib.ListN.{length, getD}
 use Rattle.pool.specs.Tables.{Fields}
-use Rattle.weighing.specs.Building.{Graph}
+use Rattle.graph.specs.Graph.{Graph}
 
 -- fields of n pairs with blood groups 0 to 3, and tables that n rows of n fit; the ids play no part
 pub record Buildable (n : ℕ) (f : Fields) (g : Graph) : Type 0 where

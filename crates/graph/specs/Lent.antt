@@ -4,7 +4,7 @@ use denote.Ref.{now}
 use denote.Triple.Both.{Both}
 use Rattle.pool.specs.Tables.{Fields, fields}
 use Rattle.pool.specs.Lent.{Ref, Slice}
-use Rattle.weighing.specs.Building.{Graph, graph}
+use Rattle.graph.specs.Graph.{Graph, graph}
 
 abbrev pub graphNow : Ref → Ref → Graph
 graphNow m w = graph (now m) (now w)
