@@ -12,9 +12,7 @@ use Rattle.laws.specs.Below.{table}
 use Rattle.laws.specs.Lent.{filled, stored}
 use Rattle.laws.proofs.Below.{length-table, getD-table, table-cong}
 use Rattle.laws.proofs.Lent.{Filling, filling-none, getD-filled, length-stored, stored-none, stored-filled, stored-then}
-use Rattle.pool.specs.Tables.{Fields}
-use Rattle.graph.specs.Graph.{Graph, inRows}
-use Rattle.graph.specs.Preconditions.{Buildable}
+use Rattle.graph.specs.Graph.{inRows}
 
 -- ## Sizes
 
@@ -106,23 +104,3 @@ rows-entry n entry old i j l m =
     getD-filled (table (n * n) (cell n entry)) old 0 (i * n + j) (rw length-table k)
     ∙ getD-table (n * n) (cell n entry) 0 (i * n + j) k
     ∙ cell-at n entry i j m
-
--- ## Tables that are as long as they were are still fit to be filled
-
-pub still-buildable : {n : ℕ} {f : Fields} {g h : Graph} → Buildable n f g → length (h .compatibilities) ≡ length (g .compatibilities)
-    → length (h .weights) ≡ length (g .weights) → Buildable n f h
-still-buildable b e k =
-    record {
-      few = b .few;
-      inDonorBlood = b .inDonorBlood;
-      inPatientBlood = b .inPatientBlood;
-      inDonorAge = b .inDonorAge;
-      inPatientAge = b .inPatientAge;
-      inDonorAntigens = b .inDonorAntigens;
-      inPatientAntigens = b .inPatientAntigens;
-      inPatientAntibodies = b .inPatientAntibodies;
-      donorGroup = b .donorGroup;
-      patientGroup = b .patientGroup;
-      inCompatibilities = rw e (b .inCompatibilities);
-      inWeights = rw k (b .inWeights);
-    }

@@ -24,7 +24,6 @@ unfoldable pub filledGraph : Points → ℕ → (ℕ → Pair) → Graph → Gra
 filledGraph points n pair g =
     graph (filled (inRows n (compatibility pair)) (g .compatibilities)) (filled (inRows n (weight points pair)) (g .weights))
 
--- a step of it: row i of n in its place in both tables
-unfoldable pub withRow : Points → ℕ → (ℕ → Pair) → ℕ → Graph → Graph
-withRow points n pair i g =
-    graph (stored (i * n) (table n (compatibility pair i)) (g .compatibilities)) (stored (i * n) (table n (weight points pair i)) (g .weights))
+-- a step of it: row i in its place in one of the tables
+unfoldable pub withRow : ℕ → (ℕ → ℕ → ℕ) → ℕ → List ℕ → List ℕ
+withRow n entry i t = stored (i * n) (table n (entry i)) t

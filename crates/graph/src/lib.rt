@@ -1,35 +1,29 @@
 // The tables M and W (document 01, 'Compatibility and weight'), filled row by row.
 ghost use mathlib.Core.Path.{_≡_};
-ghost use Prim.Native.Nat.{_<_};
 ghost use Rattle.pool.specs.Tables.{pairIn};
-ghost use Rattle.donation.specs.Weight.{documentPoints};
+ghost use Rattle.donation.specs.Compatibility.{compatibility};
+ghost use Rattle.donation.specs.Weight.{documentPoints, weight};
 ghost use Rattle.graph.specs.Graph.{filledGraph, withRow};
-ghost use Rattle.graph.specs.Lent.{graphNow, lentGraph, idlessNow, lentIdless};
-ghost use Rattle.graph.specs.Preconditions.{Buildable};
+ghost use Rattle.graph.specs.Lent.{graphNow, lentGraph, idlessNow, lentIdless, lentForM, lentForW};
+ghost use Rattle.graph.specs.Preconditions.{Row, ReadableForM, ReadableForW, Buildable};
 
-// Row i of both tables: donor i, and each patient.
-fn fill_row(
+// Row i of M: donor i, and each patient.
+fn compatibility_row(
     i: usize,
     n: usize,
     donor_blood: &[u8],
     patient_blood: &[u8],
-    donor_age: &[u8],
-    patient_age: &[u8],
     donor_antigens: &[u64],
-    patient_antigens: &[u64],
     patient_antibodies: &[u64],
     compatibilities: &mut [u8],
-    weights: &mut [u16],
 )
-    requires { let f = idlessNow «donor_blood» «patient_blood» «donor_age» «patient_age» «donor_antigens» «patient_antigens» «patient_antibodies» in
-        ⌜ (i < n) × Buildable n f (graphNow compatibilities weights) ⌝ }
+    requires { ⌜ Row i n (now compatibilities) ⌝ }
+    requires { ⌜ ReadableForM n (now «donor_blood») (now «patient_blood») (now «donor_antigens») (now «patient_antibodies») ⌝ }
     ensures { λ _.
-        let f = lentIdless «donor_blood» «patient_blood» «donor_age» «patient_age» «donor_antigens» «patient_antigens» «patient_antibodies» in
-        let g = lentGraph compatibilities weights in
-        ⌜ g .exit ≡ withRow documentPoints n (pairIn (f .entry)) i (g .entry) ⌝ }
+        let f = lentForM «donor_blood» «patient_blood» «donor_antigens» «patient_antibodies» in
+        ⌜ now (compatibilities .exit) ≡ withRow n (compatibility (pairIn f)) i (now (compatibilities .entry)) ⌝ }
 {
     let blood = donor_blood[i];
-    let age = donor_age[i];
     let antigens = donor_antigens[i];
     let start = i * n;
     let mut j: usize = 0;
@@ -42,6 +36,31 @@ fn fill_row(
             antigens,
             patient_antibodies[j],
         );
+        j += 1;
+    }
+}
+
+// Row i of W.
+fn weight_row(
+    i: usize,
+    n: usize,
+    donor_age: &[u8],
+    patient_age: &[u8],
+    donor_antigens: &[u64],
+    patient_antigens: &[u64],
+    weights: &mut [u16],
+)
+    requires { ⌜ Row i n (now weights) ⌝ }
+    requires { ⌜ ReadableForW n (now «donor_age») (now «patient_age») (now «donor_antigens») (now «patient_antigens») ⌝ }
+    ensures { λ _.
+        let f = lentForW «donor_age» «patient_age» «donor_antigens» «patient_antigens» in
+        ⌜ now (weights .exit) ≡ withRow n (weight documentPoints (pairIn f)) i (now (weights .entry)) ⌝ }
+{
+    let age = donor_age[i];
+    let antigens = donor_antigens[i];
+    let start = i * n;
+    let mut j = 0;
+    while j < n {
         weights[start + j] = donation::weight(
             i,
             j,
@@ -76,17 +95,22 @@ pub fn fill(
 {
     let mut i: usize = 0;
     while i < n {
-        fill_row(
+        compatibility_row(
             i,
             n,
             donor_blood,
             patient_blood,
+            donor_antigens,
+            patient_antibodies,
+            compatibilities,
+        );
+        weight_row(
+            i,
+            n,
             donor_age,
             patient_age,
             donor_antigens,
             patient_antigens,
-            patient_antibodies,
-            compatibilities,
             weights,
         );
         i += 1;

@@ -92,15 +92,22 @@ module _ (n : ℕ) (f : Fields) (old : Graph) (found : Verdict)
         let w = p .0 in
         record {
           few = w .few;
-          inDonorBlood = w .hold .donorBlood;
-          inPatientBlood = w .hold .patientBlood;
-          inDonorAge = w .hold .donorAge;
-          inPatientAge = w .hold .patientAge;
-          inDonorAntigens = w .hold .donorAntigens;
-          inPatientAntigens = w .hold .patientAntigens;
-          inPatientAntibodies = w .hold .patientAntibodies;
-          donorGroup = λ i l. w .inRange i l .donorBlood;
-          patientGroup = λ j l. w .inRange j l .patientBlood;
+          forM =
+              record {
+                inDonorBlood = w .hold .donorBlood;
+                inPatientBlood = w .hold .patientBlood;
+                inDonorAntigens = w .hold .donorAntigens;
+                inPatientAntibodies = w .hold .patientAntibodies;
+                donorGroup = λ i l. w .inRange i l .donorBlood;
+                patientGroup = λ j l. w .inRange j l .patientBlood;
+              };
+          forW =
+              record {
+                inDonorAge = w .hold .donorAge;
+                inPatientAge = w .hold .patientAge;
+                inDonorAntigens = w .hold .donorAntigens;
+                inPatientAntigens = w .hold .patientAntigens;
+              };
           inCompatibilities = p .1 .compatibilities;
           inWeights = p .1 .weights;
         }
