@@ -40,7 +40,7 @@ fn compatibility_row(
     }
 }
 
-// Row i of W.
+// Row i of W: the same donor and patients.
 fn weight_row(
     i: usize,
     n: usize,
