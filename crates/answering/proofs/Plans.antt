@@ -12,10 +12,12 @@ use Rattle.laws.proofs.Lent.{take-filled}
 use Rattle.refusal.specs.Answer.{Outcome, outcome, finished}
 use Rattle.refusal.specs.declared.Refusal.{Refusal}
 use Rattle.refusal.proofs.Faults.{unless-none, finished-none}
-use Rattle.exchange.specs.Subsets.{subsets, subsetCount, entry}
+use Rattle.exchange.specs.Subsets.{upToThree, subsetCount}
+use Rattle.exchange.specs.Input.{Request, noFloor, input, inputOf, request}
 use Rattle.exchange.specs.Resolution.{total, donorTable, recipientTable}
-use Rattle.exchange.specs.Planning.{Lent, Plan, plan, leftBy, plannedBy, filledLent, planning}
+use Rattle.exchange.specs.Planning.{Lent, Plan, leftBy, plannedBy, planFrom, filledLent, planning}
 use Rattle.exchange.specs.Faultless.{FaultlessInput}
+use Rattle.exchange.specs.Promises.{PlansRightly}
 use Rattle.exchange.proofs.Checked.{answers-rightly}
 use Rattle.exchange.proofs.Inverse.{Invertible}
 use Rattle.exchange.proofs.Planned.{planned-set}
@@ -24,18 +26,19 @@ use Rattle.cursor.proofs.Number.{six-times}
 use Rattle.printout.specs.Printed as Printed
 use Rattle.printout.specs.Printed.{planText}
 use Rattle.printout.specs.Calls.{printingPlan}
-use Rattle.printout.specs.Said.{said}
-use Rattle.printout.specs.Steps.{Hold}
+use Rattle.printout.specs.Answers.{answerOf}
+use Rattle.partners.specs.Preconditions.{PlanTablesHold}
 use Rattle.printout.specs.Promises.{planRoom, PrintsPlan}
 use Rattle.printout.specs.declared.Printing.{Printing}
 use Rattle.printout.specs.declared.Printing.the-variants as Printing
 use Rattle.printout.specs.declared.Printing.the-variants.{Length}
-use Rattle.planner.specs.Answers.{planIn, answerOf}
+use Rattle.planner.specs.Answers as Planner
+use Rattle.planner.specs.Answers.{planIn}
 use Rattle.planner.specs.declared.Planned.{Planned}
 use Rattle.planner.specs.declared.Planning.{Planning}
 use Rattle.planner.specs.declared.Planning.the-variants.{Made, Refused}
 use Rattle.answering.specs.Answering.{most, planBy, putting}
-use Rattle.answering.specs.Preconditions.{FaultlessTables, cyclesOf, plannedResult, Partnered}
+use Rattle.answering.specs.Preconditions.{FaultlessTables, Partnered}
 use Rattle.answering.proofs.Texts.{plan-printed, plan-surely}
 
 -- ## Tables for 40 pairs
@@ -44,13 +47,13 @@ pub square-most : (n : ℕ) → n ≤ most → n * n ≤ 1600
 square-most n l = mul-le-mul l l
 
 -- the subsets of at most 40 places
-pub subsets-most : (n : ℕ) → n ≤ most → subsetCount n ≤ 10660
+pub subsets-most : (n : ℕ) → n ≤ most → subsetCount (upToThree n) ≤ 10660
 subsets-most n l = elim (decLe n 39) [
   | yes k ↦ let cube : n * n * n ≤ 59319 = mul-le-mul (mul-le-mul k k) k in omega (arith, six-times n)
   | no k ↦ let cube : n * n * n ≤ 64000 = mul-le-mul (mul-le-mul l l) l in omega (arith, six-times n)
 ]
 
-module _ (n : ℕ) (M W s : List ℕ) (p : FaultlessTables n M W s) (t : Lent) where
+module _ (n : ℕ) (M W s : List ℕ) (p : FaultlessTables (request n M W s)) (t : Lent) where
   -- lent tables for 40 pairs
   pub record Roomy : Type 0 where
     pub weights : 10660 ≤ length (t .weights)
@@ -60,7 +63,10 @@ module _ (n : ℕ) (M W s : List ℕ) (p : FaultlessTables n M W s) (t : Lent) w
     pub records : 20 ≤ length (t .records)
 
   module _ (r : Roomy) where
-    accepted : FaultlessInput n M W s t
+    abbrev a : Request
+    a = request n M W s
+
+    accepted : FaultlessInput a t
     accepted =
         record {
           few = omega (arith, p .few);
@@ -80,31 +86,28 @@ module _ (n : ℕ) (M W s : List ℕ) (p : FaultlessTables n M W s) (t : Lent) w
         }
 
     -- a plan is made
-    pub planned-is : planning n M W s t
-        ≡ outcome (finished (plannedResult n M W s))
-        (filledLent n (leftBy 0 3 n (entry M n) (entry W n) s) (cyclesOf n M W s) t)
+    planned-is : planning a t ≡ outcome (finished (planFrom (inputOf a))) (filledLent (inputOf a) t)
     unfolding planning
-    planned-is = unless-none _ _ _ _ (finished-none _ _ _ _ (answers-rightly n M W s t .accepts accepted .1) .0)
+    planned-is = unless-none _ _ _ _ (finished-none _ _ _ _ (answers-rightly a t .accepts accepted .1) .0)
 
     -- ## The call, by its answer
 
-    module _ (a : Planning) (u : Lent) (e : outcome (answerOf a) u ≡ planning n M W s t) where
-      outcome-is : outcome (answerOf a) u
-          ≡ outcome (finished (plannedResult n M W s)) (filledLent n (leftBy 0 3 n (entry M n) (entry W n) s) (cyclesOf n M W s) t)
-      outcome-is = e ∙ planned-is
+    module _ (x : Planning) (u : Lent) (e : PlansRightly a t (outcome (Planner.answerOf x) u)) where
+      outcome-is : outcome (Planner.answerOf x) u ≡ outcome (finished (planFrom (inputOf a))) (filledLent (inputOf a) t)
+      outcome-is = e .equal ∙ planned-is
 
-      answer-is : answerOf a ≡ finished (plannedResult n M W s)
+      answer-is : Planner.answerOf x ≡ finished (planFrom (inputOf a))
       answer-is = ap (λ (o : Outcome Plan Lent). o .answer) outcome-is
 
-      pub never-refused : {A : Type 0} (why : Refusal) → a ≡ Refused why → A
-      unfolding answerOf
+      pub never-refused : {A : Type 0} (why : Refusal) → x ≡ Refused why → A
+      unfolding Planner.answerOf
       never-refused why g =
           let h = rw g at answer-is in
           let z : _≡_ {A = ℕ} 0 1 = cc in
           absurd (omega arith)
 
-      pub partnered : (q : Planned) → a ≡ Made q → Partnered n M W s (t .donors) (t .recipients) (planIn q) (u .donors) (u .recipients)
-      unfolding answerOf filledLent
+      pub partnered : (q : Planned) → x ≡ Made q → Partnered a (t .donors) (t .recipients) (planIn q) (u .donors) (u .recipients)
+      unfolding Planner.answerOf filledLent
       partnered q h =
           let i = rw h at answer-is in
           record {
@@ -117,16 +120,16 @@ module _ (n : ℕ) (M W s : List ℕ) (p : FaultlessTables n M W s) (t : Lent) w
 
 module _ (n : ℕ) (m k w v : ℕ → ℕ → ℕ) (s : List ℕ) (sh : Invertible n s) (bits : (i j : ℕ) → i < n → j < n → m i j ≤ 1)
     (alike : (i j : ℕ) → i < n → j < n → m i j ≡ k i j) (agree : (i j : ℕ) → i < n → j < n → w i j ≡ v i j) where
-  pub plan-agree : (ids : List ℕ) → planBy n ids m w s ≡ planBy n ids k v s
-  unfolding planBy
+  pub plan-agree : (ids : List ℕ) → planBy ids (input n m w s) ≡ planBy ids (input n k v s)
+  unfolding planBy planFrom
   plan-agree ids =
       let a : (i j : ℕ) → i < n → j < n → (i ≡ j → ⊥) → m i j ≡ k i j = λ i j h l _. alike i j h l in
       let b : (i j : ℕ) → i < n → j < n → (i ≡ j → ⊥) → w i j ≡ v i j = λ i j h l _. agree i j h l in
-      let left : leftBy 0 3 n m w s ≡ leftBy 0 3 n k v s = left-agree n m k w v a b 0 3 s sh in
-      let cs : plannedBy 0 3 n m w s ≡ plannedBy 0 3 n k v s = planned-agree n m k w v a b 0 3 s sh in
-      let sum : total m w (plannedBy 0 3 n m w s) ≡ total k v (plannedBy 0 3 n k v s) =
-      total-agree n m k w v a b 3 _ (planned-set 0 3 n m w s sh bits .exchanges) ∙ ap (total k v) cs in
-      λ i. Printed.plan n (length (cs i)) (sum i) ids (donorTable n (cs i)) (recipientTable n (cs i)) (left i .tally .comparisons)
+      let left : leftBy (input n m w s) ≡ leftBy (input n k v s) = left-agree n m k w v a b noFloor 3 s sh in
+      let cs : plannedBy (input n m w s) ≡ plannedBy (input n k v s) = planned-agree n m k w v a b noFloor 3 s sh in
+      let sum : total m w (plannedBy (input n m w s)) ≡ total k v (plannedBy (input n k v s)) =
+      total-agree n m k w v a b 3 _ (planned-set noFloor 3 n m w s sh bits .exchanges) ∙ ap (total k v) cs in
+      λ i. Printed.printedPlan n (length (cs i)) (sum i) ids (donorTable n (cs i)) (recipientTable n (cs i)) (left i .tally .comparisons)
       (left i .tally .products) (left i .tally .rounds)
 
 -- ## The printed plan
@@ -135,14 +138,14 @@ module _ (n : ℕ) (m k w v : ℕ → ℕ → ℕ) (s : List ℕ) (sh : Invertib
 filled-start : (n : ℕ) (new old : List ℕ) → length new ≡ n → take n (filled new old) ≡ new
 filled-start n new old e = ap (λ (k : ℕ). take k (filled new old)) (sym e) ∙ take-filled new old
 
-module _ (n : ℕ) (M W s a b : List ℕ) (q : Planned) (d r : List ℕ) (w : Partnered n M W s a b (planIn q) d r) where
-  first-donors : take n d ≡ donorTable n (cyclesOf n M W s)
+module _ (n : ℕ) (M W s a b : List ℕ) (q : Planned) (d r : List ℕ) (w : Partnered (request n M W s) a b (planIn q) d r) where
+  first-donors : take n d ≡ donorTable n (plannedBy (inputOf (request n M W s)))
   unfolding donorTable
-  first-donors = ap (take n) (w .donors) ∙ filled-start n (donorTable n (cyclesOf n M W s)) a (length-table n _)
+  first-donors = ap (take n) (w .donors) ∙ filled-start n (donorTable n (plannedBy (inputOf (request n M W s)))) a (length-table n _)
 
-  first-recipients : take n r ≡ recipientTable n (cyclesOf n M W s)
+  first-recipients : take n r ≡ recipientTable n (plannedBy (inputOf (request n M W s)))
   unfolding recipientTable
-  first-recipients = ap (take n) (w .recipients) ∙ filled-start n (recipientTable n (cyclesOf n M W s)) b (length-table n _)
+  first-recipients = ap (take n) (w .recipients) ∙ filled-start n (recipientTable n (plannedBy (inputOf (request n M W s)))) b (length-table n _)
 
   length-donors : n ≡ length (take n d)
   unfolding donorTable
@@ -153,25 +156,25 @@ module _ (n : ℕ) (M W s a b : List ℕ) (q : Planned) (d r : List ℕ) (w : Pa
   length-recipients = sym (ap length first-recipients ∙ length-table n _)
 
   module _ (few : n ≤ most) (ids : List ℕ) (held : n ≤ length ids) where
-    abbrev madePlan : Printed.Plan
+    abbrev madePlan : Printed.PrintedPlan
     madePlan =
-        Printed.plan n (q .cycles) (q .weight) ids (take n d) (take n r) (q .tally .comparisons) (q .tally .products) (q .tally .rounds)
+        Printed.printedPlan n (q .cycles) (q .weight) ids (take n d) (take n r) (q .tally .comparisons) (q .tally .products) (q .tally .rounds)
 
-    made-is : madePlan ≡ planBy n ids (entry M n) (entry W n) s
+    made-is : madePlan ≡ planBy ids (inputOf (request n M W s))
     unfolding planBy
     made-is i =
         let p : Plan = w .result i in
-        Printed.plan n (p .cycles) (p .weight) ids (first-donors i) (first-recipients i) (p .tally .comparisons) (p .tally .products) (p .tally .rounds)
+        Printed.printedPlan n (p .cycles) (p .weight) ids (first-donors i) (first-recipients i) (p .tally .comparisons) (p .tally .products) (p .tally .rounds)
 
-    module _ (out new : List ℕ) (l : length out ≡ planRoom most) (x : Printing) (e : outcome (said x) new ≡ printingPlan madePlan out)
-        (u : PrintsPlan madePlan (length out) (said x)) where
-      hold : Hold n ids (take n d) (take n r)
+    module _ (out new : List ℕ) (l : length out ≡ planRoom most) (x : Printing) (e : outcome (answerOf x) new ≡ printingPlan madePlan out)
+        (u : PrintsPlan madePlan (length out) (answerOf x)) where
+      hold : PlanTablesHold n ids (take n d) (take n r)
       hold = record { ids = held; donors = omega (arith, length-donors); recipients = omega (arith, length-recipients) }
 
       pub made-printed : (k : ℕ) → x ≡ Length k
-          → outcome (finished k) new ≡ putting (planText (planBy n ids (entry M n) (entry W n) s)) out
+          → outcome (finished k) new ≡ putting (planText (planBy ids (inputOf (request n M W s)))) out
       made-printed k g =
-          plan-printed out new l x madePlan e u hold few k g ∙ ap (λ (p : Printed.Plan). putting (planText p) out) made-is
+          plan-printed out new l x madePlan e u hold few k g ∙ ap (λ (p : Printed.PrintedPlan). putting (planText p) out) made-is
 
       pub made-surely : {A : Type 0} (why : Refusal) → x ≡ Printing.Refused why → A
       made-surely = plan-surely out new l x madePlan e u hold few

@@ -13,15 +13,16 @@ use Rattle.pool.specs.Pool.{Pair}
 use Rattle.pool.specs.Tables.{Tables, pairIn}
 use Rattle.pool.specs.Faultless.{EachOnce, Faultless}
 use Rattle.pool.proofs.Pairs.{faultless-cong}
-use Rattle.weighing.specs.Compatibility.{compatibility}
-use Rattle.weighing.specs.Weight.{documentPoints, weight}
-use Rattle.weighing.specs.Building.{Graph}
+use Rattle.donation.specs.Compatibility.{compatibility}
+use Rattle.donation.specs.Weight.{documentPoints, weight}
+use Rattle.graph.specs.Graph.{Graph}
 use Rattle.weighing.specs.Promises as Weighing
-use Rattle.weighing.specs.Said as Weighing·Said
-use Rattle.weighing.proofs.Promised.{compatibility-most}
+use Rattle.weighing.specs.Answers as Weighing·Answers
+use Rattle.donation.proofs.Compatible.{compatibility-most}
 use Rattle.weighing.specs.declared.Building.{Building}
 use Rattle.weighing.specs.declared.Building.the-variants.{Refused}
 use Rattle.exchange.specs.Subsets.{entry}
+use Rattle.exchange.specs.Input.{input, inputOf, request}
 use Rattle.exchange.specs.Faultless.{Compatibility}
 use Rattle.exchange.proofs.Inverse.{Invertible, invertible}
 use Rattle.answering.specs.Answering.{planBy, printedPlanOf}
@@ -48,14 +49,14 @@ module _ (n : ℕ) (pair : ℕ → Pair) (s : ℕ → ℕ) (w : Faultless n pair
   same-plan other t h g =
       plan-agree n (compatibility pair) (compatibility other) (weight documentPoints pair) (weight documentPoints other) (table n s) shuffle-seated
       (λ i j _ _. compatibility-most pair i j) (λ i j a b. rw (h i a, h j b)) (λ i j a b. rw (h i a, h j b)) (table n (λ i. pair i .id))
-      ∙ ap₂ (λ (ids shuffle : List ℕ). planBy n ids (compatibility other) (weight documentPoints other) shuffle)
+      ∙ ap₂ (λ (ids shuffle : List ℕ). planBy ids (input n (compatibility other) (weight documentPoints other) shuffle))
       (table-cong n _ _ (λ i l. ap (λ (q : Pair). q .id) (h i l))) g
 
 -- ## What was read is built
 
 module _ (n : ℕ) (t : Tables) (p : Read n t) (old : Graph) (room : (1600 ≤ length (old .compatibilities)) × (1600 ≤ length (old .weights))) (a : Building) (new : Graph)
-    (w : Weighing.BuildsRightly n (t .fields) old (Weighing·Said.said a) new) where
-  surely : Weighing·Said.said a ≡ finished tt
+    (w : Weighing.BuildsRightly n (t .fields) old (Weighing·Answers.answerOf a) new) where
+  surely : Weighing·Answers.answerOf a ≡ finished tt
   surely =
       w .accepts
       (record {
@@ -67,7 +68,7 @@ module _ (n : ℕ) (t : Tables) (p : Read n t) (old : Graph) (room : (1600 ≤ l
       (record { compatibilities = omega (arith, square-most n (p .few), room .0); weights = omega (arith, square-most n (p .few), room .1) })
 
   pub never-unbuilt : {A : Type 0} (why : Refusal) → a ≡ Refused why → A
-  unfolding Weighing·Said.said
+  unfolding Weighing·Answers.answerOf
   never-unbuilt why g =
       let h = rw g at surely in
       let z : _≡_ {A = ℕ} 0 1 = cc in
@@ -79,7 +80,7 @@ module _ (n : ℕ) (t : Tables) (p : Read n t) (old : Graph) (room : (1600 ≤ l
   unfolding entry
   compatible = let q = w .plannable surely in record { zeroOrOne = q .zeroOrOne; own = q .ownCompatibility }
 
-  pub plannable : (1600 ≤ length (new .compatibilities)) × (1600 ≤ length (new .weights)) → FaultlessTables n (new .compatibilities) (new .weights) (take n (t .shuffle))
+  pub plannable : (1600 ≤ length (new .compatibilities)) × (1600 ≤ length (new .weights)) → FaultlessTables (request n (new .compatibilities) (new .weights) (take n (t .shuffle)))
   plannable h =
       let held : n ≤ length (t .shuffle) = p .faultless .hold .shuffle in
       record {
@@ -92,12 +93,12 @@ module _ (n : ℕ) (t : Tables) (p : Read n t) (old : Graph) (room : (1600 ≤ l
       }
 
   -- its plan is the pool's
-  pub plan-is : planBy n (take n (t .fields .ids)) (entry (new .compatibilities) n) (entry (new .weights) n) (take n (t .shuffle))
+  pub plan-is : planBy (take n (t .fields .ids)) (inputOf (request n (new .compatibilities) (new .weights) (take n (t .shuffle))))
       ≡ printedPlanOf n (pairIn (t .fields)) (λ j. getD (t .shuffle) j 0)
   unfolding printedPlanOf pairIn entry
   plan-is =
       let e = w .built surely in
-      ap₂ (λ (ids shuffle : List ℕ). planBy n ids (entry (new .compatibilities) n) (entry (new .weights) n) shuffle)
+      ap₂ (λ (ids shuffle : List ℕ). planBy ids (inputOf (request n (new .compatibilities) (new .weights) shuffle)))
       (taken n (t .fields .ids) (p .faultless .hold .fields .ids)) (taken n (t .shuffle) (p .faultless .hold .shuffle))
       ∙ plan-agree n (entry (new .compatibilities) n) (compatibility (pairIn (t .fields))) (entry (new .weights) n)
       (weight documentPoints (pairIn (t .fields))) _ (shuffle-seated n _ _ (p .faultless .pool)) (compatible .zeroOrOne) (e .compatibilities) (e .weights) _

@@ -9,10 +9,10 @@ use Rattle.refusal.specs.Fault.{Fault}
 use Rattle.refusal.specs.Answer.{Answer, Outcome, outcome, finished, unless}
 use Rattle.refusal.proofs.Faults.{unless-none, finished-none}
 use Rattle.refusal.specs.declared.Refusal.{Refusal}
-use Rattle.printout.specs.Printed.{Plan, planText, refusalText}
+use Rattle.printout.specs.Printed.{PrintedPlan, planText, refusalText}
 use Rattle.printout.specs.Calls.{printingPlan, printingRefusal}
-use Rattle.printout.specs.Said.{said}
-use Rattle.printout.specs.Steps.{Hold}
+use Rattle.printout.specs.Answers.{answerOf}
+use Rattle.partners.specs.Preconditions.{PlanTablesHold}
 use Rattle.printout.specs.Promises.{planRoom, PrintsPlan, PrintsRefusal}
 use Rattle.printout.proofs.Answered.{never-refused}
 use Rattle.printout.specs.declared.Printing.{Printing}
@@ -20,21 +20,21 @@ use Rattle.printout.specs.declared.Printing.the-variants.{Length, Refused}
 use Rattle.answering.specs.Answering.{most, putting}
 
 -- an answer of printing that is surely the text's length
-module _ (f : Fault) (text out new : List ℕ) (r : Printing) (e : outcome (said r) new ≡ unless f (length text) (filled text out) out)
-    (sure : said r ≡ finished (length text)) where
+module _ (f : Fault) (text out new : List ℕ) (r : Printing) (e : outcome (answerOf r) new ≡ unless f (length text) (filled text out) out)
+    (sure : answerOf r ≡ finished (length text)) where
   faultless : unless f (length text) (filled text out) out ≡ putting text out
   faultless =
       unless-none f _ _ out
       (finished-none f _ _ out (sym (ap (λ (o : Outcome ℕ (List ℕ)). o .answer) e) ∙ sure) .0)
 
   pub printed : (k : ℕ) → r ≡ Length k → outcome (finished k) new ≡ putting text out
-  unfolding said
-  printed k g = ap (λ (p : Printing). outcome (said p) new) (sym g) ∙ e ∙ faultless
+  unfolding answerOf
+  printed k g = ap (λ (p : Printing). outcome (answerOf p) new) (sym g) ∙ e ∙ faultless
 
 -- a buffer of 1,458 bytes has room for a refusal, and for a plan of at most 40 pairs
 module _ (out new : List ℕ) (l : length out ≡ planRoom most) (r : Printing) where
-  module _ (number place : ℕ) (e : outcome (said r) new ≡ printingRefusal number place out) (w : PrintsRefusal number place (length out) (said r)) where
-    refusal-sure : said r ≡ finished (length (refusalText number place))
+  module _ (number place : ℕ) (e : outcome (answerOf r) new ≡ printingRefusal number place out) (w : PrintsRefusal number place (length out) (answerOf r)) where
+    refusal-sure : answerOf r ≡ finished (length (refusalText number place))
     refusal-sure = w .prints (omega arith)
 
     pub refusal-printed : (k : ℕ) → r ≡ Length k → outcome (finished k) new ≡ putting (refusalText number place) out
@@ -44,9 +44,9 @@ module _ (out new : List ℕ) (l : length out ≡ planRoom most) (r : Printing) 
     pub refusal-surely : {A : Type 0} (why : Refusal) → r ≡ Refused why → A
     refusal-surely = never-refused r refusal-sure
 
-  module _ (p : Plan) (e : outcome (said r) new ≡ printingPlan p out) (w : PrintsPlan p (length out) (said r))
-      (h : Hold (p .pairs) (p .ids) (p .donors) (p .recipients)) (few : p .pairs ≤ most) where
-    plan-sure : said r ≡ finished (length (planText p))
+  module _ (p : PrintedPlan) (e : outcome (answerOf r) new ≡ printingPlan p out) (w : PrintsPlan p (length out) (answerOf r))
+      (h : PlanTablesHold (p .pairs) (p .ids) (p .donors) (p .recipients)) (few : p .pairs ≤ most) where
+    plan-sure : answerOf r ≡ finished (length (planText p))
     plan-sure = w .prints (h, omega arith)
 
     pub plan-printed : (k : ℕ) → r ≡ Length k → outcome (finished k) new ≡ putting (planText p) out

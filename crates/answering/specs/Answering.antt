@@ -9,27 +9,29 @@ use Rattle.refusal.specs.Answer.{Outcome, outcome, finished}
 use Rattle.pool.specs.Pool.{Pair}
 use Rattle.pool.specs.Sheet.{pairsIn, pairAt, shuffleAt}
 use Rattle.pool.specs.Faults.{sheetFault, roomFault}
-use Rattle.weighing.specs.Compatibility.{compatibility}
-use Rattle.weighing.specs.Weight.{documentPoints, weight}
-use Rattle.greedy.specs.Rounds.{Left}
-use Rattle.exchange.specs.Resolution.{total, donorTable, recipientTable}
-use Rattle.exchange.specs.Planning.{leftBy, plannedBy}
-use Rattle.printout.specs.Printed.{Plan, plan, planText, refusalText}
+use Rattle.donation.specs.Compatibility.{compatibility}
+use Rattle.donation.specs.Weight.{documentPoints, weight}
+use Rattle.exchange.specs.Input.{Input, input}
+use Rattle.exchange.specs.Resolution.{donorTable, recipientTable}
+use Rattle.exchange.specs.Planning.{plannedBy, planFrom}
+use Rattle.printout.specs.Printed.{PrintedPlan, printedPlan, planText, refusalText}
 
 -- "lends buffers for 40 pairs"
 abbrev pub most : ℕ
 most = 40
 
--- the plan of n pairs with these ids, m and w giving M(i, j) and W(i, j), s the shuffle, as it is printed
-unfoldable pub planBy : ℕ → List ℕ → (ℕ → ℕ → ℕ) → (ℕ → ℕ → ℕ) → List ℕ → Plan
-planBy n ids m w s =
-    let r : Left = leftBy 0 3 n m w s in
-    let cs : List (List ℕ) = plannedBy 0 3 n m w s in
-    plan n (length cs) (total m w cs) ids (donorTable n cs) (recipientTable n cs) (r .tally .comparisons) (r .tally .products) (r .tally .rounds)
+-- the plan made from q, with the pairs' ids, as it is printed
+unfoldable pub planBy : List ℕ → Input → PrintedPlan
+planBy ids q =
+    printedPlan (q .scope .pairs) (planFrom q .cycles) (planFrom q .weight) ids (donorTable (q .scope .pairs) (plannedBy q))
+    (recipientTable (q .scope .pairs) (plannedBy q)) (planFrom q .tally .comparisons) (planFrom q .tally .products) (planFrom q .tally .rounds)
 
--- the plan of n pairs and their shuffle
-unfoldable pub printedPlanOf : ℕ → (ℕ → Pair) → (ℕ → ℕ) → Plan
-printedPlanOf n pair s = planBy n (table n (λ i. pair i .id)) (compatibility pair) (weight documentPoints pair) (table n s)
+-- what is planned: n pairs, by their M(i, j) and W(i, j), and their shuffle
+abbrev pub poolInput : ℕ → (ℕ → Pair) → (ℕ → ℕ) → Input
+poolInput n pair s = input n (compatibility pair) (weight documentPoints pair) (table n s)
+
+unfoldable pub printedPlanOf : ℕ → (ℕ → Pair) → (ℕ → ℕ) → PrintedPlan
+printedPlanOf n pair s = planBy (table n (λ i. pair i .id)) (poolInput n pair s)
 
 -- the refusal, where there is one, and else the text
 unfoldable pub orRefusal : Fault → List ℕ → List ℕ

@@ -9,20 +9,21 @@ use Rattle.pool.specs.Pool.{Pair}
 use Rattle.pool.specs.Sheet.{pairsIn, pairAt, shuffleAt}
 use Rattle.pool.specs.Tables.{Fields}
 use Rattle.pool.specs.Faultless.{EachOnce, Faultless, FaultlessSheet}
-use Rattle.weighing.specs.Compatibility.{compatibility}
-use Rattle.weighing.specs.Weight.{documentPoints, weight}
-use Rattle.weighing.specs.Building.{Graph, building}
+use Rattle.donation.specs.Weight.{documentPoints, weight}
+use Rattle.graph.specs.Graph.{Graph}
+use Rattle.weighing.specs.Building.{building}
 use Rattle.greedy.specs.Tally.{tally}
 use Rattle.exchange.specs.Subsets.{pairsAt}
-use Rattle.exchange.specs.Resolution.{total}
+use Rattle.exchange.specs.Input.{Input, request}
 use Rattle.exchange.specs.Planning.{Lent, Plan, planning}
 use Rattle.exchange.specs.Algorithm1 as Algorithm1
 use Rattle.exchange.specs.Faultless.{LongEnough}
-use Rattle.exchange.specs.Rivals.{ExchangeSet}
+use Rattle.exchange.specs.Rivals.{SetOf, weightIn}
 use Rattle.exchange.specs.Promises.{TallyOf}
 use Rattle.printout.specs.Printed as Printed
-use Rattle.printout.specs.Printed.{bytesOf, planText}
-use Rattle.answering.specs.Answering.{most, printedPlanOf, answerText}
+use Rattle.text.specs.Text.{bytesOf}
+use Rattle.printout.specs.Printed.{planText}
+use Rattle.answering.specs.Answering.{most, poolInput, printedPlanOf, answerText}
 
 -- tables that were built are planned, with any shuffle and any tables that are long enough: they have no fault 10
 abbrev pub BuiltIsPlanned : Type 0
@@ -31,8 +32,8 @@ BuiltIsPlanned =
     → building documentPoints n f old .answer ≡ finished tt
     → g ≡ building documentPoints n f old .lent
     → EachOnce n (λ j. getD s j 0)
-    → LongEnough n (g .compatibilities) (g .weights) s t
-    → (p : Plan) × (planning n (g .compatibilities) (g .weights) s t .answer ≡ finished p)
+    → LongEnough (request n (g .compatibilities) (g .weights) s) t
+    → (p : Plan) × (planning (request n (g .compatibilities) (g .weights) s) t .answer ≡ finished p)
 
 -- every sheet of at most 40 pairs with none of the listed faults is answered by the plan of its pool
 abbrev pub PlanAnswered : Type 0
@@ -42,28 +43,25 @@ PlanAnswered =
     → pairsIn b ≤ most
     → answerText b ≡ planText (printedPlanOf (pairsIn b) (pairAt b) (shuffleAt b (pairsIn b)))
 
--- ## Demands 2 and 3, for the plan p that is printed of n pairs and their shuffle s, with M(i, j) and W(i, j) of those pairs
+-- ## Demands 2 and 3, for the plan p that is printed of q
 
-pub record PlanGuarantee (n : ℕ) (pair : ℕ → Pair) (s : List ℕ) (p : Printed.Plan) : Type 0 where
+pub record PlanGuarantee (q : Input) (p : Printed.PrintedPlan) : Type 0 where
   -- the planned cycles: "executable, no pair is in two of them"
   pub planned : List (List ℕ)
-  pub exchanges : ExchangeSet 3 n (compatibility pair) planned
+  pub exchanges : SetOf q planned
   pub number : p .cycles ≡ length planned
-  pub weighs : p .weight ≡ total (compatibility pair) (weight documentPoints pair) planned
+  pub weighs : p .weight ≡ weightIn q planned
   -- "three times the plan's weight is at least the weight of every other set of executable 2- and 3-cycles sharing no pair"
-  pub factor :
-      (cs : List (List ℕ))
-      → ExchangeSet 3 n (compatibility pair) cs
-      → total (compatibility pair) (weight documentPoints pair) cs ≤ 3 * p .weight
+  pub factor : (cs : List (List ℕ)) → SetOf q cs → weightIn q cs ≤ q .scope .largest * p .weight
   -- "every such tally is"
-  pub counts : TallyOf n (tally (p .comparisons) (p .products) (p .rounds))
+  pub counts : TallyOf (q .scope) (tally (p .comparisons) (p .products) (p .rounds))
   -- "The plan equals that of Algorithm 1, in each pair's donor and recipient", and in its cycles
-  pub cycles : planned ≡ map (pairsAt s) (Algorithm1.chosenCycles 0 3 n (compatibility pair) (weight documentPoints pair) s)
-  pub donors : p .donors ≡ Algorithm1.donors n s (Algorithm1.chosenCycles 0 3 n (compatibility pair) (weight documentPoints pair) s)
-  pub recipients : p .recipients ≡ Algorithm1.recipients n s (Algorithm1.chosenCycles 0 3 n (compatibility pair) (weight documentPoints pair) s)
+  pub cycles : planned ≡ map (pairsAt (q .shuffle)) (Algorithm1.chosenCycles q)
+  pub donors : p .donors ≡ Algorithm1.donors (q .scope .pairs) (q .shuffle) (Algorithm1.chosenCycles q)
+  pub recipients : p .recipients ≡ Algorithm1.recipients (q .scope .pairs) (q .shuffle) (Algorithm1.chosenCycles q)
 
 abbrev pub PlansGuaranteed : Type 0
-PlansGuaranteed = (n : ℕ) (pair : ℕ → Pair) (s : ℕ → ℕ) → Faultless n pair s → PlanGuarantee n pair (table n s) (printedPlanOf n pair s)
+PlansGuaranteed = (n : ℕ) (pair : ℕ → Pair) (s : ℕ → ℕ) → Faultless n pair s → PlanGuarantee (poolInput n pair s) (printedPlanOf n pair s)
 
 -- ## Document 01's example
 

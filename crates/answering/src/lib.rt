@@ -14,7 +14,7 @@ ghost use Rattle.refusal.specs.Answer.{finished, outcome};
 ghost use Rattle.refusal.specs.Number.{numberOf};
 ghost use Rattle.pool.specs.Tables.{pairIn};
 ghost use Rattle.pool.specs.Lent.{lentTables, tablesNow};
-ghost use Rattle.exchange.specs.Subsets.{entry};
+ghost use Rattle.exchange.specs.Input.{inputOf, request};
 ghost use Rattle.printout.specs.Printed.{planText, refusalText};
 ghost use Rattle.planner.specs.Answers.{planIn};
 ghost use Rattle.answering.specs.Answering.{planBy, printedPlanOf, putting, answering};
@@ -29,10 +29,10 @@ fn plan_tables(
     donors: &mut [u16],
     recipients: &mut [u16],
 ) -> Planned
-    requires { ⌜ FaultlessTables n (now m) (now w) (now shuffle) × (n ≤ length (now donors)) × (n ≤ length (now recipients)) ⌝ }
+    requires { ⌜ FaultlessTables (request n (now m) (now w) (now shuffle)) × (n ≤ length (now donors)) × (n ≤ length (now recipients)) ⌝ }
     ensures { λ r.
-        ⌜ Partnered n (now (m .entry)) (now (w .entry)) (now (shuffle .entry)) (now (donors .entry)) (now (recipients .entry))
-        (planIn r) (now (donors .exit)) (now (recipients .exit)) ⌝ }
+        let a = request n (now (m .entry)) (now (w .entry)) (now (shuffle .entry)) in
+        ⌜ Partnered a (now (donors .entry)) (now (recipients .entry)) (planIn r) (now (donors .exit)) (now (recipients .exit)) ⌝ }
 {
     // 40 pairs have (40³ − 40) / 6 subsets and 20 rounds. The records are not printed, so no table of 20 stands here.
     let mut weights = [0u32; 10660];
@@ -72,9 +72,10 @@ fn print_planned(
     shuffle: &[u16],
     out: &mut [u8; 1458],
 ) -> usize
-    requires { ⌜ FaultlessTables n (now m) (now w) (now shuffle) × (n ≤ length (now ids)) ⌝ }
+    requires { ⌜ FaultlessTables (request n (now m) (now w) (now shuffle)) × (n ≤ length (now ids)) ⌝ }
     ensures { λ r.
-        let plan = planBy n (now (ids .entry)) (entry (now (m .entry)) n) (entry (now (w .entry)) n) (now (shuffle .entry)) in
+        let a = request n (now (m .entry)) (now (w .entry)) (now (shuffle .entry)) in
+        let plan = planBy (now (ids .entry)) (inputOf a) in
         ⌜ outcome (finished r) (now (out .exit)) ≡ putting (planText plan) (now (out .entry)) ⌝ }
 {
     let mut donors = [0u16; 40];

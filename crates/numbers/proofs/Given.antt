@@ -9,14 +9,14 @@ use Rattle.reader.specs.declared.Reading.the-variants as Reading
 use Rattle.writer.specs.Said as Writer
 use Rattle.writer.specs.declared.Writing.{Writing}
 use Rattle.writer.specs.declared.Writing.the-variants as Writing
-use Rattle.weighing.specs.Said as Weighing
+use Rattle.weighing.specs.Answers as Weighing
 use Rattle.weighing.specs.declared.Building.{Building}
 use Rattle.weighing.specs.declared.Building.the-variants as Building
 use Rattle.planner.specs.Answers as Planner
 use Rattle.planner.specs.declared.Planned.{Planned}
 use Rattle.planner.specs.declared.Planning.{Planning}
 use Rattle.planner.specs.declared.Planning.the-variants as Planning
-use Rattle.printout.specs.Said as Printout
+use Rattle.printout.specs.Answers as Printout
 use Rattle.printout.specs.declared.Printing.{Printing}
 use Rattle.printout.specs.declared.Printing.the-variants as Printing
 use Rattle.numbers.specs.Numbers.{readNumbers, writeNumbers, buildNumbers, planNumbers, printNumbers}
@@ -40,12 +40,12 @@ unfolding writeNumbers Writer.said
 write-finished r n e = rw e
 
 pub build-refused : (r : Building) (why : Refusal) → r ≡ Building.Refused why → (k : ℕ) → k ≡ numberOf why
-    → record { refusal = k } ≡ buildNumbers (Weighing.said r)
-unfolding buildNumbers Weighing.said
+    → record { refusal = k } ≡ buildNumbers (Weighing.answerOf r)
+unfolding buildNumbers Weighing.answerOf
 build-refused r why e k f = rw (e, f)
 
-pub build-finished : (r : Building) → r ≡ Building.Built → record { refusal = 0 } ≡ buildNumbers (Weighing.said r)
-unfolding buildNumbers Weighing.said
+pub build-finished : (r : Building) → r ≡ Building.Built → record { refusal = 0 } ≡ buildNumbers (Weighing.answerOf r)
+unfolding buildNumbers Weighing.answerOf
 build-finished r e = rw e
 
 pub plan-refused : (r : Planning) (why : Refusal) → r ≡ Planning.Refused why → (k : ℕ) → k ≡ numberOf why
@@ -67,10 +67,10 @@ unfolding planNumbers Planner.answerOf
 plan-made r p e = rw e
 
 pub print-refused : (r : Printing) (why : Refusal) → r ≡ Printing.Refused why → (k : ℕ) → k ≡ numberOf why
-    → record { refusal = k; length = 0 } ≡ printNumbers (Printout.said r)
-unfolding printNumbers Printout.said
+    → record { refusal = k; length = 0 } ≡ printNumbers (Printout.answerOf r)
+unfolding printNumbers Printout.answerOf
 print-refused r why e k f = rw (e, f)
 
-pub print-finished : (r : Printing) (n : ℕ) → r ≡ Printing.Length n → record { refusal = 0; length = n } ≡ printNumbers (Printout.said r)
-unfolding printNumbers Printout.said
+pub print-finished : (r : Printing) (n : ℕ) → r ≡ Printing.Length n → record { refusal = 0; length = n } ≡ printNumbers (Printout.answerOf r)
+unfolding printNumbers Printout.answerOf
 print-finished r n e = rw e

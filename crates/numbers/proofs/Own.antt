@@ -14,13 +14,13 @@ use Rattle.reader.specs.declared.Reading.the-variants as Reading
 use Rattle.writer.specs.Said as Writer
 use Rattle.writer.specs.declared.Writing.{Writing}
 use Rattle.writer.specs.declared.Writing.the-variants as Writing
-use Rattle.weighing.specs.Said as Weighing
+use Rattle.weighing.specs.Answers as Weighing
 use Rattle.weighing.specs.declared.Building.{Building}
 use Rattle.weighing.specs.declared.Building.the-variants as Building
 use Rattle.planner.specs.Answers as Planner
 use Rattle.planner.specs.declared.Planning.{Planning}
 use Rattle.planner.specs.declared.Planning.the-variants as Planning
-use Rattle.printout.specs.Said as Printout
+use Rattle.printout.specs.Answers as Printout
 use Rattle.printout.specs.declared.Printing.{Printing}
 use Rattle.printout.specs.declared.Printing.the-variants as Printing
 use Rattle.numbers.specs.declared.PlanAnswer.{PlanAnswer}
@@ -103,8 +103,8 @@ unfolding Writer.said
 write-numbered (Writing.Length n) = of-finished n
 write-numbered (Writing.Refused why) = at-0 why
 
-pub build-numbered : (r : Building) → NumberedAt0 (Weighing.said r)
-unfolding Weighing.said
+pub build-numbered : (r : Building) → NumberedAt0 (Weighing.answerOf r)
+unfolding Weighing.answerOf
 build-numbered Building.Built = of-finished tt
 build-numbered (Building.Refused why) = at-0 why
 
@@ -113,7 +113,7 @@ unfolding Planner.answerOf
 plan-numbered (Planning.Made p) = of-finished _
 plan-numbered (Planning.Refused why) = at-0 why
 
-pub print-numbered : (r : Printing) → NumberedAt0 (Printout.said r)
-unfolding Printout.said
+pub print-numbered : (r : Printing) → NumberedAt0 (Printout.answerOf r)
+unfolding Printout.answerOf
 print-numbered (Printing.Length n) = of-finished n
 print-numbered (Printing.Refused why) = at-0 why

@@ -10,9 +10,9 @@ ghost use mathlib.Core.Path.{_≡_};
 ghost use Rattle.refusal.specs.Number.{numberOf};
 ghost use Rattle.reader.specs.Said.{said as Reader·said};
 ghost use Rattle.writer.specs.Said.{said as Writer·said};
-ghost use Rattle.weighing.specs.Said.{said as Weighing·said};
+ghost use Rattle.weighing.specs.Answers.{answerOf as Weighing·answerOf};
 ghost use Rattle.planner.specs.Answers.{answerOf as Planner·answerOf};
-ghost use Rattle.printout.specs.Said.{said as Printout·said};
+ghost use Rattle.printout.specs.Answers.{answerOf as Printout·answerOf};
 ghost use Rattle.numbers.specs.Numbers.{readNumbers, writeNumbers, buildNumbers, planNumbers, printNumbers};
 
 // N of the sheet, or the refusal's place.
@@ -93,7 +93,7 @@ pub fn write_numbers(answer: Writing) -> WriteAnswer
 }
 
 pub fn build_numbers(answer: Building) -> BuildAnswer
-    ensures { λ r. ⌜ r ≡ buildNumbers (Weighing·said answer) ⌝ }
+    ensures { λ r. ⌜ r ≡ buildNumbers (Weighing·answerOf answer) ⌝ }
 {
     match answer {
         Building::Refused(why) => BuildAnswer {
@@ -130,7 +130,7 @@ pub fn plan_numbers(answer: Planning) -> PlanAnswer
 }
 
 pub fn print_numbers(answer: Printing) -> PrintAnswer
-    ensures { λ r. ⌜ r ≡ printNumbers (Printout·said answer) ⌝ }
+    ensures { λ r. ⌜ r ≡ printNumbers (Printout·answerOf answer) ⌝ }
 {
     match answer {
         Printing::Refused(why) => PrintAnswer {

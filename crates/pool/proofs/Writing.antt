@@ -14,7 +14,7 @@ use Rattle.pool.specs.Sheet.{sheetLength, sheetOf}
 use Rattle.pool.specs.Tables.{Fields, Tables, room, pairIn, poolIn}
 use Rattle.pool.specs.Faults.{pairFault, pairsFault, poolFault, roomFault, shuffleFault}
 use Rattle.pool.specs.Calls.{writing}
-use Rattle.pool.specs.Faultless.{InRange, Unlike, Faultless, Before, FaultlessPool, PoolFault, TablesHold}
+use Rattle.pool.specs.Faultless.{InRange, Unlike, Faultless, Before, FaultlessPool, PairsFault, PoolFault, TablesHold}
 use Rattle.pool.specs.Promises.{WritesRightly}
 use Rattle.pool.proofs.Lengths.{length-sheetIn}
 use Rattle.pool.proofs.Rooms.{room-hold, hold-room}
@@ -46,18 +46,18 @@ module _ (n space : ℕ) (pair : ℕ → Pair) where
   before-passed : (i : ℕ) → ((j : ℕ) → j < i → pairFault 0 pair j ≡ none) → Before i pair
   before-passed i e j l = pair-passed 0 pair j (e j l)
 
-  pub pairs-fault : (P : ℕ → ℕ → Type 0) → (200 < n → P 4 0) → (n ≤ 200 → space < n → P 9 0)
-      → ((i : ℕ) → i < n → n ≤ 200 → n ≤ space → Before i pair → (InRange (pair i) → ⊥) → P 6 0)
-      → ((i j : ℕ) → j < i → i < n → n ≤ 200 → n ≤ space → Before i pair → InRange (pair i) → pair j .id ≡ pair i .id → P 7 0)
-      → (k o : ℕ) → pairsFault n space pair ≡ fault k o → P k o
+  pub pairs-fault : (Hold : Type 0) → (n ≤ space → Hold) → (Hold → n ≤ space) → (k o : ℕ) → pairsFault n space pair ≡ fault k o
+      → (o ≡ 0) × PairsFault n Hold pair k
   unfolding pairsFault
-  pairs-fault P four nine six seven =
-      by-then P _ _ (by-refuse P 4 0 _ (λ e. four (ltb-true _ _ e)))
+  pairs-fault Hold hold long =
+      let P : ℕ → ℕ → Type 0 = λ k o. (o ≡ 0) × PairsFault n Hold pair k in
+      by-then P _ _ (by-refuse P 4 0 _ (λ e. (refl, PairsFault.tooManyPairs (ltb-true _ _ e))))
       (λ a. let few : n ≤ 200 = ltb-false _ _ (refuse-none _ _ _ a) in
-      by-then P _ _ (room-fault P space n (nine few))
-      (λ r. let held : n ≤ space = room-passed space n r in
+      by-then P _ _ (room-fault P space n (λ l. (refl, PairsFault.tableTooShort few (λ h. omega (arith, l, long h)))))
+      (λ r. let held : Hold = hold (room-passed space n r) in
       by-first P n (pairFault 0 pair)
-      (λ i l e. pair-fault 0 pair i P (six i l few held (before-passed i e)) (λ j k g q. seven i j k l few held (before-passed i e) g q))))
+      (λ i l e. pair-fault 0 pair i P (λ h. (refl, PairsFault.outOfRange i l few held (before-passed i e) h))
+      (λ j k g q. (refl, PairsFault.repeatedId i j k l few held (before-passed i e) g q)))))
 
 -- ## A pool
 
@@ -100,10 +100,7 @@ module _ (n : ℕ) (t : Tables) (out : List ℕ) where
       let P : ℕ → ℕ → Type 0 = λ k o. (o ≡ 0) × PoolFault n t (length out) k in
       by-then P _ _
       (by-then P _ _
-      (pairs-fault n (room t) (pairIn (t .fields)) P (λ l. (refl, PoolFault.tooManyPairs l))
-      (λ few l. (refl, PoolFault.tableTooShort few (λ h. omega (arith, l, hold-room n t h))))
-      (λ i l few held w h. (refl, PoolFault.outOfRange i l few (room-hold n t held) w h))
-      (λ i j k l few held w g e. (refl, PoolFault.repeatedId i j k l few (room-hold n t held) w g e)))
+      (λ k o e. let f = pairs-fault n (room t) (pairIn (t .fields)) (TablesHold n t) (room-hold n t) (hold-room n t) k o e in (f .0, PoolFault.pairs k (f .1)))
       (λ a. let p = pairs-passed n (room t) (pairIn (t .fields)) a in
       shuffle-fault 0 n _ P
       (λ h. (refl, PoolFault.notAShuffle (p .0) (room-hold n t (p .1)) (λ j l. (p .2 j l, λ i k. p .3 j i k l)) h))))

@@ -144,28 +144,25 @@ pub record FaultlessPool (n : ℕ) (t : Tables) : Type 0 where
 abbrev pub Before : ℕ → (ℕ → Pair) → Type 0
 Before i at = (j : ℕ) → j < i → InRange (at j) × ((h : ℕ) → h < j → at h .id ≡ at j .id → ⊥)
 
--- fault k of writing it into a buffer of so many bytes: it is there, and none that is looked for before it
-pub data PoolFault (n : ℕ) (t : Tables) (space : ℕ) : ℕ → Type 0 where
-  tooManyPairs : 200 < n → PoolFault n t space 4
-  tableTooShort : n ≤ 200 → (TablesHold n t → ⊥) → PoolFault n t space 9
-  outOfRange :
-      (i : ℕ)
-      → i < n
-      → n ≤ 200
-      → TablesHold n t
-      → Before i (pairIn (t .fields))
-      → (InRange (pairIn (t .fields) i) → ⊥)
-      → PoolFault n t space 6
+-- 4, 9, 6 or 7 of n pairs in tables that `Hold` them: fault k is there, and none that is looked for before it
+pub data PairsFault (n : ℕ) (Hold : Type 0) (pair : ℕ → Pair) : ℕ → Type 0 where
+  tooManyPairs : 200 < n → PairsFault n Hold pair 4
+  tableTooShort : n ≤ 200 → (Hold → ⊥) → PairsFault n Hold pair 9
+  outOfRange : (i : ℕ) → i < n → n ≤ 200 → Hold → Before i pair → (InRange (pair i) → ⊥) → PairsFault n Hold pair 6
   repeatedId :
       (i j : ℕ)
       → j < i
       → i < n
       → n ≤ 200
-      → TablesHold n t
-      → Before i (pairIn (t .fields))
-      → InRange (pairIn (t .fields) i)
-      → pairIn (t .fields) j .id ≡ pairIn (t .fields) i .id
-      → PoolFault n t space 7
+      → Hold
+      → Before i pair
+      → InRange (pair i)
+      → pair j .id ≡ pair i .id
+      → PairsFault n Hold pair 7
+
+-- fault k of writing a pool into a buffer of so many bytes: one of its pairs, or one that is looked for after them
+pub data PoolFault (n : ℕ) (t : Tables) (space : ℕ) : ℕ → Type 0 where
+  pairs : (k : ℕ) → PairsFault n (TablesHold n t) (pairIn (t .fields)) k → PoolFault n t space k
   notAShuffle :
       n ≤ 200
       → TablesHold n t

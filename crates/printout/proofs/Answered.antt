@@ -16,12 +16,13 @@ use Rattle.refusal.specs.declared.Refusal.the-variants.{TooShort}
 use Rattle.refusal.specs.declared.Verdict.{Verdict}
 use Rattle.refusal.specs.declared.Verdict.the-variants.{Sound, Faulty}
 use Rattle.refusal.proofs.Faults.{refuse-none, none-refuse, fault-refuse, then-none, none-then, fault-then, by-refuse, by-then, sound-none, faulty-fault, unless-none, unless-fault, finished-none, refused-fault}
-use Rattle.printout.specs.Printed.{Plan, planText, refusalText}
+use Rattle.printout.specs.Printed.{PrintedPlan, planText, refusalText}
 use Rattle.pool.specs.Faults.{roomFault}
-use Rattle.printout.specs.Calls.{planFault, printingPlan, printingRefusal}
-use Rattle.printout.specs.Said.{said}
-use Rattle.printout.specs.Steps.{Put, Hold}
-use Rattle.printout.specs.Promises.{Typed, Prints, PrintsPlan, PrintsRefused, PrintsRefusal}
+use Rattle.printout.specs.Calls.{printFault, printingPlan, printingRefusal}
+use Rattle.printout.specs.Answers.{answerOf}
+use Rattle.text.specs.Put.{Put}
+use Rattle.partners.specs.Preconditions.{PlanTablesHold}
+use Rattle.printout.specs.Promises.{PlanTyped, Prints, PrintsPlan, PrintsRefused, PrintsRefusal}
 use Rattle.printout.specs.declared.Printing.{Printing}
 use Rattle.printout.specs.declared.Printing.the-variants.{Length, Refused}
 use Rattle.printout.proofs.Promised.{plan-fits, refused-fits, refusal-fits}
@@ -50,49 +51,49 @@ module _ (room : ℕ) (text : List ℕ) where
   nine = by-refuse Nine 9 0 _ (λ _. (refl, refl))
 
 -- what is put from the buffer's start fills it
-put-filled : {text old new : List ℕ} {end : ℕ} → Put 0 text old new end → outcome (said (Length end)) new ≡ outcome (finished (length text)) (filled text old)
-unfolding said
+put-filled : {text old new : List ℕ} {end : ℕ} → Put 0 text old new end → outcome (answerOf (Length end)) new ≡ outcome (finished (length text)) (filled text old)
+unfolding answerOf
 put-filled {text} {old} p = ap₂ (λ (k : ℕ) (b : List ℕ). outcome (finished k) b) (p .ends ∙ zero-add (length text)) (p .holds ∙ stored-filled text old)
 
 -- ## A plan
 
-module _ (room : ℕ) (p : Plan) where
-  pub judged-ids : length (p .ids) < p .pairs → faultAt 0 (Faulty TooShort) ≡ planFault room p
-  unfolding planFault roomFault faultAt
+module _ (room : ℕ) (p : PrintedPlan) where
+  pub judged-ids : length (p .ids) < p .pairs → faultAt 0 (Faulty TooShort) ≡ printFault room p
+  unfolding printFault roomFault faultAt
   judged-ids l = sym (fault-then _ _ (fault-refuse 9 0 _ (lt-ltb _ _ l)))
 
-  pub judged-donors : p .pairs ≤ length (p .ids) → length (p .donors) < p .pairs → faultAt 0 (Faulty TooShort) ≡ planFault room p
-  unfolding planFault roomFault faultAt
+  pub judged-donors : p .pairs ≤ length (p .ids) → length (p .donors) < p .pairs → faultAt 0 (Faulty TooShort) ≡ printFault room p
+  unfolding printFault roomFault faultAt
   judged-donors h l = sym (none-then _ _ (none-refuse 9 0 _ (le-ltb _ _ h)) ∙ fault-then _ _ (fault-refuse 9 0 _ (lt-ltb _ _ l)))
 
   pub judged-recipients : p .pairs ≤ length (p .ids) → p .pairs ≤ length (p .donors) → length (p .recipients) < p .pairs
-      → faultAt 0 (Faulty TooShort) ≡ planFault room p
-  unfolding planFault roomFault faultAt
+      → faultAt 0 (Faulty TooShort) ≡ printFault room p
+  unfolding printFault roomFault faultAt
   judged-recipients h i l =
       sym
       (none-then _ _ (none-refuse 9 0 _ (le-ltb _ _ h))
       ∙ none-then _ _ (none-refuse 9 0 _ (le-ltb _ _ i))
       ∙ fault-then _ _ (fault-refuse 9 0 _ (lt-ltb _ _ l)))
 
-  module _ (hold : Hold (p .pairs) (p .ids) (p .donors) (p .recipients)) where
-    tables-passed : planFault room p ≡ roomFault room (length (planText p))
-    unfolding planFault roomFault
+  module _ (hold : PlanTablesHold (p .pairs) (p .ids) (p .donors) (p .recipients)) where
+    tables-passed : printFault room p ≡ roomFault room (length (planText p))
+    unfolding printFault roomFault
     tables-passed =
         none-then _ _ (none-refuse 9 0 _ (le-ltb _ _ (hold .ids)))
         ∙ none-then _ _ (none-refuse 9 0 _ (le-ltb _ _ (hold .donors)))
         ∙ none-then _ _ (none-refuse 9 0 _ (le-ltb _ _ (hold .recipients)))
 
-    pub judged-fits : length (planText p) ≤ room → faultAt 0 Sound ≡ planFault room p
+    pub judged-fits : length (planText p) ≤ room → faultAt 0 Sound ≡ printFault room p
     unfolding faultAt
     judged-fits l = sym (tables-passed ∙ room-none room (planText p) l)
 
-    pub judged-long : room < length (planText p) → faultAt 0 (Faulty TooShort) ≡ planFault room p
+    pub judged-long : room < length (planText p) → faultAt 0 (Faulty TooShort) ≡ printFault room p
     unfolding faultAt
     judged-long l = sym (tables-passed ∙ room-fault room (planText p) l)
 
   -- with no fault the tables hold the pairs, and the buffer the text
-  passed : planFault room p ≡ none → Hold (p .pairs) (p .ids) (p .donors) (p .recipients) × (length (planText p) ≤ room)
-  unfolding planFault roomFault
+  passed : printFault room p ≡ none → PlanTablesHold (p .pairs) (p .ids) (p .donors) (p .recipients) × (length (planText p) ≤ room)
+  unfolding printFault roomFault
   passed e =
       let a = then-none _ _ e in
       let b = then-none _ _ (a .1) in
@@ -105,36 +106,36 @@ module _ (room : ℕ) (p : Plan) where
         none-room room (planText p) (d .1),
       )
 
-  plan-nine : (k o : ℕ) → planFault room p ≡ fault k o → Nine k o
-  unfolding planFault roomFault
+  plan-nine : (k o : ℕ) → printFault room p ≡ fault k o → Nine k o
+  unfolding printFault roomFault
   plan-nine =
       by-then Nine _ _ (by-refuse Nine 9 0 _ (λ _. (refl, refl)))
       (λ _.
       by-then Nine _ _ (by-refuse Nine 9 0 _ (λ _. (refl, refl)))
       (λ _. by-then Nine _ _ (by-refuse Nine 9 0 _ (λ _. (refl, refl))) (λ _. nine room (planText p))))
 
-module _ (p : Plan) (out : List ℕ) (found : Verdict) (e : faultAt 0 found ≡ planFault (length out) p) where
-  pub answered-fault : (why : Refusal) → found ≡ Faulty why → outcome (said (Refused why)) out ≡ printingPlan p out
-  unfolding said printingPlan
+module _ (p : PrintedPlan) (out : List ℕ) (found : Verdict) (e : faultAt 0 found ≡ printFault (length out) p) where
+  pub answered-fault : (why : Refusal) → found ≡ Faulty why → outcome (answerOf (Refused why)) out ≡ printingPlan p out
+  unfolding answerOf printingPlan
   answered-fault why f = sym (unless-fault _ _ _ _ (numberOf why) 0 (faulty-fault 0 found e why f))
 
   module _ (f : found ≡ Sound) where
-    pub answered-passed : Hold (p .pairs) (p .ids) (p .donors) (p .recipients) × (length (planText p) ≤ length out)
+    pub answered-passed : PlanTablesHold (p .pairs) (p .ids) (p .donors) (p .recipients) × (length (planText p) ≤ length out)
     answered-passed = passed (length out) p (sound-none 0 found e f)
 
-    pub answered-printed : {new : List ℕ} {end : ℕ} → Put 0 (planText p) out new end → outcome (said (Length end)) new ≡ printingPlan p out
+    pub answered-printed : {new : List ℕ} {end : ℕ} → Put 0 (planText p) out new end → outcome (answerOf (Length end)) new ≡ printingPlan p out
     unfolding printingPlan
     answered-printed w = put-filled w ∙ sym (unless-none _ _ _ _ (sound-none 0 found e f))
 
 -- ## A refusal
 
 module _ (number place : ℕ) (out : List ℕ) where
-  pub refusal-short : length out < length (refusalText number place) → outcome (said (Refused TooShort)) out ≡ printingRefusal number place out
-  unfolding said printingRefusal
+  pub refusal-short : length out < length (refusalText number place) → outcome (answerOf (Refused TooShort)) out ≡ printingRefusal number place out
+  unfolding answerOf printingRefusal
   refusal-short l = sym (unless-fault _ _ _ _ 9 0 (room-fault (length out) (refusalText number place) l))
 
   pub refusal-put : {new : List ℕ} {end : ℕ} → length (refusalText number place) ≤ length out → Put 0 (refusalText number place) out new end
-      → outcome (said (Length end)) new ≡ printingRefusal number place out
+      → outcome (answerOf (Length end)) new ≡ printingRefusal number place out
   unfolding printingRefusal
   refusal-put l w = put-filled w ∙ sym (unless-none _ _ _ _ (room-none (length out) (refusalText number place) l))
 
@@ -157,10 +158,10 @@ prints-by f text out {new} {a} h i j e =
       refuses = λ k o g. j k o (refused-fault f (length text) (filled text out) out (sym (answer-of e) ∙ g));
     }
 
-pub prints-plan : (p : Plan) (out : List ℕ) {new : List ℕ} {a : Answer ℕ} → Typed p → outcome a new ≡ printingPlan p out → PrintsPlan p (length out) a
+pub prints-plan : (p : PrintedPlan) (out : List ℕ) {new : List ℕ} {a : Answer ℕ} → PlanTyped p → outcome a new ≡ printingPlan p out → PrintsPlan p (length out) a
 unfolding printingPlan
 prints-plan p out w e =
-    prints-by (planFault (length out) p) (planText p) out
+    prints-by (printFault (length out) p) (planText p) out
     (λ s. tables-passed (length out) p (s .0) ∙ room-none (length out) (planText p) (omega (arith, plan-fits p w)))
     (λ f. passed (length out) p f .1) (plan-nine (length out) p) e
 
@@ -182,13 +183,13 @@ module _ (number place : ℕ) (out : List ℕ) {new : List ℕ} {a : Answer ℕ}
 -- ## For a caller, by the answer's cases
 
 -- a length is what the promise says of one
-pub length-within : {room : ℕ} (r : Printing) → ((n : ℕ) → said r ≡ finished n → n ≤ room) → (n : ℕ) → r ≡ Length n → n ≤ room
-unfolding said
+pub length-within : {room : ℕ} (r : Printing) → ((n : ℕ) → answerOf r ≡ finished n → n ≤ room) → (n : ℕ) → r ≡ Length n → n ≤ room
+unfolding answerOf
 length-within r w n e = w n (rw e)
 
 -- what is surely printed is not refused
-pub never-refused : {A : Type 0} {k : ℕ} (r : Printing) → said r ≡ finished k → (why : Refusal) → r ≡ Refused why → A
-unfolding said
+pub never-refused : {A : Type 0} {k : ℕ} (r : Printing) → answerOf r ≡ finished k → (why : Refusal) → r ≡ Refused why → A
+unfolding answerOf
 never-refused {A} {k} r f why e =
     let g : refused (numberOf why) 0 ≡ finished k = rw e at f in
     let z : _≡_ {A = ℕ} 0 1 = cc in

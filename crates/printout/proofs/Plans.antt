@@ -4,11 +4,13 @@ use mathlib.Core.List.{List, [], _∷_, _++_}
 use Prim.Native.Nat.{ℕ, _+_, _≤_}
 use native.Mathlib.Omega.{arith}
 use lib.ListN.{length, length-append}
-use Rattle.printout.specs.Printed.{bytesOf, numberLine, Plan, pairLines, planText}
-use Rattle.printout.specs.Steps.{Put}
-use Rattle.printout.proofs.Puts.{put-then, length-put}
+use Rattle.text.specs.Text.{bytesOf, numberLine}
+use Rattle.printout.specs.Printed.{PrintedPlan, planText}
+use Rattle.partners.specs.Pairs.{pairLines}
+use Rattle.text.specs.Put.{Put}
+use Rattle.text.proofs.Puts.{put-then, length-put}
 
-module _ (p : Plan) where
+module _ (p : PrintedPlan) where
   abbrev pub headLine : List ℕ
   headLine = numberLine (bytesOf "PLAN") (p .pairs ∷ p .cycles ∷ p .weight ∷ [])
 

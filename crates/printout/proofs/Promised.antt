@@ -7,11 +7,13 @@ use native.Mathlib.Omega.{arith}
 use native.Mathlib.Decide.{decLt}
 use lib.ListN.{length, getD, length-append}
 use Rattle.laws.specs.Below.{table}
-use Rattle.printout.specs.Printed.{bytesOf, digitsWithin, decimal, line, numberLine, Plan, partner, pairLine, pairLines, planText, refusalText}
-use Rattle.printout.specs.Promises.{ExamplePrinted, NonePrinted, RefusalPrinted, Typed, PlanFits, RefusalFits, RefusedFits}
-use Rattle.printout.proofs.Decimal.{length-decimal, length-wide, length-id}
-use Rattle.printout.proofs.Lines.{length-none, length-texts, length-line}
-use Rattle.printout.proofs.Pairs.{partner-id, partner-none, length-pair}
+use Rattle.text.specs.Text.{bytesOf, digitsWithin, decimal, line, numberLine}
+use Rattle.printout.specs.Printed.{PrintedPlan, planText, refusalText}
+use Rattle.partners.specs.Pairs.{partner, pairLine, pairLines}
+use Rattle.printout.specs.Promises.{ExamplePrinted, NonePrinted, RefusalPrinted, PlanTyped, PlanFits, RefusalFits, RefusedFits}
+use Rattle.text.proofs.Decimal.{length-decimal, length-wide, length-id}
+use Rattle.text.proofs.Lines.{length-none, length-texts, length-line}
+use Rattle.partners.proofs.Pairs.{partner-id, partner-none, length-pair}
 use Rattle.printout.proofs.Plans.{length-plan}
 
 -- ## Examples
@@ -43,7 +45,7 @@ line-three word a b c x y z =
     let e = simp length-append at (length-line word (a ∷ b ∷ c ∷ [])) in
     omega (arith, length-wide a x, length-wide b y, length-wide c z)
 
-module _ (p : Plan) (w : Typed p) where
+module _ (p : PrintedPlan) (w : PlanTyped p) where
   partner-fits : (who : ℕ) → length (partner (p .pairs) (p .ids) who) ≤ 10
   partner-fits who = go (decLt who (p .pairs))
     where

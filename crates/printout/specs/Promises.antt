@@ -1,43 +1,24 @@
 -- What is promised of the text and of the calls, as statements: the proofs are in `proofs/`, and the contracts of `print_plan`, `print_refused`
 -- and `print_refusal` carry `PrintsPlan`, `PrintsRefused` and `PrintsRefusal`. Assumes nothing.
-use Prim.Native.Nat.{ℕ, _+_, _-_, _*_, _≤_, _<_}
-use Prim.Native.Char.{code}
+use Prim.Native.Nat.{ℕ, _+_, _*_, _≤_, _<_}
 use mathlib.Core.Path.{_≡_}
 use mathlib.Core.List.{List, [], _∷_}
 use lib.ListN.{length, getD}
 use Rattle.refusal.specs.Answer.{Answer, finished, refused}
-use Rattle.printout.specs.Printed.{bytesOf, decimal, Plan, plan, planText, refusalText}
-use Rattle.printout.specs.Steps.{Hold}
-
--- ## Decimal, said a second time
-
--- the number that a text of digits stands for, the highest first, after digits that stand for `higher`
-unfoldable pub readOn : ℕ → List ℕ → ℕ
-readOn higher [] = higher
-readOn higher (c ∷ text) = readOn (higher * 10 + (c - code "0")) text
-
--- one digit or more, that stand for x, the first of several no zero
-pub record Decimal (x : ℕ) (text : List ℕ) : Type 0 where
-  pub some : 0 < length text
-  pub digits : (i : ℕ) → i < length text → (code "0" ≤ getD text i 0) × (getD text i 0 ≤ code "9")
-  pub number : readOn 0 text ≡ x
-  pub front : 1 < length text → code "0" < getD text 0 0
-
--- "The printout is decimal": what is printed of a number is such a text, and there is no other
-pub record PrintsDecimal (x : ℕ) : Type 0 where
-  pub is : Decimal x (decimal x)
-  pub only : (text : List ℕ) → Decimal x text → text ≡ decimal x
+use Rattle.text.specs.Text.{bytesOf}
+use Rattle.partners.specs.Preconditions.{PlanTablesHold}
+use Rattle.printout.specs.Printed.{PrintedPlan, printedPlan, planText, refusalText}
 
 -- ## Examples
 
 -- document 01's: 11 and 12 give to each other
 abbrev pub ExamplePrinted : Type 0
 ExamplePrinted =
-    planText (plan 2 1 2900 (11 ∷ 12 ∷ []) (1 ∷ 0 ∷ []) (1 ∷ 0 ∷ []) 1 6 1) ≡ bytesOf "PLAN 2 1 2900\n11 12 12\n12 11 11\nCOUNTS 1 6 1\n"
+    planText (printedPlan 2 1 2900 (11 ∷ 12 ∷ []) (1 ∷ 0 ∷ []) (1 ∷ 0 ∷ []) 1 6 1) ≡ bytesOf "PLAN 2 1 2900\n11 12 12\n12 11 11\nCOUNTS 1 6 1\n"
 
 -- nobody gives: pool k4 of document 01, with the same ids
 abbrev pub NonePrinted : Type 0
-NonePrinted = planText (plan 2 0 0 (11 ∷ 12 ∷ []) (2 ∷ 2 ∷ []) (2 ∷ 2 ∷ []) 1 6 1) ≡ bytesOf "PLAN 2 0 0\n11 - -\n12 - -\nCOUNTS 1 6 1\n"
+NonePrinted = planText (printedPlan 2 0 0 (11 ∷ 12 ∷ []) (2 ∷ 2 ∷ []) (2 ∷ 2 ∷ []) 1 6 1) ≡ bytesOf "PLAN 2 0 0\n11 - -\n12 - -\nCOUNTS 1 6 1\n"
 
 abbrev pub RefusalPrinted : Type 0
 RefusalPrinted = refusalText 7 42 ≡ bytesOf "REFUSED 7 42\n"
@@ -45,7 +26,7 @@ RefusalPrinted = refusalText 7 42 ≡ bytesOf "REFUSED 7 42\n"
 -- ## Buffers that always suffice
 
 -- what the types of the arguments give: numbers of 64 bits, and ids of 32
-pub record Typed (p : Plan) : Type 0 where
+pub record PlanTyped (p : PrintedPlan) : Type 0 where
   pub pairs : p .pairs < 18446744073709551616
   pub cycles : p .cycles < 18446744073709551616
   pub weight : p .weight < 18446744073709551616
@@ -67,7 +48,7 @@ abbrev pub refusedRoom : ℕ
 refusedRoom = 40
 
 abbrev pub PlanFits : Type 0
-PlanFits = (p : Plan) → Typed p → length (planText p) ≤ planRoom (p .pairs)
+PlanFits = (p : PrintedPlan) → PlanTyped p → length (planText p) ≤ planRoom (p .pairs)
 
 abbrev pub RefusalFits : Type 0
 RefusalFits = (number place : ℕ) → number < 256 → place < 18446744073709551616 → length (refusalText number place) ≤ refusalRoom
@@ -83,8 +64,8 @@ pub record Prints (sure : Type 0) (text : List ℕ) (room : ℕ) (a : Answer ℕ
   pub refuses : (k o : ℕ) → a ≡ refused k o → (k ≡ 9) × (o ≡ 0)
 
 -- a plan is surely printed where its tables hold its pairs and the buffer has as many bytes
-abbrev pub PrintsPlan : Plan → ℕ → Answer ℕ → Type 0
-PrintsPlan p room = Prints (Hold (p .pairs) (p .ids) (p .donors) (p .recipients) × (planRoom (p .pairs) ≤ room)) (planText p) room
+abbrev pub PrintsPlan : PrintedPlan → ℕ → Answer ℕ → Type 0
+PrintsPlan p room = Prints (PlanTablesHold (p .pairs) (p .ids) (p .donors) (p .recipients) × (planRoom (p .pairs) ≤ room)) (planText p) room
 
 abbrev pub PrintsRefused : ℕ → ℕ → ℕ → Answer ℕ → Type 0
 PrintsRefused number place room = Prints (refusedRoom ≤ room) (refusalText number place) room

@@ -4,7 +4,7 @@ use mathlib.Core.List.{List}
 use Prim.Native.Nat.{ℕ}
 use Rattle.refusal.specs.Answer.{Answer, Outcome, outcome}
 use Rattle.pool.specs.Tables.{Fields}
-use Rattle.weighing.specs.Building.{Graph}
+use Rattle.graph.specs.Graph.{Graph}
 use Rattle.weighing.specs.Promises.{BuildsRightly}
 use Rattle.exchange.specs.Input.{Request}
 use Rattle.exchange.specs.Planning.{Lent, Plan, planning}

@@ -10,14 +10,15 @@ ghost use lib.ListN.{length};
 ghost use Rattle.pool.specs.Lent.{lentFields, lentTables};
 ghost use Rattle.pool.specs.Calls.{reading, writing};
 ghost use Rattle.pool.specs.Promises.{ReadsRightly, WritesRightly};
-ghost use Rattle.weighing.specs.Weight.{documentPoints};
-ghost use Rattle.weighing.specs.Building.{graph, building};
+ghost use Rattle.donation.specs.Weight.{documentPoints};
+ghost use Rattle.graph.specs.Graph.{graph};
+ghost use Rattle.weighing.specs.Building.{building};
 ghost use Rattle.weighing.specs.Promises.{BuildsRightly};
 ghost use Rattle.exchange.specs.Input.{request};
 ghost use Rattle.exchange.specs.Planning.{planning};
 ghost use Rattle.exchange.specs.Lent.{lentPlan};
 ghost use Rattle.exchange.specs.Promises.{PlansRightly};
-ghost use Rattle.printout.specs.Printed.{plan};
+ghost use Rattle.printout.specs.Printed.{printedPlan};
 ghost use Rattle.printout.specs.Calls.{printingPlan, printingRefusal};
 ghost use Rattle.printout.specs.Promises.{PrintsPlan, PrintsRefused};
 ghost use Rattle.numbers.specs.Numbers.{readNumbers, writeNumbers, buildNumbers, planNumbers, printNumbers};
@@ -193,7 +194,7 @@ pub extern "C" fn vadivuzhen_print_plan(
     out: &mut [u8],
 ) -> PrintAnswer
     ensures { λ r.
-        let p = plan n cycles weight (now (ids .entry)) (now (donors .entry)) (now (recipients .entry)) comparisons products rounds in
+        let p = printedPlan n cycles weight (now (ids .entry)) (now (donors .entry)) (now (recipients .entry)) comparisons products rounds in
         let due = printingPlan p (now (out .entry)) in
         ⌜ (r ≡ printNumbers (due .answer)) × NumberedAt0 (due .answer) ⌝
         ∗ ⌜ now (out .exit) ≡ due .lent ⌝

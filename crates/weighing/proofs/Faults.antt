@@ -15,11 +15,13 @@ use Rattle.refusal.proofs.Faults.{none-then, fault-then, then-none, fault-refus
 use Rattle.pool.specs.Pool.{Pair}
 use Rattle.pool.specs.Tables.{Fields, fieldRoom, pairIn}
 use Rattle.pool.specs.Faults.{roomFault, pairsFault}
+use Rattle.pool.specs.Faultless.{FieldsHold}
 use Rattle.pool.proofs.Rooms.{fieldRoom-hold, hold-fieldRoom}
 use Rattle.pool.proofs.Reading.{room-none, room-passed, room-fault}
 use Rattle.pool.proofs.Writing.{pairs-none, pairs-passed, pairs-fault}
 use Rattle.checks.specs.Agree.{Spaced}
-use Rattle.weighing.specs.Building.{Graph, buildFault}
+use Rattle.graph.specs.Graph.{Graph}
+use Rattle.weighing.specs.Building.{buildFault}
 use Rattle.weighing.specs.Promises.{FaultlessFields, Fit, BuildFault}
 
 -- the shortest of the tables is the shortest of those that are looked at, or shorter
@@ -98,10 +100,7 @@ module _ (n : ℕ) (f : Fields) (g : Graph) where
   build-fault =
       let P : ℕ → ℕ → Type 0 = λ k o. (o ≡ 0) × BuildFault n f g k in
       by-then P _ _
-      (pairs-fault n (fieldRoom f) (pairIn f) P (λ l. (refl, BuildFault.tooManyPairs l))
-      (λ few l. (refl, BuildFault.fieldsTooShort few (λ h. omega (arith, l, hold-fieldRoom n f h))))
-      (λ i l few held w h. (refl, BuildFault.outOfRange i l few (fieldRoom-hold n f held) w h))
-      (λ i j k l few held w r e. (refl, BuildFault.repeatedId i j k l few (fieldRoom-hold n f held) w r e)))
+      (λ k o e. let r = pairs-fault n (fieldRoom f) (pairIn f) (FieldsHold n f) (fieldRoom-hold n f) (hold-fieldRoom n f) k o e in (r .0, BuildFault.pairs k (r .1)))
       (λ a. let w : FaultlessFields n f = fields-passed a in
       by-then P _ _ (room-fault P _ _ (λ l. (refl, BuildFault.tablesTooShort w (λ h. omega (arith, l, h .compatibilities)))))
       (λ _. room-fault P _ _ (λ l. (refl, BuildFault.tablesTooShort w (λ h. omega (arith, l, h .weights))))))

@@ -1,7 +1,5 @@
--- Document 01's 'Compatibility and weight'. Believe `Compatibility`, `Weight` and `Building`: the contracts cite them, and `Said` for the answer.
--- `Promises` has the statements.
-pub mod Compatibility
-pub mod Weight
+-- Document 01's building of M and W. Believe `Building`: the contract of `build` cites it, with `Answers` for the answer. `Promises` has the
+-- statements.
 pub mod Building
-pub mod Said
+pub mod Answers
 pub mod Promises

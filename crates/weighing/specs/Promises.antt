@@ -1,18 +1,14 @@
 -- What is promised of building, as statements: the proofs are in `proofs/`, and the contract of `build` carries `BuildsRightly`. Assumes nothing.
 use Prim.Native.Nat.{ℕ, _+_, _*_, _≤_, _<_}
 use mathlib.Core.Path.{_≡_}
-use mathlib.Core.Bool.{Bool, true, _&&_, _||_}
-use mathlib.Core.Logic.{_↔_}
 use mathlib.Core.List.{List}
-use lib.Dec.{eqb}
 use lib.ListN.{length, getD}
 use Rattle.refusal.specs.Answer.{Answer, finished, refused}
-use Rattle.pool.specs.Pool.{Pair}
 use Rattle.pool.specs.Tables.{Fields, pairIn}
-use Rattle.pool.specs.Faultless.{InRange, Unlike, FieldsHold, Before}
-use Rattle.weighing.specs.Compatibility.{suits, entries, has, compatibility}
-use Rattle.weighing.specs.Weight.{documentPoints, weight}
-use Rattle.weighing.specs.Building.{Graph}
+use Rattle.pool.specs.Faultless.{InRange, Unlike, FieldsHold, PairsFault}
+use Rattle.donation.specs.Compatibility.{compatibility}
+use Rattle.donation.specs.Weight.{documentPoints, weight}
+use Rattle.graph.specs.Graph.{Graph}
 
 -- ## What has none of the faults, and what each fault is, said without building
 
@@ -28,21 +24,9 @@ pub record Fit (n : ℕ) (g : Graph) : Type 0 where
   pub compatibilities : n * n ≤ length (g .compatibilities)
   pub weights : n * n ≤ length (g .weights)
 
--- fault k of building: it is there, and none that is looked for before it
+-- fault k of building: one of the pairs, or 9 of the tables to be filled, which is looked for after them
 pub data BuildFault (n : ℕ) (f : Fields) (g : Graph) : ℕ → Type 0 where
-  tooManyPairs : 200 < n → BuildFault n f g 4
-  fieldsTooShort : n ≤ 200 → (FieldsHold n f → ⊥) → BuildFault n f g 9
-  outOfRange : (i : ℕ) → i < n → n ≤ 200 → FieldsHold n f → Before i (pairIn f) → (InRange (pairIn f i) → ⊥) → BuildFault n f g 6
-  repeatedId :
-      (i j : ℕ)
-      → j < i
-      → i < n
-      → n ≤ 200
-      → FieldsHold n f
-      → Before i (pairIn f)
-      → InRange (pairIn f i)
-      → pairIn f j .id ≡ pairIn f i .id
-      → BuildFault n f g 7
+  pairs : (k : ℕ) → PairsFault n (FieldsHold n f) (pairIn f) k → BuildFault n f g k
   tablesTooShort : FaultlessFields n f → (Fit n g → ⊥) → BuildFault n f g 9
 
 -- ## What is built
@@ -73,39 +57,3 @@ pub record BuildsRightly (n : ℕ) (f : Fields) (old : Graph) (a : Answer (Unit 
   pub refuses : (k o : ℕ) → a ≡ refused k o → (o ≡ 0) × BuildFault n f old k
   pub built : a ≡ finished tt → Entries n f new
   pub plannable : a ≡ finished tt → Plannable n new
-
--- ## The rule in words
-
-abbrev pub O : ℕ
-O = 0
-
-abbrev pub A : ℕ
-A = 1
-
-abbrev pub B : ℕ
-B = 2
-
-abbrev pub AB : ℕ
-AB = 3
-
--- "O suits all; A suits A and AB; B suits B and AB; AB suits AB"
-unfoldable pub suitsInWords : ℕ → ℕ → Bool
-suitsInWords donor patient =
-    eqb donor O
-    || eqb donor A && (eqb patient A || eqb patient AB)
-    || eqb donor B && (eqb patient B || eqb patient AB)
-    || eqb donor AB && eqb patient AB
-
--- the table of four by four is that rule
-abbrev pub TableIsRule : Type 0
-TableIsRule = (donor patient : ℕ) → donor ≤ AB → patient ≤ AB → suits donor patient ≡ suitsInWords donor patient
-
--- M(i, j) is 1 for two different pairs whose blood suits and where no entry of the laboratory's list is an antigen of donor i and an antibody of
--- patient j, and for no others
-pub record Compatible (pair : ℕ → Pair) (i j : ℕ) : Type 0 where
-  pub different : i ≡ j → ⊥
-  pub blood : suits (pair i .donorBlood) (pair j .patientBlood) ≡ true
-  pub apart : (k : ℕ) → k < entries → has (pair i .donorAntigens) k ≡ true → has (pair j .patientAntibodies) k ≡ true → ⊥
-
-abbrev pub OneWhereCompatible : Type 0
-OneWhereCompatible = (pair : ℕ → Pair) (i j : ℕ) → (compatibility pair i j ≡ 1) ↔ Compatible pair i j

@@ -54,7 +54,7 @@ returns : tie.Need-returns
 returns c =
     let p = c .before .before .before .before .before .before .before .before .before .plan-by-value in
     let s = c .before .before .before .before .before .before .before .before .before .before .before .before .before .before .before .before .before .before .before in
-    partnered (s .args .n) _ _ _ (s .pre .0) (lentTo s) (roomy s) (p .result .planning) _ (p .ensures .0 blank refl) _ (c .before .planning .given .1)
+    partnered (s .args .n) _ _ _ (s .pre .0) (lentTo s) (roomy s) (p .result .planning) _ (p .ensures .plans blank refl) _ (c .before .planning .given .1)
 
 same-length-3 : tie.Need-same-length-3
 same-length-3 c = search needs
@@ -66,7 +66,7 @@ returns-2 : tie.Need-returns-2
 returns-2 c =
     let p = c .before .before .before .before .before .before .before .before .plan-by-value in
     let s = c .before .before .before .before .before .before .before .before .before .before .before .before .before .before .before .before .before .before in
-    never-refused (s .args .n) _ _ _ (s .pre .0) (lentTo s) (roomy s) (p .result .planning) _ (p .ensures .0 blank refl) _ (c .enum-told .given .1)
+    never-refused (s .args .n) _ _ _ (s .pre .0) (lentTo s) (roomy s) (p .result .planning) _ (p .ensures .plans blank refl) _ (c .enum-told .given .1)
 
 pub plan-tables-spec : {M : Type 1} → statement M
 plan-tables-spec =

@@ -6,8 +6,8 @@ use lib.Dec.{lit≤}
 use lib.ListN.{length, replicate}
 use lib.Seq.{length-take-le}
 use Rattle.pool.specs.Tables.{Tables, fields, tables}
-use Rattle.weighing.specs.Building.{Graph, graph}
-use Rattle.printout.specs.Printed.{Plan, planText}
+use Rattle.graph.specs.Graph.{Graph, graph}
+use Rattle.printout.specs.Printed.{PrintedPlan, planText}
 use Rattle.answering.specs.Answering.{putting}
 use Rattle.answering.proofs.Pools.{never-unbuilt, plannable, plan-is}
 use Rattle.answering.proofs.print_pool.Statement.{statement}
@@ -70,7 +70,7 @@ returns : tie.Need-returns
 returns c =
     let s = c .before .before .before .before .before .before .before .before .before .before .before .before .before .before .before .before .before .before .before .before .before .before in
     let b = c .before .before .before .before .before .before .before .before .before .before .build in
-    c .print-planned .ensures ∙ ap (λ (x : Plan). putting (planText x) (s .args .out .now)) (plan-is (s .args .n) (pool s) (s .pre) empty roomy (b .result) _ (b .ensures .1))
+    c .print-planned .ensures ∙ ap (λ (x : PrintedPlan). putting (planText x) (s .args .out .now)) (plan-is (s .args .n) (pool s) (s .pre) empty roomy (b .result) _ (b .ensures .1))
 
 returns-2 : tie.Need-returns-2
 returns-2 c =

@@ -5,24 +5,24 @@ use native.Mathlib.Omega.{arith}
 use borrow.Author.Tests.{leb-true, leb-false}
 use lib.Dec.{leb}
 use lib.ListN.{length}
-use Rattle.printout.specs.Printed.{Plan, plan, planText}
-use Rattle.printout.specs.Steps.{Hold}
+use Rattle.printout.specs.Printed.{PrintedPlan, printedPlan, planText}
+use Rattle.partners.specs.Preconditions.{PlanTablesHold}
 use Rattle.printout.proofs.Plans.{linesOf, length-plan}
 use Rattle.printout.proofs.Answered.{judged-ids, judged-donors, judged-recipients, judged-fits, judged-long}
 use borrow.Author.Needs.{needs}
 use Rattle.printout.proofs.judge.Statement.{statement}
 use Rattle.printout.proofs.judge.Tie as tie
 
-abbrev given : tie.Start → Plan
+abbrev given : tie.Start → PrintedPlan
 given s =
-    plan (s .args .n) (s .args .cycles) (s .args .weight) (s .args .ids .now) (s .args .donors .now) (s .args .recipients .now) (s .args .comparisons)
+    printedPlan (s .args .n) (s .args .cycles) (s .args .weight) (s .args .ids .now) (s .args .donors .now) (s .args .recipients .now) (s .args .comparisons)
     (s .args .products) (s .args .rounds)
 
 -- past the tables' lengths
 abbrev start : tie.After-pairs-fit → tie.Start
 start f = f .before .before .before .before .before .before .before .before .before .before .before .before .before
 
-hold : (f : tie.After-pairs-fit) → Hold (given (start f) .pairs) (given (start f) .ids) (given (start f) .donors) (given (start f) .recipients)
+hold : (f : tie.After-pairs-fit) → PlanTablesHold (given (start f) .pairs) (given (start f) .ids) (given (start f) .donors) (given (start f) .recipients)
 hold f =
     let three = f .before .before .before .before .before .before .before in
     record { ids = three .before .before .if1 .left; donors = three .before .if2 .left; recipients = three .if3 .left }

@@ -1,21 +1,21 @@
 -- `printout::print_plan` meets its contract: each answer is what the definition says, and so keeps the promise. Assumes nothing.
 use native.Mathlib.Omega.{arith}
-use Rattle.printout.specs.Printed.{Plan, plan}
-use Rattle.printout.specs.Promises.{Typed}
+use Rattle.printout.specs.Printed.{PrintedPlan, printedPlan}
+use Rattle.printout.specs.Promises.{PlanTyped}
 use Rattle.printout.proofs.Answered.{answered-fault, answered-passed, answered-printed, prints-plan}
 use borrow.Author.Needs.{needs}
 use Rattle.printout.proofs.print_plan.Statement.{statement}
 use Rattle.printout.proofs.print_plan.Tie as tie
 
-abbrev given : tie.Start → Plan
+abbrev given : tie.Start → PrintedPlan
 given s =
-    plan (s .args .n) (s .args .cycles) (s .args .weight) (s .args .ids .now) (s .args .donors .now) (s .args .recipients .now) (s .args .comparisons)
+    printedPlan (s .args .n) (s .args .cycles) (s .args .weight) (s .args .ids .now) (s .args .donors .now) (s .args .recipients .now) (s .args .comparisons)
     (s .args .products) (s .args .rounds)
 
 abbrev start : tie.After-judge → tie.Start
 start j = j .before .before .before .before .before
 
-typed : (j : tie.After-judge) → Typed (given (start j))
+typed : (j : tie.After-judge) → PlanTyped (given (start j))
 typed j =
     let f = start j .fits in
     record {

@@ -1,14 +1,14 @@
 -- `printout::put_plan` meets its contract: each part goes where the one before it ends. Assumes nothing.
 use native.Mathlib.Omega.{arith}
-use Rattle.printout.specs.Printed.{Plan, plan}
+use Rattle.printout.specs.Printed.{PrintedPlan, printedPlan}
 use Rattle.printout.proofs.Plans.{length-plan, put-plan}
 use borrow.Author.Needs.{needs}
 use Rattle.printout.proofs.put_plan.Statement.{statement}
 use Rattle.printout.proofs.put_plan.Tie as tie
 
-abbrev given : tie.Start → Plan
+abbrev given : tie.Start → PrintedPlan
 given s =
-    plan (s .args .n) (s .args .cycles) (s .args .weight) (s .args .ids .now) (s .args .donors .now) (s .args .recipients .now) (s .args .comparisons)
+    printedPlan (s .args .n) (s .args .cycles) (s .args .weight) (s .args .ids .now) (s .args .donors .now) (s .args .recipients .now) (s .args .comparisons)
     (s .args .products) (s .args .rounds)
 
 slice-aggregate-put-line : tie.Need-slice-aggregate-put-line

@@ -2,14 +2,14 @@
 use mathlib.Core.List.{[], _∷_}
 use native.Mathlib.Omega.{arith}
 use lib.ListN.{length}
-use Rattle.printout.specs.Printed.{Plan, plan, planText}
+use Rattle.printout.specs.Printed.{PrintedPlan, printedPlan, planText}
 use Rattle.printout.proofs.Answered.{length-within, never-refused}
 use borrow.Author.Needs.{needs}
 use Rattle.printouts.proofs.print_example.Statement.{statement}
 use Rattle.printouts.proofs.print_example.Tie as tie
 
-abbrev example : Plan
-example = plan 2 1 2900 (11 ∷ 12 ∷ []) (1 ∷ 0 ∷ []) (1 ∷ 0 ∷ []) 1 6 1
+abbrev example : PrintedPlan
+example = printedPlan 2 1 2900 (11 ∷ 12 ∷ []) (1 ∷ 0 ∷ []) (1 ∷ 0 ∷ []) 1 6 1
 
 slice-aggregate-print-plan : tie.Need-slice-aggregate-print-plan
 slice-aggregate-print-plan c = search needs

@@ -3,7 +3,7 @@ use mathlib.Core.List.{[]}
 use native.Mathlib.Omega.{arith}
 use borrow.Author.Needs.{needs}
 use Rattle.pool.specs.Tables.{fields, fieldRoom}
-use Rattle.weighing.proofs.Rows.{rows-few}
+use Rattle.graph.proofs.Rows.{rows-few}
 use Rattle.weighing.proofs.Faults.{spaced-fields, judge-fields, passed-few, judge-compatibilities, judge-weights, judge-sound}
 use Rattle.weighing.proofs.judge.Statement.{statement}
 use Rattle.weighing.proofs.judge.Tie as tie

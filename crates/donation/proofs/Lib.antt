@@ -1,0 +1,6 @@
+-- `Bits`: bits of words, as the machine's operations give them. `Blood`: the table of four by four is the rule in words. `Points`: the points, and W's
+-- bounds. `Compatible`: M.
+pub mod Bits
+pub mod Blood
+pub mod Points
+pub mod Compatible

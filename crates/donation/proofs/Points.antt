@@ -1,0 +1,70 @@
+-- The points, for any values that they have. Assumes nothing.
+use mathlib.Core.Path.{_≡_}
+use mathlib.Core.Bool.{Bool, true, false, _&&_, cond}
+use Prim.Native.Nat.{ℕ, _+_, _≤_, _<_}
+use native.Mathlib.Omega.{arith}
+use borrow.Author.Tests.{eq-eqb, ne-eqb}
+use lib.Dec.{lit<, eqb, leb}
+use Rattle.pool.specs.Pool.{Pair}
+use Rattle.donation.specs.Weight.{Points, documentPoints, young, senior, mismatches, mismatchPoints, agePoints, weight}
+
+cond-most : (most : ℕ) (t : Bool) (x y : ℕ) → x ≤ most → y ≤ most → cond t x y ≤ most
+cond-most most true x y h k = h
+cond-most most false x y h k = k
+
+module _ (points : Points) (most : ℕ) where
+  -- no step gives more than the greatest
+  pub mismatch-most : points .noMismatch ≤ most → points .fewMismatches ≤ most → points .someMismatches ≤ most
+      → (count : ℕ) → mismatchPoints points count ≤ most
+  unfolding mismatchPoints
+  mismatch-most h k l count =
+      cond-most most (eqb count 0) _ _ h (cond-most most (leb count 2) _ _ k (cond-most most (leb count 4) _ _ l (omega arith)))
+
+  pub age-most : points .equalAges ≤ most → points .youngToSenior ≤ most → (donor patient : ℕ) → agePoints points donor patient ≤ most
+  unfolding agePoints
+  age-most h k donor patient =
+      cond-most most (eqb donor patient) _ _ h (cond-most most (eqb donor young && eqb patient senior) _ _ k (omega arith))
+
+-- document 01's
+pub documentMismatch-most : (count : ℕ) → mismatchPoints documentPoints count ≤ documentPoints .noMismatch
+unfolding documentPoints
+documentMismatch-most = mismatch-most documentPoints (documentPoints .noMismatch) (omega arith) (omega arith) (omega arith)
+
+pub documentAge-most : (donor patient : ℕ) → agePoints documentPoints donor patient ≤ documentPoints .equalAges
+unfolding documentPoints
+documentAge-most = age-most documentPoints (documentPoints .equalAges) (omega arith) (omega arith)
+
+-- ## W
+
+module _ (points : Points) (pair : ℕ → Pair) (i j : ℕ) where
+  pub weight-same : i ≡ j → weight points pair i j ≡ 0
+  unfolding weight
+  weight-same e = rw (eq-eqb i j e)
+
+  weight-other : (i ≡ j → ⊥) → weight points pair i j
+      ≡ points .base
+      + mismatchPoints points (mismatches (pair i .donorAntigens) (pair j .patientAntigens))
+      + agePoints points (pair i .donorAge) (pair j .patientAge)
+  unfolding weight
+  weight-other h = rw (ne-eqb i j h)
+
+  pub weight-least : (i ≡ j → ⊥) → points .base ≤ weight points pair i j
+  weight-least h = rw (weight-other h) (omega arith)
+
+  pub weight-most : (mismatch age : ℕ) → ((count : ℕ) → mismatchPoints points count ≤ mismatch) → ((d p : ℕ) → agePoints points d p ≤ age)
+      → (i ≡ j → ⊥) → weight points pair i j ≤ points .base + mismatch + age
+  weight-most mismatch age m a h =
+      rw (weight-other h)
+      (omega (arith, m (mismatches (pair i .donorAntigens) (pair j .patientAntigens)), a (pair i .donorAge) (pair j .patientAge)))
+
+-- document 01's: 1,000 to 1,450
+module _ (pair : ℕ → Pair) (i j : ℕ) (h : i ≡ j → ⊥) where
+  pub document-least : documentPoints .base ≤ weight documentPoints pair i j
+  document-least = weight-least documentPoints pair i j h
+
+  pub document-most : weight documentPoints pair i j ≤ documentPoints .base + documentPoints .noMismatch + documentPoints .equalAges
+  document-most = weight-most documentPoints pair i j (documentPoints .noMismatch) (documentPoints .equalAges) documentMismatch-most documentAge-most h
+
+pub document-some : 0 < documentPoints .base
+unfolding documentPoints
+document-some = lit< tt

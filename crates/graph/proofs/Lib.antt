@@ -1,0 +1,2 @@
+-- `Rows`: tables filled row by row.
+pub mod Rows

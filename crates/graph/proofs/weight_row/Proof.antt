@@ -1,0 +1,120 @@
+-- `graph::weight_row` meets its contract. The loop's invariant: the entries of the columns passed stand in row i, in a table as long as it was.
+-- Assumes nothing.
+use Prim.Native.Nat.{_-_, _*_, _≤_}
+use native.Mathlib.Omega.{arith}
+use borrow.Author.Needs.{needs}
+use Rattle.pool.specs.Tables.{pairIn}
+use Rattle.donation.specs.Weight.{documentPoints, weight}
+use Rattle.graph.specs.Graph.{withRow}
+use Rattle.graph.specs.Lent.{fieldsOfW}
+use Rattle.graph.specs.Preconditions.{Row, ReadableForW}
+use Rattle.graph.proofs.Rows.{row-fits, rows-few, Storing, storing-none, storing-more, storing-all}
+use Rattle.graph.proofs.weight_row.Statement.{statement}
+use Rattle.graph.proofs.weight_row.Tie as tie
+
+abbrev Inv-loop : tie.InvT-loop
+Inv-loop i n donor-age patient-age donor-antigens patient-antigens weights₀ age antigens start j₀ weights j =
+    (j ≤ n)
+    × Row i n weights₀
+    × ReadableForW n donor-age patient-age donor-antigens patient-antigens
+    × Storing (i * n) j (weight documentPoints (pairIn (fieldsOfW donor-age patient-age donor-antigens patient-antigens)) i) weights₀ weights
+
+abbrev μ-loop : tie.MeasureT-loop
+μ-loop i n donor-age patient-age donor-antigens patient-antigens weights₀ age antigens start j₀ weights j =
+    n - j
+
+shared-slice-read-age : tie.Need-shared-slice-read-age Inv-loop μ-loop
+shared-slice-read-age c = search needs
+
+mul-antigens : tie.Need-mul-antigens Inv-loop μ-loop
+mul-antigens c = search needs
+
+shared-slice-read-antigens : tie.Need-shared-slice-read-antigens Inv-loop μ-loop
+shared-slice-read-antigens c = search needs
+
+mul-start : tie.Need-mul-start Inv-loop μ-loop
+mul-start c =
+    let p = c .before .before .before .before .before .before .before .pre .0 in
+    omega (arith, row-fits (p .inside), rows-few (p .few))
+
+loop-holds : tie.Need-loop-holds Inv-loop μ-loop
+loop-holds c =
+    let p = c .before .before .before .before .before .before .before .pre in
+    (omega arith, p .0, p .1, storing-none _ _ _)
+
+shared-slice-read-weight : tie.Need-shared-slice-read-weight Inv-loop μ-loop
+shared-slice-read-weight c = search needs
+
+mul-weight : tie.Need-mul-weight Inv-loop μ-loop
+mul-weight c = search needs
+
+shared-slice-read-weight-2 : tie.Need-shared-slice-read-weight-2 Inv-loop μ-loop
+shared-slice-read-weight-2 c = search needs
+
+weight-requires : tie.Need-weight-requires Inv-loop μ-loop
+weight-requires c κs = search needs
+
+add-weights : tie.Need-add-weights Inv-loop μ-loop
+add-weights c =
+    let r = c .before .before .before .before .loop .inv .1 in
+    omega (arith, row-fits (r .inside), rows-few (r .few))
+
+mul-weights : tie.Need-mul-weights Inv-loop μ-loop
+mul-weights c =
+    let r = c .before .before .before .before .loop .inv .1 in
+    omega (arith, row-fits (r .inside), rows-few (r .few))
+
+slice-write-weights : tie.Need-slice-write-weights Inv-loop μ-loop
+slice-write-weights c =
+    let v = c .before .before .before .before .loop .inv in
+    omega (arith, row-fits (v .1 .inside), v .1 .fits, v .3 .kept)
+
+add-j : tie.Need-add-j Inv-loop μ-loop
+add-j c = search needs
+
+loop-less : tie.Need-loop-less Inv-loop μ-loop
+loop-less c = search needs
+
+loop-again : tie.Need-loop-again Inv-loop μ-loop
+unfolding weight pairIn
+loop-again c =
+    let l = c .before .before .before .before .loop in
+    let v = l .inv in (
+      omega arith,
+      v .1,
+      v .2,
+      storing-more _ _ _ (l .j) (l .weights) _ (v .3) (c .weight .ensures) (omega (arith, row-fits (v .1 .inside), v .1 .fits)),
+    )
+
+same-length : tie.Need-same-length Inv-loop μ-loop
+same-length c = c .before .loop .inv .3 .kept
+
+returns : tie.Need-returns Inv-loop μ-loop
+unfolding withRow
+returns c =
+    let l = c .before .loop in
+    storing-all _ _ _ (l .j) _ _ (l .inv .3) (omega arith)
+
+pub weight-row-spec : {M : Type 1} → statement M
+weight-row-spec =
+    tie.close
+    (tie.spec
+    Inv-loop
+    μ-loop
+    shared-slice-read-age
+    mul-antigens
+    shared-slice-read-antigens
+    mul-start
+    loop-holds
+    shared-slice-read-weight
+    mul-weight
+    shared-slice-read-weight-2
+    weight-requires
+    add-weights
+    mul-weights
+    slice-write-weights
+    add-j
+    loop-less
+    loop-again
+    same-length
+    returns)

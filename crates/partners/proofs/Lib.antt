@@ -1,0 +1,2 @@
+-- `Pairs`: a pair's line.
+pub mod Pairs
