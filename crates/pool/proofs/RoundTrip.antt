@@ -20,7 +20,7 @@ use Rattle.pool.specs.Promises.{Below, Typed, SheetComesBack, PoolComesB
 use Rattle.pool.proofs.Lengths.{length-sheetIn}
 use Rattle.pool.proofs.Pairs.{faultless-cong}
 use Rattle.pool.proofs.Rooms.{hold-room}
-use Rattle.pool.proofs.Reading.{room-none, sheet-none, reading-none, reading-passed}
+use Rattle.pool.proofs.Reading.{room-none, sheet-none, sheet-pool, reading-none, reading-passed}
 use Rattle.pool.proofs.Writing.{pool-none, writing-none, writing-passed}
 use Rattle.pool.proofs.Read.{sheet-back}
 use Rattle.pool.proofs.Written.{Fits, written, sheet-written, says-pairs, says-pool, written-faultless}
@@ -120,7 +120,7 @@ sheet-again b t out n bytes e =
     let h : TablesHold (pairsIn b) t = rw (← r .0) (r .2) in
     let left : reading b t .lent ≡ filledTables (poolOf b) t = ap (λ (o : Outcome ℕ Tables). o .lent) (reading-none b t s h) in
     let t′ : Tables = filledTables (poolOf b) t in
-    let w : FaultlessPool (pairsIn b) t′ = faultless-filled (pairsIn b) (pairAt b) (shuffleAt b (pairsIn b)) t h (s .pool) in
+    let w : FaultlessPool (pairsIn b) t′ = faultless-filled (pairsIn b) (pairAt b) (shuffleAt b (pairsIn b)) t h (sheet-pool b s) in
     let again : sheetOf (poolIn (pairsIn b) t′) ≡ b =
     ap sheetOf (pool-in-filled (pairsIn b) (pairAt b) (shuffleAt b (pairsIn b)) t) ∙ sheet-back b bytes s in
     rw (left, r .0)
