@@ -11,12 +11,13 @@ use Rattle.laws.proofs.Below.{length-table}
 use Rattle.laws.proofs.Lists.{part, part-add, part-whole, flatMap-part, length-flatMap-table}
 use Rattle.laws.proofs.Digits.{length-bytes, bytes-bigEndian}
 use Rattle.pool.specs.Pool.{Pair, Pool}
-use Rattle.pool.specs.Sheet.{headTag, headLength, pairTag, pairLength, shuffleTag, shuffleLength, field, headField, pairField, shuffleField, sheetOf, startLength, versionPlace, pairsPlace, firstPair, pairSize, pairPlace, idAt, donorBloodAt, patientBloodAt, donorAgeAt, patientAgeAt, donorAntigensAt, patientAntigensAt, patientAntibodiesAt, sheetLength, pairsIn, pairAt, shuffleAt, poolOf}
+use Rattle.pool.specs.Sheet.{headTag, headLength, pairTag, pairLength, shuffleTag, shuffleLength, field, headField, pairField, shuffleField, sheetOf}
+use Rattle.pool.specs.Sheet.{startLength, versionPlace, pairsPlace, firstPair, pairSize, pairPlace, idAt, donorBloodAt, patientBloodAt, donorAgeAt, patientAgeAt, donorAntigensAt, patientAntigensAt, patientAntibodiesAt, sheetLength, pairsIn, pairAt, shuffleAt, poolOf}
 use Rattle.pool.specs.Faultless.{Field, PairField, FaultlessSheet}
-use Rattle.pool.specs.Promises.{Below}
+use Rattle.pool.specs.Promises.{EntriesBelow}
 use Rattle.pool.proofs.Lengths.{length-pairField, length-numbers}
 
-module _ (b : List ℕ) (h : Below 256 b) where
+module _ (b : List ℕ) (h : EntriesBelow 256 b) where
   -- a number, then what follows it
   number-back : (o a k m : ℕ) (rest : List ℕ) → o + (a + k) ≤ length b → rest ≡ part b (o + (a + k)) m
       → bytes k (bigEndian k b (o + a)) ++ rest ≡ part b (o + a) (k + m)

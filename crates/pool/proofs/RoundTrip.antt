@@ -1,5 +1,5 @@
 -- There and back: an accepted sheet, read and written again, is that sheet; a written pool reads back as that pool. Assumes nothing.
-use mathlib.Core.Path.{_≡_, sym, ap, ap₂, _∙_}
+use mathlib.Core.Path.{_≡_, refl, sym, ap, ap₂, _∙_}
 use mathlib.Core.List.{List, map}
 use Prim.Native.Nat.{ℕ, _≤_, _<_}
 use native.Mathlib.Omega.{arith}
@@ -16,7 +16,7 @@ use Rattle.pool.specs.Tables.{Fields, Tables, room, pairIn, poolIn, fill
 use Rattle.pool.specs.Faults.{roomFault}
 use Rattle.pool.specs.Calls.{reading, writing}
 use Rattle.pool.specs.Faultless.{FieldsHold, TablesHold, FaultlessSheet, FaultlessPool, Faultless}
-use Rattle.pool.specs.Promises.{Below, Typed, SheetComesBack, PoolComesBack}
+use Rattle.pool.specs.Promises.{EntriesBelow, TablesTyped, LongestSheet, SheetComesBack, PoolComesBack}
 use Rattle.pool.proofs.Lengths.{length-sheetIn}
 use Rattle.pool.proofs.Pairs.{faultless-cong}
 use Rattle.pool.proofs.Rooms.{hold-room}
@@ -99,7 +99,7 @@ module _ (n : ℕ) (pair : ℕ → Pair) (s : ℕ → ℕ) (t : Tables) where
       λ k. record { pairs = e1 k; shuffle = e2 k }
 
 -- what the types of the slices give
-typed-fits : (t : Tables) → Typed t → (i : ℕ) → Fits (pairIn (t .fields) i)
+typed-fits : (t : Tables) → TablesTyped t → (i : ℕ) → Fits (pairIn (t .fields) i)
 unfolding pairIn
 typed-fits t y i =
     record {
@@ -111,7 +111,7 @@ typed-fits t y i =
 
 -- ## There and back, whatever the buffer or the other tables can hold
 
-pub sheet-again : (b : List ℕ) (t : Tables) (out : List ℕ) (n : ℕ) → Below 256 b → reading b t .answer ≡ finished n
+pub sheet-again : (b : List ℕ) (t : Tables) (out : List ℕ) (n : ℕ) → EntriesBelow 256 b → reading b t .answer ≡ finished n
     → writing n (reading b t .lent) out ≡ unless (roomFault (length out) (length b)) (length b) (filled b out) out
 unfolding poolOf writing
 sheet-again b t out n bytes e =
@@ -127,7 +127,7 @@ sheet-again b t out n bytes e =
     (unless-then _ _ _ _ _ (pool-none (pairsIn b) t′ w)
     ∙ ap (λ (x : List ℕ). unless (roomFault (length out) (length x)) (length x) (filled x out) out) again)
 
-pub pool-again : (n : ℕ) (t : Tables) (out : List ℕ) (m : ℕ) (other : Tables) → Typed t → writing n t out .answer ≡ finished m
+pub pool-again : (n : ℕ) (t : Tables) (out : List ℕ) (m : ℕ) (other : Tables) → TablesTyped t → writing n t out .answer ≡ finished m
     → reading (take m (writing n t out .lent)) other ≡ unless (roomFault (room other) n) n (filledTables (poolIn n t) other) other
 unfolding poolIn reading
 pool-again n t out m other y e =
@@ -148,7 +148,10 @@ pool-again n t out m other y e =
     ∙ ap₂ (λ (k : ℕ) (p : Pool). unless (roomFault (room other) k) k (filledTables p other) other)
     (says-pairs n pair s (w .pool) fits small) (says-pool n pair s (w .pool) fits small))
 
--- ## The two theorems
+-- ## The theorems
+
+pub longest-sheet : LongestSheet
+longest-sheet = record { most = λ b s. omega (arith, s .nothingAfter, s .head .few); reached = refl }
 
 pub sheet-comes-back : SheetComesBack
 sheet-comes-back b t out n bytes e l = sheet-again b t out n bytes e ∙ unless-none _ _ _ _ (room-none (length out) (length b) l)

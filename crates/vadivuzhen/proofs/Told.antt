@@ -7,10 +7,10 @@ use Rattle.refusal.specs.Number.{numberOf}
 use Rattle.refusal.specs.declared.Refusal.{Refusal}
 use Rattle.refusal.specs.declared.Refusal.the-variants.{CutOff, WrongField, WrongVersion, TooManyPairs, LeftOver, OutOfRange, RepeatedId, NotAShuffle, TooShort, NotCompatibility}
 use Rattle.pool.specs.Tables.{Fields}
-use Rattle.reader.specs.Said as Reader
+use Rattle.reader.specs.Answers as Reader
 use Rattle.reader.specs.declared.Reading.{Reading}
 use Rattle.reader.specs.declared.Reading.the-variants as Reading
-use Rattle.writer.specs.Said as Writer
+use Rattle.writer.specs.Answers as Writer
 use Rattle.writer.specs.declared.Writing.{Writing}
 use Rattle.writer.specs.declared.Writing.the-variants as Writing
 use Rattle.weighing.specs.Said as Weighing
@@ -49,22 +49,22 @@ abbrev Told : {Numbers Result : Type 0} → (Numbers → Answer Result) → (Ans
 Told said numbers a r = (said r ≡ a) × (r ≡ numbers (said r))
 
 pub read-refused : (r : Reading) (why : Refusal) (o : ℕ) → r ≡ Reading.Refused why o → (k : ℕ) → k ≡ numberOf why
-    → Told readSaid readNumbers (Reader.said r) (record { refusal = k; place = o; pairs = 0 })
-unfolding readSaid readNumbers Reader.said
+    → Told readSaid readNumbers (Reader.answerOf r) (record { refusal = k; place = o; pairs = 0 })
+unfolding readSaid readNumbers Reader.answerOf
 read-refused r why o e k f = rw (e, f, answered-number _ why) (refl, refl)
 
 pub read-finished : (r : Reading) (n : ℕ) → r ≡ Reading.Pairs n
-    → Told readSaid readNumbers (Reader.said r) (record { refusal = 0; place = 0; pairs = n })
-unfolding answered readSaid readNumbers Reader.said
+    → Told readSaid readNumbers (Reader.answerOf r) (record { refusal = 0; place = 0; pairs = n })
+unfolding answered readSaid readNumbers Reader.answerOf
 read-finished r n e = rw e (refl, refl)
 
 pub write-refused : (r : Writing) (why : Refusal) → r ≡ Writing.Refused why → (k : ℕ) → k ≡ numberOf why
-    → Told writeSaid writeNumbers (Writer.said r) (record { refusal = k; length = 0 })
-unfolding writeSaid writeNumbers Writer.said
+    → Told writeSaid writeNumbers (Writer.answerOf r) (record { refusal = k; length = 0 })
+unfolding writeSaid writeNumbers Writer.answerOf
 write-refused r why e k f = rw (e, f, answered-number _ why) (refl, refl)
 
-pub write-finished : (r : Writing) (n : ℕ) → r ≡ Writing.Length n → Told writeSaid writeNumbers (Writer.said r) (record { refusal = 0; length = n })
-unfolding answered writeSaid writeNumbers Writer.said
+pub write-finished : (r : Writing) (n : ℕ) → r ≡ Writing.Length n → Told writeSaid writeNumbers (Writer.answerOf r) (record { refusal = 0; length = n })
+unfolding answered writeSaid writeNumbers Writer.answerOf
 write-finished r n e = rw e (refl, refl)
 
 pub build-refused : (r : Building) (why : Refusal) → r ≡ Building.Refused why → (k : ℕ) → k ≡ numberOf why

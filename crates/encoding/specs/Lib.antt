@@ -1,0 +1,2 @@
+-- What the steps of writing write.
+pub mod Pieces
