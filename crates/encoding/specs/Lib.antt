@@ -1,2 +1,2 @@
--- What the steps of writing write.
-pub mod Pieces
+-- A pair by its fields, and the parts of its value.
+pub mod PairValue

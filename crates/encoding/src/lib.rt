@@ -7,7 +7,7 @@ ghost use Rattle.laws.specs.Below.{table};
 ghost use Rattle.laws.specs.Digits.{bytes};
 ghost use Rattle.laws.specs.Lent.{stored};
 ghost use Rattle.pool.specs.Sheet.{headField, pairField, shuffleField, startLength, firstPair, pairSize, pairPlace, sheetLength};
-ghost use Rattle.encoding.specs.Pieces.{pairBy, groupBytes, tissueBytes};
+ghost use Rattle.encoding.specs.PairValue.{pairBy, groupBytes, tissueBytes};
 
 // Writes the k bytes of x from `at` on, high byte first; the last byte is stored first.
 fn put(out: &mut [u8], at: usize, k: usize, x: u64)

@@ -5,7 +5,7 @@ use borrow.Author.Needs.{needs}
 use Rattle.laws.specs.Digits.{bytes}
 use Rattle.pool.specs.Sheet.{field, pairField, idAt, donorBloodAt, donorAntigensAt}
 use Rattle.laws.proofs.Lent.{stored-then}
-use Rattle.encoding.specs.Pieces.{groupBytes, tissueBytes}
+use Rattle.encoding.specs.PairValue.{groupBytes, tissueBytes}
 use Rattle.encoding.proofs.put_pair.Statement.{statement}
 use Rattle.encoding.proofs.put_pair.Tie as tie
 

@@ -4,7 +4,7 @@ use native.Mathlib.Omega.{arith}
 use borrow.Author.Needs.{needs}
 use Rattle.laws.specs.Digits.{bytes}
 use Rattle.laws.proofs.Lent.{stored-then}
-use Rattle.encoding.specs.Pieces.{tissueBytes}
+use Rattle.encoding.specs.PairValue.{tissueBytes}
 use Rattle.encoding.proofs.put_tissue.Statement.{statement}
 use Rattle.encoding.proofs.put_tissue.Tie as tie
 

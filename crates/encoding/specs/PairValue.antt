@@ -1,4 +1,4 @@
--- What the pieces of a sheet are made of. Assumes nothing.
+-- A pair by its fields, and the parts of its value as they are written. Assumes nothing.
 use Prim.Native.Nat.{ℕ}
 use mathlib.Core.List.{List, _++_}
 use Rattle.laws.specs.Digits.{bytes}
