@@ -12,7 +12,8 @@ use Rattle.laws.proofs.Lists.{part, part-add, part-whole, flatMap-part, length-
 use Rattle.laws.proofs.Digits.{length-bytes, bytes-bigEndian}
 use Rattle.pool.specs.Pool.{Pair, Pool}
 use Rattle.pool.specs.Sheet.{headTag, headLength, pairTag, pairLength, shuffleTag, shuffleLength, field, headField, pairField, shuffleField, sheetOf}
-use Rattle.pool.specs.Sheet.{startLength, versionPlace, pairsPlace, firstPair, pairSize, pairPlace, idAt, donorBloodAt, patientBloodAt, donorAgeAt, patientAgeAt, donorAntigensAt, patientAntigensAt, patientAntibodiesAt, sheetLength, pairsIn, pairAt, shuffleAt, poolOf}
+use Rattle.pool.specs.Sheet.{startLength, versionPlace, pairsPlace, firstPair, pairSize, pairPlace, sheetLength, pairsIn, pairAt, shuffleAt, poolOf}
+use Rattle.pool.specs.Sheet.{idAt, donorBloodAt, patientBloodAt, donorAgeAt, patientAgeAt, donorAntigensAt, patientAntigensAt, patientAntibodiesAt}
 use Rattle.pool.specs.Faultless.{Field, PairField, FaultlessSheet}
 use Rattle.pool.specs.Promises.{EntriesBelow}
 use Rattle.pool.proofs.Lengths.{length-pairField, length-numbers}

@@ -13,7 +13,8 @@ use Rattle.laws.proofs.Lists.{part, part-in, part-at, part-skip, part-flatMap, 
 use Rattle.laws.proofs.Digits.{length-bytes, bigEndian-at}
 use Rattle.pool.specs.Pool.{Pair, Pool}
 use Rattle.pool.specs.Sheet.{headTag, headLength, pairTag, pairLength, shuffleTag, shuffleLength, sheetVersion, field, headField, pairField, shuffleField, sheetOf}
-use Rattle.pool.specs.Sheet.{startLength, versionPlace, pairsPlace, firstPair, pairSize, pairPlace, idAt, donorBloodAt, patientBloodAt, donorAgeAt, patientAgeAt, donorAntigensAt, patientAntigensAt, patientAntibodiesAt, sheetLength, pairsIn, pairAt, shuffleAt, poolOf}
+use Rattle.pool.specs.Sheet.{startLength, versionPlace, pairsPlace, firstPair, pairSize, pairPlace, sheetLength, pairsIn, pairAt, shuffleAt, poolOf}
+use Rattle.pool.specs.Sheet.{idAt, donorBloodAt, patientBloodAt, donorAgeAt, patientAgeAt, donorAntigensAt, patientAntigensAt, patientAntibodiesAt}
 use Rattle.pool.specs.Faultless.{InRange, Faultless, Field, HeadField, PairField, FaultlessSheet}
 use Rattle.pool.proofs.Lengths.{length-headField, length-pairField, length-field, length-sheetOf}
 use Rattle.pool.proofs.Pairs.{faultless-cong}
