@@ -16,9 +16,9 @@ use Rattle.pool.specs.Faults.{sheetFault, roomFault}
 use Rattle.pool.specs.Calls.{reading}
 use Rattle.pool.specs.Faultless.{TablesHold, FaultlessSheet, FaultlessPool}
 use Rattle.pool.proofs.Rooms.{hold-room}
-use Rattle.pool.proofs.Reading.{reading-none, reading-passed}
+use Rattle.pool.proofs.Reading.{sheet-pool, reading-none, reading-passed}
 use Rattle.pool.proofs.RoundTrip.{pair-in-filled, faultless-filled, pool-in-filled}
-use Rattle.reader.specs.Said.{said}
+use Rattle.reader.specs.Answers.{answerOf}
 use Rattle.reader.specs.declared.Reading.{Reading}
 use Rattle.reader.specs.declared.Reading.the-variants.{Pairs, Refused}
 use Rattle.printout.specs.Printed.{planText, refusalText}
@@ -27,8 +27,8 @@ use Rattle.answering.specs.Preconditions.{Read}
 use Rattle.answering.proofs.Texts.{put-fits}
 use Rattle.answering.proofs.Pools.{same-plan}
 
-module _ (b : List ℕ) (t left : Tables) (r : Reading) (e : outcome (said r) left ≡ reading b t) (room-is : room t ≡ most) where
-  answer-read : said r ≡ reading b t .answer
+module _ (b : List ℕ) (t left : Tables) (r : Reading) (e : outcome (answerOf r) left ≡ reading b t) (room-is : room t ≡ most) where
+  answer-read : answerOf r ≡ reading b t .answer
   answer-read = ap (λ (o : Outcome ℕ Tables). o .answer) e
 
   -- ## Refused
@@ -41,14 +41,14 @@ module _ (b : List ℕ) (t left : Tables) (r : Reading) (e : outcome (said r) le
 
   pub refused-answer : (out new : List ℕ) (why : Refusal) (o k : ℕ) → r ≡ Refused why o → outcome (finished k) new ≡ putting (refusalText (numberOf why) o) out
       → outcome (finished k) new ≡ answering b out
-  unfolding said answering
+  unfolding answerOf answering
   refused-answer out new why o k g h = h ∙ ap (λ (x : List ℕ). putting x out) (sym (refused-text (numberOf why) o (sym answer-read ∙ rw g)))
 
   -- ## Accepted
 
   module _ (n : ℕ) (g : r ≡ Pairs n) where
     finished-is : reading b t .answer ≡ finished n
-    unfolding said
+    unfolding answerOf
     finished-is = sym answer-read ∙ rw g
 
     passed : (n ≡ pairsIn b) × FaultlessSheet b × TablesHold n t
@@ -62,7 +62,7 @@ module _ (b : List ℕ) (t left : Tables) (r : Reading) (e : outcome (said r) le
 
     filled-faultless : FaultlessPool (pairsIn b) (filledTables (poolOf b) t)
     unfolding poolOf
-    filled-faultless = faultless-filled (pairsIn b) (pairAt b) (shuffleAt b (pairsIn b)) t holds (passed .1 .pool)
+    filled-faultless = faultless-filled (pairsIn b) (pairAt b) (shuffleAt b (pairsIn b)) t holds (sheet-pool b (passed .1))
 
     pub read-accepted : Read n left
     read-accepted =

@@ -20,12 +20,12 @@ use Rattle.refusal.proofs.Faults.{sound-none, faulty-fault, none-then, fault-th
 use Rattle.pool.specs.Pool.{Pair}
 use Rattle.pool.specs.Tables.{fields, pairIn}
 use Rattle.pool.specs.Faults.{groupFault, idFault, pairFault, roomFault, pairsFault}
-use Rattle.checks.specs.Agree.{Agree}
+use Rattle.checks.specs.Preconditions.{PairAgrees}
 
 -- ## One pair: `found` is what the check of its groups found, `again` whether its id is an earlier one's
 
 module _ (o : ℕ) (p : ℕ → Pair) (i : ℕ) (ids : List ℕ) (donorBlood patientBlood donorAge patientAge : ℕ)
-    (agree : Agree p i ids donorBlood patientBlood donorAge patientAge) where
+    (agree : PairAgrees p i ids donorBlood patientBlood donorAge patientAge) where
   -- the fault by the table of ids and the groups
   pair-fault : pairFault o p i
       ≡ (groupFault o donorBlood patientBlood donorAge patientAge then refuse 7 o (anyBelow i (λ j. eqb (getD ids j 0) (getD ids i 0))))
@@ -59,7 +59,7 @@ module _ (o : ℕ) (p : ℕ → Pair) (i : ℕ) (ids : List ℕ) (donorBlood pat
 
 -- a pair of lent tables has what stands there
 pub agree-in : (ids donorBlood patientBlood donorAge patientAge f g h : List ℕ) (i : ℕ)
-    → Agree (pairIn (fields ids donorBlood patientBlood donorAge patientAge f g h)) i ids (getD donorBlood i 0) (getD patientBlood i 0) (getD donorAge i 0)
+    → PairAgrees (pairIn (fields ids donorBlood patientBlood donorAge patientAge f g h)) i ids (getD donorBlood i 0) (getD patientBlood i 0) (getD donorAge i 0)
     (getD patientAge i 0)
 unfolding pairIn
 agree-in ids donorBlood patientBlood donorAge patientAge f g h i =

@@ -1,2 +1,2 @@
 -- What the checks ask of their arguments.
-pub mod Agree
+pub mod Preconditions

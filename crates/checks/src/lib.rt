@@ -11,7 +11,7 @@ ghost use Rattle.refusal.specs.Number.{faultAt};
 ghost use Rattle.pool.specs.Pool.{Pair};
 ghost use Rattle.pool.specs.Tables.{fields, pairIn};
 ghost use Rattle.pool.specs.Faults.{groupFault, pairFault, pairsFault, shuffleFault};
-ghost use Rattle.checks.specs.Agree.{Agree, Spaced};
+ghost use Rattle.checks.specs.Preconditions.{PairAgrees, TablesHaveRoom};
 
 // The lesser of two lengths.
 pub fn lesser(x: usize, y: usize) -> usize
@@ -31,7 +31,9 @@ pub fn room(
     patient_antigens: usize,
     patient_antibodies: usize,
 ) -> usize
-    ensures { λ r. ⌜ r ≡ min ids (min «donor_blood» (min «patient_blood» (min «donor_age» (min «patient_age» (min «donor_antigens» (min «patient_antigens» «patient_antibodies»)))))) ⌝ }
+    ensures { λ r.
+        ⌜ r ≡ min ids (min «donor_blood» (min «patient_blood» (min «donor_age» (min «patient_age»
+        (min «donor_antigens» (min «patient_antigens» «patient_antibodies»)))))) ⌝ }
 {
     let tissue = lesser(donor_antigens, lesser(patient_antigens, patient_antibodies));
     let ages = lesser(donor_age, lesser(patient_age, tissue));
@@ -84,7 +86,10 @@ pub fn pair(
     patient_age: u8,
 ) -> Verdict
     requires { ⌜ i < length (now ids) ⌝ }
-    ensures { λ r. ⌜ ((o : ℕ) (p : ℕ → Pair) → Agree p i (now (ids .entry)) «donor_blood» «patient_blood» «donor_age» «patient_age» → faultAt o r ≡ pairFault o p i) ⌝ }
+    ensures { λ r.
+        ⌜ ((o : ℕ) (p : ℕ → Pair)
+        → PairAgrees p i (now (ids .entry)) «donor_blood» «patient_blood» «donor_age» «patient_age»
+        → faultAt o r ≡ pairFault o p i) ⌝ }
 {
     match groups(donor_blood, patient_blood, donor_age, patient_age) {
         Verdict::Faulty(why) => Verdict::Faulty(why),
@@ -108,8 +113,11 @@ pub fn pairs(
     donor_age: &[u8],
     patient_age: &[u8],
 ) -> Verdict
-    requires { ⌜ Spaced space (now ids) (now «donor_blood») (now «patient_blood») (now «donor_age») (now «patient_age») ⌝ }
-    ensures { λ r. ⌜ ((f g h : List ℕ) → faultAt 0 r ≡ pairsFault n space (pairIn (fields (now (ids .entry)) (now («donor_blood» .entry)) (now («patient_blood» .entry)) (now («donor_age» .entry)) (now («patient_age» .entry)) f g h))) ⌝ }
+    requires { ⌜ TablesHaveRoom space (now ids) (now «donor_blood») (now «patient_blood») (now «donor_age») (now «patient_age») ⌝ }
+    ensures { λ r.
+        ⌜ ((f g h : List ℕ)
+        → faultAt 0 r ≡ pairsFault n space (pairIn (fields (now (ids .entry)) (now («donor_blood» .entry))
+        (now («patient_blood» .entry)) (now («donor_age» .entry)) (now («patient_age» .entry)) f g h))) ⌝ }
 {
     if n > 200 {
         return Verdict::Faulty(Refusal::TooManyPairs);

@@ -2,7 +2,7 @@
 use mathlib.Core.Path.{_≡_, refl, sym, ap, ap₂, _∙_}
 use mathlib.Core.List.{List, [], _∷_, _++_}
 use Prim.Native.Nat.{ℕ, zero, suc, _+_, _*_, _/_, _%_, _^_, _≤_, _<_}
-use native.Mathlib.Nat.{div-add-mod', div-lt-iff-lt-mul, pow-suc, zero-add}
+use native.Mathlib.Nat.{div-add-mod', div-lt-iff-lt-mul, pow-suc, zero-add, add-zero}
 use native.Mathlib.Numerals.{add-one}
 use native.Mathlib.Omega.{arith}
 use lib.Arith.{digits-lt, digits-div, digits-mod}
@@ -21,6 +21,11 @@ pub bigEndian-lt : (b : List ℕ) (o k : ℕ) → ((i : ℕ) → getD b i 0 < 25
 unfolding bigEndian
 bigEndian-lt b o zero h = lit< tt
 bigEndian-lt b o (suc k) h = rw pow-suc (digits-lt (bigEndian-lt b o k h) (h (o + k)))
+
+-- a number of one byte is that byte
+pub bigEndian-one : (b : List ℕ) (o : ℕ) → bigEndian 1 b o ≡ getD b o 0
+unfolding bigEndian
+bigEndian-one b o = rw (add-zero, zero-add)
 
 -- a turn of a loop that reads a number
 pub bigEndian-more : (k : ℕ) (b : List ℕ) (o : ℕ) → bigEndian (k + 1) b o ≡ bigEndian k b o * 256 + getD b (o + k) 0

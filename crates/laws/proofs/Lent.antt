@@ -10,7 +10,7 @@ use lib.Seq.{drop-drop, take-at, set-at, drop-cons, drop-append-add, take-set-le
 use Rattle.laws.specs.Below.{table}
 use Rattle.laws.specs.Digits.{bytes}
 use Rattle.laws.specs.Lent.{filled, stored}
-use Rattle.laws.proofs.Below.{length-table}
+use Rattle.laws.proofs.Below.{length-table, getD-table}
 use Rattle.laws.proofs.Lists.{flatMap-suc, length-flatMap-table}
 use Rattle.laws.proofs.Digits.{length-bytes}
 
@@ -56,6 +56,11 @@ filling-more i f old t x w g l =
 
 pub filling-all : (i n : ℕ) (f : ℕ → ℕ) (old t : List ℕ) → Filling i f old t → i ≡ n → t ≡ filled (table n f) old
 filling-all i n f old t w g = w .holds ∙ ap (λ (k : ℕ). filled (table k f) old) g
+
+-- what stands in a table that was filled
+pub filled-at : (n : ℕ) (f : ℕ → ℕ) (old new : List ℕ) → new ≡ filled (table n f) old → (j : ℕ) → j < n → getD new j 0 ≡ f j
+filled-at n f old new e j l =
+    ap (λ (t : List ℕ). getD t j 0) e ∙ getD-filled (table n f) old 0 j (rw length-table l) ∙ getD-table n f 0 j l
 
 -- ## stored
 

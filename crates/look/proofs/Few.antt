@@ -5,12 +5,12 @@ use Prim.Native.Nat.{ℕ, _≤_}
 use native.Mathlib.Omega.{arith}
 use Rattle.pool.specs.Tables.{Tables}
 use Rattle.pool.specs.Promises.{ReadsRightly}
-use Rattle.reader.specs.Said.{said}
+use Rattle.reader.specs.Answers.{answerOf}
 use Rattle.reader.specs.declared.Reading.{Reading}
 use Rattle.reader.specs.declared.Reading.the-variants.{Pairs}
 
-pub few : (b : List ℕ) (t : Tables) (r : Reading) (n : ℕ) → ReadsRightly b t (said r) → r ≡ Pairs n → n ≤ 200
-unfolding said
+pub few : (b : List ℕ) (t : Tables) (r : Reading) (n : ℕ) → ReadsRightly b t (answerOf r) → r ≡ Pairs n → n ≤ 200
+unfolding answerOf
 few b t r n w e =
     let a = w .accepted n (rw e) in
-    omega (arith, a .0, a .1 .pool .few)
+    omega (arith, a .0, a .1 .head .few)

@@ -3,10 +3,10 @@ use mathlib.Core.Path.{_≡_, refl}
 use Prim.Native.Nat.{ℕ}
 use Rattle.refusal.specs.Number.{numberOf}
 use Rattle.refusal.specs.declared.Refusal.{Refusal}
-use Rattle.reader.specs.Said as Reader
+use Rattle.reader.specs.Answers as Reader
 use Rattle.reader.specs.declared.Reading.{Reading}
 use Rattle.reader.specs.declared.Reading.the-variants as Reading
-use Rattle.writer.specs.Said as Writer
+use Rattle.writer.specs.Answers as Writer
 use Rattle.writer.specs.declared.Writing.{Writing}
 use Rattle.writer.specs.declared.Writing.the-variants as Writing
 use Rattle.weighing.specs.Answers as Weighing
@@ -22,21 +22,21 @@ use Rattle.printout.specs.declared.Printing.the-variants as Printing
 use Rattle.numbers.specs.Numbers.{readNumbers, writeNumbers, buildNumbers, planNumbers, printNumbers}
 
 pub read-refused : (r : Reading) (why : Refusal) (o : ℕ) → r ≡ Reading.Refused why o → (k : ℕ) → k ≡ numberOf why
-    → record { refusal = k; place = o; pairs = 0 } ≡ readNumbers (Reader.said r)
-unfolding readNumbers Reader.said
+    → record { refusal = k; place = o; pairs = 0 } ≡ readNumbers (Reader.answerOf r)
+unfolding readNumbers Reader.answerOf
 read-refused r why o e k f = rw (e, f)
 
-pub read-finished : (r : Reading) (n : ℕ) → r ≡ Reading.Pairs n → record { refusal = 0; place = 0; pairs = n } ≡ readNumbers (Reader.said r)
-unfolding readNumbers Reader.said
+pub read-finished : (r : Reading) (n : ℕ) → r ≡ Reading.Pairs n → record { refusal = 0; place = 0; pairs = n } ≡ readNumbers (Reader.answerOf r)
+unfolding readNumbers Reader.answerOf
 read-finished r n e = rw e
 
 pub write-refused : (r : Writing) (why : Refusal) → r ≡ Writing.Refused why → (k : ℕ) → k ≡ numberOf why
-    → record { refusal = k; length = 0 } ≡ writeNumbers (Writer.said r)
-unfolding writeNumbers Writer.said
+    → record { refusal = k; length = 0 } ≡ writeNumbers (Writer.answerOf r)
+unfolding writeNumbers Writer.answerOf
 write-refused r why e k f = rw (e, f)
 
-pub write-finished : (r : Writing) (n : ℕ) → r ≡ Writing.Length n → record { refusal = 0; length = n } ≡ writeNumbers (Writer.said r)
-unfolding writeNumbers Writer.said
+pub write-finished : (r : Writing) (n : ℕ) → r ≡ Writing.Length n → record { refusal = 0; length = n } ≡ writeNumbers (Writer.answerOf r)
+unfolding writeNumbers Writer.answerOf
 write-finished r n e = rw e
 
 pub build-refused : (r : Building) (why : Refusal) → r ≡ Building.Refused why → (k : ℕ) → k ≡ numberOf why

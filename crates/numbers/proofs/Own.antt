@@ -8,10 +8,10 @@ use Rattle.refusal.specs.declared.Refusal.{Refusal}
 use Rattle.refusal.specs.declared.Refusal.the-variants.{CutOff, WrongField, WrongVersion, TooManyPairs, LeftOver, OutOfRange, RepeatedId, NotAShuffle, TooShort, NotCompatibility}
 use Rattle.greedy.specs.Tally.{tally}
 use Rattle.exchange.specs.Planning.{Plan, plan}
-use Rattle.reader.specs.Said as Reader
+use Rattle.reader.specs.Answers as Reader
 use Rattle.reader.specs.declared.Reading.{Reading}
 use Rattle.reader.specs.declared.Reading.the-variants as Reading
-use Rattle.writer.specs.Said as Writer
+use Rattle.writer.specs.Answers as Writer
 use Rattle.writer.specs.declared.Writing.{Writing}
 use Rattle.writer.specs.declared.Writing.the-variants as Writing
 use Rattle.weighing.specs.Answers as Weighing
@@ -93,13 +93,13 @@ at-0 why k o e = let f : k ≡ numberOf why = cc in let g : o ≡ 0 = cc in (rw 
 of-finished : {Result : Type 0} (x : Result) → NumberedAt0 (finished x)
 of-finished x k o e = let z : _≡_ {A = ℕ} 0 1 = cc in absurd (omega arith)
 
-pub read-numbered : (r : Reading) → Numbered (Reader.said r)
-unfolding Reader.said
+pub read-numbered : (r : Reading) → Numbered (Reader.answerOf r)
+unfolding Reader.answerOf
 read-numbered (Reading.Pairs n) k o e = of-finished n k o e .0
 read-numbered (Reading.Refused why place) k o e = let f : k ≡ numberOf why = cc in rw f (from-one why)
 
-pub write-numbered : (r : Writing) → NumberedAt0 (Writer.said r)
-unfolding Writer.said
+pub write-numbered : (r : Writing) → NumberedAt0 (Writer.answerOf r)
+unfolding Writer.answerOf
 write-numbered (Writing.Length n) = of-finished n
 write-numbered (Writing.Refused why) = at-0 why
 

@@ -8,8 +8,8 @@ use weighing::Building;
 use writer::Writing;
 ghost use mathlib.Core.Path.{_≡_};
 ghost use Rattle.refusal.specs.Number.{numberOf};
-ghost use Rattle.reader.specs.Said.{said as Reader·said};
-ghost use Rattle.writer.specs.Said.{said as Writer·said};
+ghost use Rattle.reader.specs.Answers.{answerOf as Reader·answerOf};
+ghost use Rattle.writer.specs.Answers.{answerOf as Writer·answerOf};
 ghost use Rattle.weighing.specs.Answers.{answerOf as Weighing·answerOf};
 ghost use Rattle.planner.specs.Answers.{answerOf as Planner·answerOf};
 ghost use Rattle.printout.specs.Answers.{answerOf as Printout·answerOf};
@@ -61,7 +61,7 @@ fn number_of(why: Refusal) -> u32
 }
 
 pub fn read_numbers(answer: Reading) -> ReadAnswer
-    ensures { λ r. ⌜ r ≡ readNumbers (Reader·said answer) ⌝ }
+    ensures { λ r. ⌜ r ≡ readNumbers (Reader·answerOf answer) ⌝ }
 {
     match answer {
         Reading::Refused(why, place) => ReadAnswer {
@@ -78,7 +78,7 @@ pub fn read_numbers(answer: Reading) -> ReadAnswer
 }
 
 pub fn write_numbers(answer: Writing) -> WriteAnswer
-    ensures { λ r. ⌜ r ≡ writeNumbers (Writer·said answer) ⌝ }
+    ensures { λ r. ⌜ r ≡ writeNumbers (Writer·answerOf answer) ⌝ }
 {
     match answer {
         Writing::Refused(why) => WriteAnswer {

@@ -8,6 +8,7 @@ use lib.ListN.{length}
 use Rattle.refusal.specs.Fault.{Fault, none, fault, refuse, _then_}
 use Rattle.refusal.proofs.Faults.{then-none, refuse-none, by-refuse, by-then}
 use Rattle.laws.specs.Digits.{bigEndian}
+use Rattle.pool.specs.Sheet.{startLength}
 use Rattle.pool.specs.Faults.{fieldFault}
 use Rattle.pool.specs.Faultless.{Field, Due, Forward, SheetFault, startCutOff, valueCutOff, wrongTag, wrongLength}
 
@@ -16,10 +17,10 @@ module _ (b : List ℕ) (o tag len : ℕ) where
   unfolding fieldFault refuse _then_
   field-none f =
       simp (
-        le-ltb (length b) (o + 3) (omega (arith, f .whole)),
+        le-ltb (length b) (o + startLength) (omega (arith, f .whole)),
         eq-eqb _ _ (f .tagged),
         eq-eqb _ _ (f .sized),
-        le-ltb (length b) (o + 3 + len) (f .whole),
+        le-ltb (length b) (o + startLength + len) (f .whole),
       )
 
   pub field-passed : fieldFault b o tag len ≡ none → Field b o tag len
@@ -39,7 +40,7 @@ module _ (b : List ℕ) (o tag len : ℕ) where
   field-fault d w =
       let P = SheetFault b in
       by-then P _ _ (by-refuse P 1 o _ (λ e. startCutOff o tag len d w (ltb-true _ _ e)))
-      (λ s. let l : o + 3 ≤ length b = ltb-false _ _ (refuse-none _ _ _ s) in
+      (λ s. let l : o + startLength ≤ length b = ltb-false _ _ (refuse-none _ _ _ s) in
       by-then P _ _ (by-refuse P 2 o _ (λ e. wrongTag o tag len d w l (eqb-false _ _ (not-true _ e))))
       (λ t. let g : bigEndian 1 b o ≡ tag = eqb-true _ _ (not-false _ (refuse-none _ _ _ t)) in
       by-then P _ _ (by-refuse P 2 o _ (λ e. wrongLength o tag len d w l g (eqb-false _ _ (not-true _ e))))

@@ -1,5 +1,5 @@
 -- There and back: an accepted sheet, read and written again, is that sheet; a written pool reads back as that pool. Assumes nothing.
-use mathlib.Core.Path.{_≡_, sym, ap, ap₂, _∙_}
+use mathlib.Core.Path.{_≡_, refl, sym, ap, ap₂, _∙_}
 use mathlib.Core.List.{List, map}
 use Prim.Native.Nat.{ℕ, _≤_, _<_}
 use native.Mathlib.Omega.{arith}
@@ -16,11 +16,11 @@ use Rattle.pool.specs.Tables.{Fields, Tables, room, pairIn, poolIn, fill
 use Rattle.pool.specs.Faults.{roomFault}
 use Rattle.pool.specs.Calls.{reading, writing}
 use Rattle.pool.specs.Faultless.{FieldsHold, TablesHold, FaultlessSheet, FaultlessPool, Faultless}
-use Rattle.pool.specs.Promises.{Below, Typed, SheetComesBack, PoolComesBack}
+use Rattle.pool.specs.Promises.{EntriesBelow, TablesTyped, LongestSheet, SheetComesBack, PoolComesBack}
 use Rattle.pool.proofs.Lengths.{length-sheetIn}
 use Rattle.pool.proofs.Pairs.{faultless-cong}
 use Rattle.pool.proofs.Rooms.{hold-room}
-use Rattle.pool.proofs.Reading.{room-none, sheet-none, reading-none, reading-passed}
+use Rattle.pool.proofs.Reading.{room-none, sheet-none, sheet-pool, reading-none, reading-passed}
 use Rattle.pool.proofs.Writing.{pool-none, writing-none, writing-passed}
 use Rattle.pool.proofs.Read.{sheet-back}
 use Rattle.pool.proofs.Written.{Fits, written, sheet-written, says-pairs, says-pool, written-faultless}
@@ -99,7 +99,7 @@ module _ (n : ℕ) (pair : ℕ → Pair) (s : ℕ → ℕ) (t : Tables) where
       λ k. record { pairs = e1 k; shuffle = e2 k }
 
 -- what the types of the slices give
-typed-fits : (t : Tables) → Typed t → (i : ℕ) → Fits (pairIn (t .fields) i)
+typed-fits : (t : Tables) → TablesTyped t → (i : ℕ) → Fits (pairIn (t .fields) i)
 unfolding pairIn
 typed-fits t y i =
     record {
@@ -111,7 +111,7 @@ typed-fits t y i =
 
 -- ## There and back, whatever the buffer or the other tables can hold
 
-pub sheet-again : (b : List ℕ) (t : Tables) (out : List ℕ) (n : ℕ) → Below 256 b → reading b t .answer ≡ finished n
+pub sheet-again : (b : List ℕ) (t : Tables) (out : List ℕ) (n : ℕ) → EntriesBelow 256 b → reading b t .answer ≡ finished n
     → writing n (reading b t .lent) out ≡ unless (roomFault (length out) (length b)) (length b) (filled b out) out
 unfolding poolOf writing
 sheet-again b t out n bytes e =
@@ -120,14 +120,14 @@ sheet-again b t out n bytes e =
     let h : TablesHold (pairsIn b) t = rw (← r .0) (r .2) in
     let left : reading b t .lent ≡ filledTables (poolOf b) t = ap (λ (o : Outcome ℕ Tables). o .lent) (reading-none b t s h) in
     let t′ : Tables = filledTables (poolOf b) t in
-    let w : FaultlessPool (pairsIn b) t′ = faultless-filled (pairsIn b) (pairAt b) (shuffleAt b (pairsIn b)) t h (s .pool) in
+    let w : FaultlessPool (pairsIn b) t′ = faultless-filled (pairsIn b) (pairAt b) (shuffleAt b (pairsIn b)) t h (sheet-pool b s) in
     let again : sheetOf (poolIn (pairsIn b) t′) ≡ b =
     ap sheetOf (pool-in-filled (pairsIn b) (pairAt b) (shuffleAt b (pairsIn b)) t) ∙ sheet-back b bytes s in
     rw (left, r .0)
     (unless-then _ _ _ _ _ (pool-none (pairsIn b) t′ w)
     ∙ ap (λ (x : List ℕ). unless (roomFault (length out) (length x)) (length x) (filled x out) out) again)
 
-pub pool-again : (n : ℕ) (t : Tables) (out : List ℕ) (m : ℕ) (other : Tables) → Typed t → writing n t out .answer ≡ finished m
+pub pool-again : (n : ℕ) (t : Tables) (out : List ℕ) (m : ℕ) (other : Tables) → TablesTyped t → writing n t out .answer ≡ finished m
     → reading (take m (writing n t out .lent)) other ≡ unless (roomFault (room other) n) n (filledTables (poolIn n t) other) other
 unfolding poolIn reading
 pool-again n t out m other y e =
@@ -148,7 +148,10 @@ pool-again n t out m other y e =
     ∙ ap₂ (λ (k : ℕ) (p : Pool). unless (roomFault (room other) k) k (filledTables p other) other)
     (says-pairs n pair s (w .pool) fits small) (says-pool n pair s (w .pool) fits small))
 
--- ## The two theorems
+-- ## The theorems
+
+pub longest-sheet : LongestSheet
+longest-sheet = record { most = λ b s. omega (arith, s .nothingAfter, s .head .few); reached = refl }
 
 pub sheet-comes-back : SheetComesBack
 sheet-comes-back b t out n bytes e l = sheet-again b t out n bytes e ∙ unless-none _ _ _ _ (room-none (length out) (length b) l)

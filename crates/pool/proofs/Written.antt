@@ -12,8 +12,10 @@ use Rattle.laws.proofs.Below.{length-table, getD-table, table-cong}
 use Rattle.laws.proofs.Lists.{part, part-in, part-at, part-skip, part-flatMap, length-flatMap-table}
 use Rattle.laws.proofs.Digits.{length-bytes, bigEndian-at}
 use Rattle.pool.specs.Pool.{Pair, Pool}
-use Rattle.pool.specs.Sheet.{field, headField, pairField, shuffleField, sheetOf, pairPlace, sheetLength, pairsIn, pairAt, shuffleAt, poolOf}
-use Rattle.pool.specs.Faultless.{InRange, Faultless, Field, FaultlessSheet}
+use Rattle.pool.specs.Sheet.{headTag, headLength, pairTag, pairLength, shuffleTag, shuffleLength, sheetVersion, field, headField, pairField, shuffleField, sheetOf}
+use Rattle.pool.specs.Sheet.{startLength, versionPlace, pairsPlace, firstPair, pairSize, pairPlace, sheetLength, pairsIn, pairAt, shuffleAt, poolOf}
+use Rattle.pool.specs.Sheet.{idAt, donorBloodAt, patientBloodAt, donorAgeAt, patientAgeAt, donorAntigensAt, patientAntigensAt, patientAntibodiesAt}
+use Rattle.pool.specs.Faultless.{InRange, Faultless, Field, HeadField, PairField, FaultlessSheet}
 use Rattle.pool.proofs.Lengths.{length-headField, length-pairField, length-field, length-sheetOf}
 use Rattle.pool.proofs.Pairs.{faultless-cong}
 
@@ -26,30 +28,30 @@ pub record Fits (q : Pair) : Type 0 where
 
 -- ## A pair's field, where its bytes are known
 
-module _ (w : List ℕ) (i : ℕ) (q : Pair) (e : part w (pairPlace i) 35 ≡ pairField q) where
-  in-pair : (a k x : ℕ) → a + k ≤ 35 → part (pairField q) a k ≡ bytes k x → x < 256 ^ k → bigEndian k w (pairPlace i + a) ≡ x
-  in-pair a k x l g h = bigEndian-at k w (pairPlace i + a) x (part-in w (pairPlace i) 35 a k e l ∙ g) h
+module _ (w : List ℕ) (i : ℕ) (q : Pair) (e : part w (pairPlace i) pairSize ≡ pairField q) where
+  in-pair : (a k x : ℕ) → a + k ≤ pairSize → part (pairField q) a k ≡ bytes k x → x < 256 ^ k → bigEndian k w (pairPlace i + a) ≡ x
+  in-pair a k x l g h = bigEndian-at k w (pairPlace i + a) x (part-in w (pairPlace i) pairSize a k e l ∙ g) h
 
-  pair-field : pairPlace i + 35 ≤ length w → Field w (pairPlace i) 2 32
+  pair-field : pairPlace i + pairSize ≤ length w → PairField w i
   unfolding pairField field bytes part
   pair-field l =
       record {
         whole = omega arith;
-        tagged = ap (bigEndian 1 w) (sym (add-zero (pairPlace i))) ∙ in-pair 0 1 2 (lit≤ tt) refl (lit< tt);
-        sized = in-pair 1 2 32 (lit≤ tt) refl (lit< tt);
+        tagged = ap (bigEndian 1 w) (sym (add-zero (pairPlace i))) ∙ in-pair 0 1 pairTag (lit≤ tt) refl (lit< tt);
+        sized = in-pair 1 2 pairLength (lit≤ tt) refl (lit< tt);
       }
 
   pair-read : InRange q → Fits q → pairAt w i ≡ q
   unfolding pairField pairAt field bytes part
   pair-read r f =
-      let e1 : bigEndian 4 w (pairPlace i + 3) ≡ q .id = in-pair 3 4 (q .id) (lit≤ tt) refl (f .id) in
-      let e2 : bigEndian 1 w (pairPlace i + 7) ≡ q .donorBlood = in-pair 7 1 (q .donorBlood) (lit≤ tt) refl (omega (arith, r .donorBlood)) in
-      let e3 : bigEndian 1 w (pairPlace i + 8) ≡ q .patientBlood = in-pair 8 1 (q .patientBlood) (lit≤ tt) refl (omega (arith, r .patientBlood)) in
-      let e4 : bigEndian 1 w (pairPlace i + 9) ≡ q .donorAge = in-pair 9 1 (q .donorAge) (lit≤ tt) refl (omega (arith, r .donorAge)) in
-      let e5 : bigEndian 1 w (pairPlace i + 10) ≡ q .patientAge = in-pair 10 1 (q .patientAge) (lit≤ tt) refl (omega (arith, r .patientAge)) in
-      let e6 : bigEndian 8 w (pairPlace i + 11) ≡ q .donorAntigens = in-pair 11 8 (q .donorAntigens) (lit≤ tt) refl (f .donorAntigens) in
-      let e7 : bigEndian 8 w (pairPlace i + 19) ≡ q .patientAntigens = in-pair 19 8 (q .patientAntigens) (lit≤ tt) refl (f .patientAntigens) in
-      let e8 : bigEndian 8 w (pairPlace i + 27) ≡ q .patientAntibodies = in-pair 27 8 (q .patientAntibodies) (lit≤ tt) refl (f .patientAntibodies) in
+      let e1 : bigEndian 4 w (pairPlace i + idAt) ≡ q .id = in-pair idAt 4 (q .id) (lit≤ tt) refl (f .id) in
+      let e2 : bigEndian 1 w (pairPlace i + donorBloodAt) ≡ q .donorBlood = in-pair donorBloodAt 1 (q .donorBlood) (lit≤ tt) refl (omega (arith, r .donorBlood)) in
+      let e3 : bigEndian 1 w (pairPlace i + patientBloodAt) ≡ q .patientBlood = in-pair patientBloodAt 1 (q .patientBlood) (lit≤ tt) refl (omega (arith, r .patientBlood)) in
+      let e4 : bigEndian 1 w (pairPlace i + donorAgeAt) ≡ q .donorAge = in-pair donorAgeAt 1 (q .donorAge) (lit≤ tt) refl (omega (arith, r .donorAge)) in
+      let e5 : bigEndian 1 w (pairPlace i + patientAgeAt) ≡ q .patientAge = in-pair patientAgeAt 1 (q .patientAge) (lit≤ tt) refl (omega (arith, r .patientAge)) in
+      let e6 : bigEndian 8 w (pairPlace i + donorAntigensAt) ≡ q .donorAntigens = in-pair donorAntigensAt 8 (q .donorAntigens) (lit≤ tt) refl (f .donorAntigens) in
+      let e7 : bigEndian 8 w (pairPlace i + patientAntigensAt) ≡ q .patientAntigens = in-pair patientAntigensAt 8 (q .patientAntigens) (lit≤ tt) refl (f .patientAntigens) in
+      let e8 : bigEndian 8 w (pairPlace i + patientAntibodiesAt) ≡ q .patientAntibodies = in-pair patientAntibodiesAt 8 (q .patientAntibodies) (lit≤ tt) refl (f .patientAntibodies) in
       λ i. record {
         id = e1 i;
         donorBlood = e2 i;
@@ -78,76 +80,77 @@ module _ (n : ℕ) (pair : ℕ → Pair) (s : ℕ → ℕ) where
         length-append,
         length-headField,
         length-field,
-        length-flatMap-table pairField 35 length-pairField n pair,
+        length-flatMap-table pairField pairSize length-pairField n pair,
         length-flatMap-table (bytes 2) 2 (length-bytes 2) n s,
       ) (omega arith)
 
-  written-pair : (i : ℕ) → i < n → part written (pairPlace i) 35 ≡ pairField (pair i)
+  written-pair : (i : ℕ) → i < n → part written (pairPlace i) pairSize ≡ pairField (pair i)
   written-pair i l =
-      part-skip (headField n) _ 7 (35 * i) 35 (length-headField n)
-      ∙ part-flatMap pairField 35 length-pairField (pair i) (table n pair) _ i (rw length-table l)
+      part-skip (headField n) _ firstPair (pairSize * i) pairSize (length-headField n)
+      ∙ part-flatMap pairField pairSize length-pairField (pair i) (table n pair) _ i (rw length-table l)
       ∙ ap pairField (getD-table n pair (pair i) i l)
 
-  written-start : part written (pairPlace n) 3 ≡ bytes 1 3 ++ bytes 2 (2 * n)
+  written-start : part written (pairPlace n) startLength ≡ bytes 1 shuffleTag ++ bytes 2 (shuffleLength n)
   unfolding shuffleField field
   written-start =
-      let m : length (flatMap pairField (table n pair)) ≡ 35 * n = length-flatMap-table pairField 35 length-pairField n pair in
-      let v : length (flatMap (bytes 2) (table n s)) ≡ 2 * n = length-flatMap-table (bytes 2) 2 (length-bytes 2) n s in
-      part-skip (headField n) _ 7 (35 * n) 3 (length-headField n)
-      ∙ rw (v, ← append-assoc (bytes 1 3) (bytes 2 (2 * n))) (part-at (flatMap pairField (table n pair)) _ _ (35 * n) 3 m (start-length (2 * n)))
+      let m : length (flatMap pairField (table n pair)) ≡ pairSize * n = length-flatMap-table pairField pairSize length-pairField n pair in
+      let v : length (flatMap (bytes 2) (table n s)) ≡ shuffleLength n = length-flatMap-table (bytes 2) 2 (length-bytes 2) n s in
+      part-skip (headField n) _ firstPair (pairSize * n) startLength (length-headField n)
+      ∙ rw (v, ← append-assoc (bytes 1 shuffleTag) (bytes 2 (shuffleLength n)))
+      (part-at (flatMap pairField (table n pair)) _ _ (pairSize * n) startLength m (start-length (shuffleLength n)))
     where
-      start-length : (k : ℕ) → length (bytes 1 3 ++ bytes 2 k) ≡ 3
+      start-length : (k : ℕ) → length (bytes 1 shuffleTag ++ bytes 2 k) ≡ startLength
       start-length k = rw (length-append, length-bytes, length-bytes)
 
-  written-number : (j : ℕ) → j < n → part written (pairPlace n + 3 + 2 * j) 2 ≡ bytes 2 (s j)
+  written-number : (j : ℕ) → j < n → part written (pairPlace n + startLength + 2 * j) 2 ≡ bytes 2 (s j)
   unfolding shuffleField field
   written-number j l =
       let R : List ℕ = flatMap pairField (table n pair) in
       let D : List ℕ = flatMap (bytes 2) (table n s) in
-      let xs : List ℕ = headField n ++ (R ++ (bytes 1 3 ++ bytes 2 (length D))) in
+      let xs : List ℕ = headField n ++ (R ++ (bytes 1 shuffleTag ++ bytes 2 (length D))) in
       let e : written ≡ xs ++ (D ++ []) = simp (append-assoc, append-nil) in
-      let m : length xs ≡ pairPlace n + 3 =
-      simp (length-append, length-headField, length-bytes, length-flatMap-table pairField 35 length-pairField n pair) (omega arith) in
+      let m : length xs ≡ pairPlace n + startLength =
+      simp (length-append, length-headField, length-bytes, length-flatMap-table pairField pairSize length-pairField n pair) (omega arith) in
       rw e
-      (part-skip xs (D ++ []) (pairPlace n + 3) (2 * j) 2 m
+      (part-skip xs (D ++ []) (pairPlace n + startLength) (2 * j) 2 m
       ∙ part-flatMap (bytes 2) 2 (length-bytes 2) 0 (table n s) [] j (rw length-table l)
       ∙ ap (bytes 2) (getD-table n s 0 j l))
 
-  written-head : part written 0 7 ≡ headField n
-  written-head = part-at [] (headField n) _ 0 7 refl (length-headField n)
+  written-head : part written 0 firstPair ≡ headField n
+  written-head = part-at [] (headField n) _ 0 firstPair refl (length-headField n)
 
-  in-head : (a k x : ℕ) → a + k ≤ 7 → part (headField n) a k ≡ bytes k x → x < 256 ^ k → bigEndian k written a ≡ x
+  in-head : (a k x : ℕ) → a + k ≤ firstPair → part (headField n) a k ≡ bytes k x → x < 256 ^ k → bigEndian k written a ≡ x
   in-head a k x l g h =
-      bigEndian-at k written a x (ap (λ (i : ℕ). part written i k) (sym (zero-add a)) ∙ part-in written 0 7 a k written-head l ∙ g) h
+      bigEndian-at k written a x (ap (λ (i : ℕ). part written i k) (sym (zero-add a)) ∙ part-in written 0 firstPair a k written-head l ∙ g) h
 
   -- ## It has no fault, and says what was written
 
   module _ (w : Faultless n pair s) (fits : (i : ℕ) → i < n → Fits (pair i)) (small : (j : ℕ) → j < n → s j < 256 ^ 2) where
     pub says-pairs : pairsIn written ≡ n
     unfolding pairsIn headField field bytes part
-    says-pairs = in-head 5 2 n (lit≤ tt) refl (omega (arith, w .few))
+    says-pairs = in-head pairsPlace 2 n (lit≤ tt) refl (omega (arith, w .few))
 
-    says-version : bigEndian 2 written 3 ≡ 1
+    says-version : bigEndian 2 written versionPlace ≡ sheetVersion
     unfolding headField field bytes part
-    says-version = in-head 3 2 1 (lit≤ tt) refl (lit< tt)
+    says-version = in-head versionPlace 2 sheetVersion (lit≤ tt) refl (lit< tt)
 
     pub says-pair : (i : ℕ) → i < n → pairAt written i ≡ pair i
     says-pair i l = pair-read written i (pair i) (written-pair i l) (w .inRange i l) (fits i l)
 
     pub says-number : (j : ℕ) → j < n → shuffleAt written n j ≡ s j
     unfolding shuffleAt
-    says-number j l = bigEndian-at 2 written (pairPlace n + 3 + 2 * j) (s j) (written-number j l) (small j l)
+    says-number j l = bigEndian-at 2 written (pairPlace n + startLength + 2 * j) (s j) (written-number j l) (small j l)
 
-    head-field : Field written 0 1 4
+    head-field : HeadField written
     unfolding headField field bytes part
     head-field =
         record {
           whole = omega (arith, length-written);
-          tagged = in-head 0 1 1 (lit≤ tt) refl (lit< tt);
-          sized = in-head 1 2 4 (lit≤ tt) refl (lit< tt);
+          tagged = in-head 0 1 headTag (lit≤ tt) refl (lit< tt);
+          sized = in-head 1 2 headLength (lit≤ tt) refl (lit< tt);
         }
 
-    shuffle-field : Field written (pairPlace n) 3 (2 * n)
+    shuffle-field : Field written (pairPlace n) shuffleTag (shuffleLength n)
     unfolding bytes part
     shuffle-field =
         let o = pairPlace n in
@@ -155,21 +158,29 @@ module _ (n : ℕ) (pair : ℕ → Pair) (s : ℕ → ℕ) where
           whole = omega (arith, length-written);
           tagged =
               ap (bigEndian 1 written) (sym (add-zero o))
-              ∙ bigEndian-at 1 written (o + 0) 3 (part-in written o 3 0 1 written-start (lit≤ tt)) (lit< tt);
-          sized = bigEndian-at 2 written (o + 1) (2 * n) (part-in written o 3 1 2 written-start (lit≤ tt)) (omega (arith, w .few));
+              ∙ bigEndian-at 1 written (o + 0) shuffleTag (part-in written o startLength 0 1 written-start (lit≤ tt)) (lit< tt);
+          sized = bigEndian-at 2 written (o + 1) (shuffleLength n) (part-in written o startLength 1 2 written-start (lit≤ tt)) (omega (arith, w .few));
         }
+
+    -- its pairs and its shuffle have no fault
+    written-pool : Faultless n (pairAt written) (shuffleAt written n)
+    written-pool =
+        faultless-cong n pair (pairAt written) s (shuffleAt written n) (λ i l. sym (says-pair i l)) (λ j l. sym (says-number j l)) w
 
     pub written-faultless : FaultlessSheet written
     written-faultless =
         record {
-          head = head-field;
-          version = says-version;
-          pair = λ i l. let k : i < n = rw says-pairs at l in pair-field written i (pair i) (written-pair i k) (omega (arith, length-written));
-          shuffle = rw says-pairs shuffle-field;
+          head = record { field = head-field; version = says-version; few = rw says-pairs (w .few) };
+          pair =
+              λ i l.
+              let k : i < n = rw says-pairs at l in
+              record {
+                field = pair-field written i (pair i) (written-pair i k) (omega (arith, length-written));
+                inRange = written-pool .inRange i k;
+                unlike = λ j m. written-pool .unlike i j m k;
+              };
+          shuffle = record { field = rw says-pairs shuffle-field; eachOnce = rw says-pairs (written-pool .eachOnce) };
           nothingAfter = rw says-pairs length-written;
-          pool =
-              rw says-pairs
-              (faultless-cong n pair (pairAt written) s (shuffleAt written n) (λ i l. sym (says-pair i l)) (λ j l. sym (says-number j l)) w);
         }
 
     pub says-pool : poolOf written ≡ record { pairs = table n pair; shuffle = table n s }

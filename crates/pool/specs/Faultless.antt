@@ -1,12 +1,12 @@
 -- What has none of the listed faults, and what each fault is, said without the reader and the writer. Assumes nothing.
-use Prim.Native.Nat.{ℕ, _+_, _*_, _≤_, _<_}
+use Prim.Native.Nat.{ℕ, _+_, _≤_, _<_}
 use mathlib.Core.Path.{_≡_}
 use mathlib.Core.List.{List}
 use lib.ListN.{length, getD}
 use Rattle.laws.specs.Below.{Once}
 use Rattle.laws.specs.Digits.{bigEndian}
 use Rattle.pool.specs.Pool.{Pair}
-use Rattle.pool.specs.Sheet.{pairPlace, sheetLength, pairsIn, pairAt, shuffleAt}
+use Rattle.pool.specs.Sheet.{headTag, headLength, pairTag, pairLength, shuffleTag, shuffleLength, sheetVersion, startLength, versionPlace, pairPlace, sheetLength, pairsIn, pairAt, shuffleAt}
 use Rattle.pool.specs.Tables.{Fields, Tables, pairIn}
 
 -- ## Pairs and shuffle
@@ -37,36 +37,49 @@ pub record Faultless (n : ℕ) (pair : ℕ → Pair) (s : ℕ → ℕ) : Type 0 
 
 -- a whole field at o, of this tag and length
 pub record Field (b : List ℕ) (o tag len : ℕ) : Type 0 where
-  pub whole : o + 3 + len ≤ length b
+  pub whole : o + startLength + len ≤ length b
   pub tagged : bigEndian 1 b o ≡ tag
   pub sized : bigEndian 2 b (o + 1) ≡ len
 
--- the fields where they are due, version 1, nothing after
-pub record FaultlessSheet (b : List ℕ) : Type 0 where
-  pub head : Field b 0 1 4
-  pub version : bigEndian 2 b 3 ≡ 1
-  pub pair : (i : ℕ) → i < pairsIn b → Field b (pairPlace i) 2 32
-  pub shuffle : Field b (pairPlace (pairsIn b)) 3 (2 * pairsIn b)
-  pub nothingAfter : length b ≡ sheetLength (pairsIn b)
-  pub pool : Faultless (pairsIn b) (pairAt b) (shuffleAt b (pairsIn b))
+-- the fields that are due
+abbrev pub HeadField : List ℕ → Type 0
+HeadField b = Field b 0 headTag headLength
 
--- a field that is due at a place, with its tag and length
-pub data Due (b : List ℕ) : ℕ → ℕ → ℕ → Type 0 where
-  head : Due b 0 1 4
-  pair : (i : ℕ) → i < pairsIn b → Due b (pairPlace i) 2 32
-  shuffle : Due b (pairPlace (pairsIn b)) 3 (2 * pairsIn b)
+abbrev pub PairField : List ℕ → ℕ → Type 0
+PairField b i = Field b (pairPlace i) pairTag pairLength
+
+abbrev pub ShuffleField : List ℕ → Type 0
+ShuffleField b = Field b (pairPlace (pairsIn b)) shuffleTag (shuffleLength (pairsIn b))
+
+-- the head is whole, of version 1, and says at most 200 pairs
+pub record FaultlessHead (b : List ℕ) : Type 0 where
+  pub field : HeadField b
+  pub version : bigEndian 2 b versionPlace ≡ sheetVersion
+  pub few : pairsIn b ≤ 200
 
 -- pair i's field is whole, its groups are in range, and its id is no earlier pair's
 pub record FaultlessPair (b : List ℕ) (i : ℕ) : Type 0 where
-  pub field : Field b (pairPlace i) 2 32
+  pub field : PairField b i
   pub inRange : InRange (pairAt b i)
   pub unlike : (j : ℕ) → j < i → pairAt b j .id ≡ pairAt b i .id → ⊥
 
--- the head has no fault
-pub record FaultlessHead (b : List ℕ) : Type 0 where
-  pub field : Field b 0 1 4
-  pub version : bigEndian 2 b 3 ≡ 1
-  pub few : pairsIn b ≤ 200
+-- the shuffle's field is whole, and has each number once
+pub record FaultlessShuffle (b : List ℕ) : Type 0 where
+  pub field : ShuffleField b
+  pub eachOnce : EachOnce (pairsIn b) (shuffleAt b (pairsIn b))
+
+-- all of them, and nothing after
+pub record FaultlessSheet (b : List ℕ) : Type 0 where
+  pub head : FaultlessHead b
+  pub pair : (i : ℕ) → i < pairsIn b → FaultlessPair b i
+  pub shuffle : FaultlessShuffle b
+  pub nothingAfter : length b ≡ sheetLength (pairsIn b)
+
+-- a field that is due at a place, with its tag and length
+pub data Due (b : List ℕ) : ℕ → ℕ → ℕ → Type 0 where
+  head : Due b 0 headTag headLength
+  pair : (i : ℕ) → i < pairsIn b → Due b (pairPlace i) pairTag pairLength
+  shuffle : Due b (pairPlace (pairsIn b)) shuffleTag (shuffleLength (pairsIn b))
 
 -- what is looked at before a field that is due has no fault: "reading goes forward, field by field"
 pub data Forward (b : List ℕ) : ℕ → Type 0 where
@@ -76,13 +89,13 @@ pub data Forward (b : List ℕ) : ℕ → Type 0 where
 
 -- fault k of a sheet, at place o: it is there, and none that is looked for before it
 pub data SheetFault (b : List ℕ) : ℕ → ℕ → Type 0 where
-  startCutOff : (o tag len : ℕ) → Due b o tag len → Forward b o → length b < o + 3 → SheetFault b 1 o
-  wrongTag : (o tag len : ℕ) → Due b o tag len → Forward b o → o + 3 ≤ length b → (bigEndian 1 b o ≡ tag → ⊥) → SheetFault b 2 o
+  startCutOff : (o tag len : ℕ) → Due b o tag len → Forward b o → length b < o + startLength → SheetFault b 1 o
+  wrongTag : (o tag len : ℕ) → Due b o tag len → Forward b o → o + startLength ≤ length b → (bigEndian 1 b o ≡ tag → ⊥) → SheetFault b 2 o
   wrongLength :
       (o tag len : ℕ)
       → Due b o tag len
       → Forward b o
-      → o + 3 ≤ length b
+      → o + startLength ≤ length b
       → bigEndian 1 b o ≡ tag
       → (bigEndian 2 b (o + 1) ≡ len → ⊥)
       → SheetFault b 2 o
@@ -92,29 +105,28 @@ pub data SheetFault (b : List ℕ) : ℕ → ℕ → Type 0 where
       → Forward b o
       → bigEndian 1 b o ≡ tag
       → bigEndian 2 b (o + 1) ≡ len
-      → length b < o + 3 + len
+      → length b < o + startLength + len
       → SheetFault b 1 o
-  wrongVersion : Field b 0 1 4 → (bigEndian 2 b 3 ≡ 1 → ⊥) → SheetFault b 3 0
-  tooManyPairs : Field b 0 1 4 → bigEndian 2 b 3 ≡ 1 → 200 < pairsIn b → SheetFault b 4 0
-  outOfRange : (i : ℕ) → i < pairsIn b → Forward b (pairPlace i) → Field b (pairPlace i) 2 32 → (InRange (pairAt b i) → ⊥) → SheetFault b 6 (pairPlace i)
+  wrongVersion : HeadField b → (bigEndian 2 b versionPlace ≡ sheetVersion → ⊥) → SheetFault b 3 0
+  tooManyPairs : HeadField b → bigEndian 2 b versionPlace ≡ sheetVersion → 200 < pairsIn b → SheetFault b 4 0
+  outOfRange : (i : ℕ) → i < pairsIn b → Forward b (pairPlace i) → PairField b i → (InRange (pairAt b i) → ⊥) → SheetFault b 6 (pairPlace i)
   repeatedId :
       (i j : ℕ)
       → j < i
       → i < pairsIn b
       → Forward b (pairPlace i)
-      → Field b (pairPlace i) 2 32
+      → PairField b i
       → InRange (pairAt b i)
       → pairAt b j .id ≡ pairAt b i .id
       → SheetFault b 7 (pairPlace i)
   notAShuffle :
       Forward b (pairPlace (pairsIn b))
-      → Field b (pairPlace (pairsIn b)) 3 (2 * pairsIn b)
+      → ShuffleField b
       → (EachOnce (pairsIn b) (shuffleAt b (pairsIn b)) → ⊥)
       → SheetFault b 8 (pairPlace (pairsIn b))
   leftOver :
       Forward b (pairPlace (pairsIn b))
-      → Field b (pairPlace (pairsIn b)) 3 (2 * pairsIn b)
-      → EachOnce (pairsIn b) (shuffleAt b (pairsIn b))
+      → FaultlessShuffle b
       → sheetLength (pairsIn b) < length b
       → SheetFault b 5 (sheetLength (pairsIn b))
 

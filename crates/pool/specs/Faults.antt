@@ -1,5 +1,5 @@
 -- "Turned back, by whom it is caused": each fault, and the order in which they are looked for. Assumes nothing.
-use Prim.Native.Nat.{ℕ, _+_, _*_}
+use Prim.Native.Nat.{ℕ, _+_}
 use mathlib.Core.Bool.{not}
 use mathlib.Core.List.{List}
 use lib.ListN.{length, getD}
@@ -8,7 +8,7 @@ use Rattle.laws.specs.Below.{anyBelow, countBelow}
 use Rattle.laws.specs.Digits.{bigEndian}
 use Rattle.refusal.specs.Fault.{Fault, refuse, _then_, firstBelow}
 use Rattle.pool.specs.Pool.{Pair}
-use Rattle.pool.specs.Sheet.{pairPlace, sheetLength, pairsIn, pairAt, shuffleAt}
+use Rattle.pool.specs.Sheet.{headTag, headLength, pairTag, pairLength, shuffleTag, shuffleLength, sheetVersion, startLength, versionPlace, pairPlace, sheetLength, pairsIn, pairAt, shuffleAt}
 use Rattle.pool.specs.Tables.{Tables, room, pairIn}
 
 -- ## The hospital's, and whoever drew the shuffle's: in a sheet, and in lent tables
@@ -39,22 +39,25 @@ shuffleFault o n s = refuse 8 o (anyBelow n (λ v. not (eqb (countBelow n (λ j.
 -- "1 a field's three-byte start or value is cut off or missing; 2 tag or length not the one due": start 1, tag and length 2, value 1
 unfoldable pub fieldFault : List ℕ → ℕ → ℕ → ℕ → Fault
 fieldFault b o tag len =
-    refuse 1 o (ltb (length b) (o + 3))
+    refuse 1 o (ltb (length b) (o + startLength))
     then refuse 2 o (not (eqb (bigEndian 1 b o) tag))
     then refuse 2 o (not (eqb (bigEndian 2 b (o + 1)) len))
-    then refuse 1 o (ltb (length b) (o + 3 + len))
+    then refuse 1 o (ltb (length b) (o + startLength + len))
 
 -- "then 3 and 4": version; N above 200
 unfoldable pub headFault : List ℕ → Fault
-headFault b = fieldFault b 0 1 4 then refuse 3 0 (not (eqb (bigEndian 2 b 3) 1)) then refuse 4 0 (ltb 200 (pairsIn b))
+headFault b =
+    fieldFault b 0 headTag headLength
+    then refuse 3 0 (not (eqb (bigEndian 2 b versionPlace) sheetVersion))
+    then refuse 4 0 (ltb 200 (pairsIn b))
 
 -- "or 6 and 7"
 unfoldable pub pairFieldFault : List ℕ → ℕ → Fault
-pairFieldFault b i = fieldFault b (pairPlace i) 2 32 then pairFault (pairPlace i) (pairAt b) i
+pairFieldFault b i = fieldFault b (pairPlace i) pairTag pairLength then pairFault (pairPlace i) (pairAt b) i
 
 -- "or 8", on a sheet of n pairs
 unfoldable pub shuffleFieldFault : List ℕ → ℕ → Fault
-shuffleFieldFault b n = fieldFault b (pairPlace n) 3 (2 * n) then shuffleFault (pairPlace n) n (shuffleAt b n)
+shuffleFieldFault b n = fieldFault b (pairPlace n) shuffleTag (shuffleLength n) then shuffleFault (pairPlace n) n (shuffleAt b n)
 
 -- "at the end 5": bytes left over, with the place of the first byte too many
 unfoldable pub endFault : List ℕ → ℕ → Fault

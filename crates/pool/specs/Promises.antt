@@ -1,4 +1,4 @@
--- What is promised of sheets, as statements: the proofs are in `proofs/`, and the contracts of `reader`, `writer` and `copies` carry them.
+-- What is promised of sheets, as statements: the proofs are in `proofs/`, and the contracts of `reader` and `writer` carry theirs.
 -- Assumes nothing.
 use Prim.Native.Nat.{ℕ, _≤_, _<_}
 use mathlib.Core.Path.{_≡_}
@@ -29,21 +29,26 @@ pub record WritesRightly (n : ℕ) (t : Tables) (space : ℕ) (a : Answer ℕ) :
   pub refuses : (k o : ℕ) → a ≡ refused k o → (o ≡ 0) × PoolFault n t space k
 
 -- what the types of the slices give: each entry is below m
-abbrev pub Below : ℕ → List ℕ → Type 0
-Below m l = (i : ℕ) → getD l i 0 < m
+abbrev pub EntriesBelow : ℕ → List ℕ → Type 0
+EntriesBelow m l = (i : ℕ) → getD l i 0 < m
 
-pub record Typed (t : Tables) : Type 0 where
-  pub ids : Below 4294967296 (t .fields .ids)
-  pub donorAntigens : Below 18446744073709551616 (t .fields .donorAntigens)
-  pub patientAntigens : Below 18446744073709551616 (t .fields .patientAntigens)
-  pub patientAntibodies : Below 18446744073709551616 (t .fields .patientAntibodies)
-  pub shuffle : Below 65536 (t .shuffle)
+pub record TablesTyped (t : Tables) : Type 0 where
+  pub ids : EntriesBelow 4294967296 (t .fields .ids)
+  pub donorAntigens : EntriesBelow 18446744073709551616 (t .fields .donorAntigens)
+  pub patientAntigens : EntriesBelow 18446744073709551616 (t .fields .patientAntigens)
+  pub patientAntibodies : EntriesBelow 18446744073709551616 (t .fields .patientAntibodies)
+  pub shuffle : EntriesBelow 65536 (t .shuffle)
+
+-- "The longest sheet has 7,410 bytes": no sheet has more, and one of 200 pairs has as many
+pub record LongestSheet : Type 0 where
+  pub most : (b : List ℕ) → FaultlessSheet b → length b ≤ 7410
+  pub reached : sheetLength 200 ≡ 7410
 
 -- "An accepted pool sheet read and written again is the same sheet"
 abbrev pub SheetComesBack : Type 0
 SheetComesBack =
     (b : List ℕ) (t : Tables) (out : List ℕ) (n : ℕ)
-    → Below 256 b
+    → EntriesBelow 256 b
     → reading b t .answer ≡ finished n
     → length b ≤ length out
     → writing n (reading b t .lent) out ≡ outcome (finished (length b)) (filled b out)
@@ -52,7 +57,7 @@ SheetComesBack =
 abbrev pub PoolComesBack : Type 0
 PoolComesBack =
     (n : ℕ) (t : Tables) (out : List ℕ) (m : ℕ) (other : Tables)
-    → Typed t
+    → TablesTyped t
     → writing n t out .answer ≡ finished m
     → TablesHold n other
     → reading (take m (writing n t out .lent)) other ≡ outcome (finished n) (filledTables (poolIn n t) other)

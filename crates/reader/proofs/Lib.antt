@@ -1,6 +1,3 @@
--- `Forward`: which fault there is, by how far the reader came. `Notes`: the ids noted on the way. `Columns`: the tables, each filled from the
--- sheet. `Answers`: what reading answers and leaves, by what was found.
-pub mod Forward
-pub mod Notes
+-- `Columns`: the tables, each filled from the sheet. `Answered`: what reading answers and leaves, by what was found.
 pub mod Columns
-pub mod Answers
+pub mod Answered

@@ -1,2 +1,3 @@
--- What reading's answers are in document 01's numbers, and what its steps ask.
-pub mod Said
+-- What reading answers in document 01's numbers, and what its steps ask.
+pub mod Answers
+pub mod Preconditions

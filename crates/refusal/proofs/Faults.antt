@@ -136,6 +136,14 @@ module _ (o : ℕ) (v : Verdict) {f : Fault} (e : faultAt o v ≡ f) where
   unfolding faultAt
   faulty-fault why s = sym e ∙ rw s
 
+-- a step whose first check found v: what is found next is the fault, or v's is
+module _ (o : ℕ) (v : Verdict) (f g : Fault) (e : faultAt o v ≡ f) where
+  pub sound-then : v ≡ Sound → {h : Fault} → h ≡ g → h ≡ (f then g)
+  sound-then s h = h ∙ sym (none-then f g (sound-none o v e s))
+
+  pub faulty-then : (why : Refusal) → v ≡ Faulty why → fault (numberOf why) o ≡ (f then g)
+  faulty-then why s = sym (fault-then f g (faulty-fault o v e why s))
+
 -- ## unless: what a call answers and leaves
 
 module _ {Result Lent : Type 0} (f : Fault) (result : Result) (new old : Lent) where

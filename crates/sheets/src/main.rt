@@ -1,6 +1,5 @@
-// Sheets to try, and what reading, writing and copying them says: document 01's example there and back, the limits, and each refusal with its
+// Sheets to try, and what reading and writing them says: document 01's example there and back, the limits, and each refusal with its
 // place. What it prints is held to the file 'stdout'. Every lent entry holds 99 before a call.
-use copies::Copy;
 use reader::Reading;
 use writer::Writing;
 ghost use Prim.Native.Nat.{_≤_};
@@ -283,17 +282,50 @@ fn try_writing(name: &[u8], n: usize, blood: u8, id: u32, number: u16, out: &mut
     print_bytes(out);
 }
 
-// Copies a sheet by way of tables, and compares.
-fn try_copying(name: &[u8], sheet: &[u8], out: &mut [u8]) {
-    let answer = copies::copy_sheet(sheet, out);
-    print(name);
-    match answer {
-        Copy::Made(n) => {
-            print_number(n as u64);
-            print(b" bytes");
-        }
-        Copy::Refused(why, place) => print_refusal(why, place),
+// Writes the sheet's pool again, from the tables that it was read into.
+fn write_again(sheet: &[u8], out: &mut [u8]) {
+    let mut ids = [99u32; 200];
+    let mut donor_blood = [99u8; 200];
+    let mut patient_blood = [99u8; 200];
+    let mut donor_age = [99u8; 200];
+    let mut patient_age = [99u8; 200];
+    let mut donor_antigens = [99u64; 200];
+    let mut patient_antigens = [99u64; 200];
+    let mut patient_antibodies = [99u64; 200];
+    let mut shuffle = [99u16; 200];
+    match reader::read(
+        sheet,
+        &mut ids,
+        &mut donor_blood,
+        &mut patient_blood,
+        &mut donor_age,
+        &mut patient_age,
+        &mut donor_antigens,
+        &mut patient_antigens,
+        &mut patient_antibodies,
+        &mut shuffle,
+    ) {
+        Reading::Refused(why, place) => print_refusal(why, place),
+        Reading::Pairs(n) => print_writing(writer::write(
+            n,
+            &ids,
+            &donor_blood,
+            &patient_blood,
+            &donor_age,
+            &patient_age,
+            &donor_antigens,
+            &patient_antigens,
+            &patient_antibodies,
+            &shuffle,
+            out,
+        )),
     }
+}
+
+// Reads a sheet, writes it again, and compares.
+fn try_round_trip(name: &[u8], sheet: &[u8], out: &mut [u8]) {
+    print(name);
+    write_again(sheet, out);
     if check::same(sheet, out) {
         print(b", the same");
     }
@@ -347,12 +379,12 @@ fn try_limits() {
     try_greatest();
 }
 
-fn try_copies() {
+fn try_round_trips() {
     let example = EXAMPLE;
     let mut out = [99u8; 84];
-    try_copying(b"copied:", &example[..84], &mut out);
+    try_round_trip(b"copied:", &example[..84], &mut out);
     let mut short = [99u8; 83];
-    try_copying(b"copied into 83 bytes:", &example[..84], &mut short);
+    try_round_trip(b"copied into 83 bytes:", &example[..84], &mut short);
 }
 
 fn try_refusals() {
@@ -394,7 +426,7 @@ fn try_pools() {
 
 fn main() {
     try_changed(b"the example:", 0, 1, 84);
-    try_copies();
+    try_round_trips();
     try_limits();
     try_refusals();
     try_more_refusals();

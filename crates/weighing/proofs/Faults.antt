@@ -19,14 +19,14 @@ use Rattle.pool.specs.Faultless.{FieldsHold}
 use Rattle.pool.proofs.Rooms.{fieldRoom-hold, hold-fieldRoom}
 use Rattle.pool.proofs.Reading.{room-none, room-passed, room-fault}
 use Rattle.pool.proofs.Writing.{pairs-none, pairs-passed, pairs-fault}
-use Rattle.checks.specs.Agree.{Spaced}
+use Rattle.checks.specs.Preconditions.{TablesHaveRoom}
 use Rattle.graph.specs.Graph.{Graph}
 use Rattle.weighing.specs.Building.{buildFault}
 use Rattle.weighing.specs.Promises.{FaultlessFields, Fit, BuildFault}
 
 -- the shortest of the tables is the shortest of those that are looked at, or shorter
 pub spaced-fields : (space : ℕ) (f : Fields) → space ≡ fieldRoom f
-    → Spaced space (f .ids) (f .donorBlood) (f .patientBlood) (f .donorAge) (f .patientAge)
+    → TablesHaveRoom space (f .ids) (f .donorBlood) (f .patientBlood) (f .donorAge) (f .patientAge)
 spaced-fields space f e =
     let h = fieldRoom-hold space f (rw e (le-refl (fieldRoom f))) in
     record {

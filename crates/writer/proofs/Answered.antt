@@ -23,11 +23,11 @@ use Rattle.pool.proofs.Lengths.{length-sheetIn}
 use Rattle.pool.proofs.Writing.{pool-passed, writing-none, writes-rightly}
 use Rattle.writer.specs.declared.Writing.{Writing}
 use Rattle.writer.specs.declared.Writing.the-variants.{Length, Refused}
-use Rattle.writer.specs.Said.{said}
+use Rattle.writer.specs.Answers.{answerOf}
 
 module _ (n : ℕ) (t : Tables) (out : List ℕ) (found : Verdict) (e : faultAt 0 found ≡ poolFault n t) where
-  pub answered-fault : (why : Refusal) → found ≡ Faulty why → outcome (said (Refused why)) out ≡ writing n t out
-  unfolding said writing
+  pub answered-fault : (why : Refusal) → found ≡ Faulty why → outcome (answerOf (Refused why)) out ≡ writing n t out
+  unfolding answerOf writing
   answered-fault why f = sym (unless-fault _ _ _ _ (numberOf why) 0 (fault-then _ _ (faulty-fault 0 found e why f)))
 
   module _ (f : found ≡ Sound) where
@@ -35,21 +35,21 @@ module _ (n : ℕ) (t : Tables) (out : List ℕ) (found : Verdict) (e : faultAt 
     answered-faultless = pool-passed n t (sound-none 0 found e f)
 
     module _ (long : ℕ) (g : long ≡ sheetLength n) where
-      pub answered-short : length out < long → outcome (said (Refused TooShort)) out ≡ writing n t out
-      unfolding said writing roomFault
+      pub answered-short : length out < long → outcome (answerOf (Refused TooShort)) out ≡ writing n t out
+      unfolding answerOf writing roomFault
       answered-short l =
           sym
           (unless-fault _ _ _ _ 9 0
           (none-then _ _ (sound-none 0 found e f) ∙ fault-refuse 9 0 _ (lt-ltb (length out) _ (rw (length-sheetIn n t) (omega arith)))))
 
-      pub answered-written : (new : List ℕ) → long ≤ length out → new ≡ filled (sheetOf (poolIn n t)) out → outcome (said (Length long)) new ≡ writing n t out
-      unfolding said
+      pub answered-written : (new : List ℕ) → long ≤ length out → new ≡ filled (sheetOf (poolIn n t)) out → outcome (answerOf (Length long)) new ≡ writing n t out
+      unfolding answerOf
       answered-written new l h =
           ap₂ (λ (k : ℕ) (b : List ℕ). outcome (finished k) b) (g ∙ sym (length-sheetIn n t)) h
           ∙ sym (writing-none n t out answered-faultless (omega arith))
 
 -- what is answered as the definition says keeps the promise
-pub answered-rightly : (n : ℕ) (t : Tables) (out new : List ℕ) (r : Writing) → outcome (said r) new ≡ writing n t out → WritesRightly n t (length out) (said r)
+pub answered-rightly : (n : ℕ) (t : Tables) (out new : List ℕ) (r : Writing) → outcome (answerOf r) new ≡ writing n t out → WritesRightly n t (length out) (answerOf r)
 answered-rightly n t out new r e =
-    let a : said r ≡ writing n t out .answer = ap (λ (o : Outcome ℕ (List ℕ)). o .answer) e in
+    let a : answerOf r ≡ writing n t out .answer = ap (λ (o : Outcome ℕ (List ℕ)). o .answer) e in
     rw a (writes-rightly n t out)

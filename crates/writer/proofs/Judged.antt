@@ -12,7 +12,7 @@ use Rattle.pool.specs.Tables.{Tables, fieldRoom, room, pairIn}
 use Rattle.pool.specs.Faults.{pairsFault, shuffleFault, poolFault}
 use Rattle.pool.proofs.Rooms.{room-hold}
 use Rattle.pool.proofs.Writing.{pairs-passed}
-use Rattle.checks.specs.Agree.{Spaced}
+use Rattle.checks.specs.Preconditions.{TablesHaveRoom}
 
 -- ## The shortest table
 
@@ -21,7 +21,7 @@ unfolding room
 shortest-room t held shortest e f = f ∙ ap (λ (k : ℕ). min k (length (t .shuffle))) e
 
 pub room-spaced : (t : Tables) (space : ℕ) → space ≡ room t
-    → Spaced space (t .fields .ids) (t .fields .donorBlood) (t .fields .patientBlood) (t .fields .donorAge) (t .fields .patientAge)
+    → TablesHaveRoom space (t .fields .ids) (t .fields .donorBlood) (t .fields .patientBlood) (t .fields .donorAge) (t .fields .patientAge)
 room-spaced t space e =
     let h = room-hold space t (omega arith) .fields in
     record { inIds = h .ids; inDonorBlood = h .donorBlood; inPatientBlood = h .patientBlood; inDonorAge = h .donorAge; inPatientAge = h .patientAge }

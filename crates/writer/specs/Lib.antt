@@ -1,2 +1,2 @@
--- What writing's answers are in document 01's numbers, and what its steps write.
-pub mod Said
+-- What writing answers in document 01's numbers.
+pub mod Answers

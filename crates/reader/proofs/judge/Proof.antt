@@ -8,9 +8,9 @@ use Rattle.refusal.specs.Fault.{none}
 use Rattle.pool.specs.Sheet.{pairsIn}
 use Rattle.pool.specs.Faults.{sheetFault}
 use Rattle.pool.proofs.Reading.{sheet-passed}
-use Rattle.reader.specs.Said.{said}
-use Rattle.reader.proofs.Forward.{nothing-none, found-fault}
-use Rattle.reader.proofs.Answers.{answers-fault, answers-short, answers-pairs}
+use Rattle.reader.specs.Answers.{answerOf}
+use Rattle.scan.proofs.Sheet.{nothing-none, found-fault}
+use Rattle.reader.proofs.Answered.{answers-fault, answers-short, answers-pairs}
 use Rattle.reader.proofs.judge.Statement.{statement}
 use Rattle.reader.proofs.judge.Tie as tie
 
@@ -28,18 +28,18 @@ enum-told : tie.Need-enum-told
 enum-told c = search needs
 
 number-requires : tie.Need-number-requires
-number-requires c κs = (lit≤ tt, sheet-passed _ (passed c) .head .whole)
+number-requires c κs = (lit≤ tt, sheet-passed _ (passed c) .head .field .whole)
 
 returns : tie.Need-returns
-unfolding said
+unfolding answerOf
 returns c = λ t e. answers-fault _ t (found-fault _ (c .before .before .before .check .ensures) _ _ (c .before .why .given .1))
 
 returns-2 : tie.Need-returns-2
-unfolding said pairsIn
+unfolding answerOf pairsIn
 returns-2 c = λ t e. answers-short _ t (passed (c .before .before)) (omega (arith, c .if1 .taken))
 
 returns-3 : tie.Need-returns-3
-unfolding said pairsIn
+unfolding answerOf pairsIn
 returns-3 c =
     λ t e.
     ap finished (c .before .number .ensures) ∙ answers-pairs _ t (passed (c .before .before)) (omega (arith, c .if1 .left))

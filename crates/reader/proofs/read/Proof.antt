@@ -5,8 +5,8 @@ use borrow.Author.Needs.{needs}
 use lib.ListN.{length}
 use Rattle.pool.specs.Tables.{Tables, fields, tables, fieldRoom, room}
 use Rattle.pool.specs.Calls.{reading}
-use Rattle.reader.specs.Said.{said}
-use Rattle.reader.proofs.Answers.{refused-leaves, finished-leaves, fillable, rightly}
+use Rattle.reader.specs.Answers.{answerOf}
+use Rattle.reader.proofs.Answered.{refused-leaves, finished-leaves, fillable, rightly}
 use Rattle.reader.proofs.read.Statement.{statement}
 use Rattle.reader.proofs.read.Tie as tie
 
@@ -23,7 +23,7 @@ lent s =
     (a .shuffle .now)
 
 -- what was judged is the answer
-answers : (c : tie.After-judge) → said (c .judge .result) ≡ reading (start c .args .sheet .now) (lent (start c)) .answer
+answers : (c : tie.After-judge) → answerOf (c .judge .result) ≡ reading (start c .args .sheet .now) (lent (start c)) .answer
 unfolding room fieldRoom
 answers c =
     c .judge .ensures (lent (start c))

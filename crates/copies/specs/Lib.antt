@@ -1,2 +1,0 @@
--- What a copy of a sheet and a copy of a pool are.
-pub mod Copies

@@ -1,0 +1,83 @@
+-- `encoding::put_numbers` meets its contract. The invariant: j numbers of two bytes are written from `at` on. Assumes nothing.
+use Prim.Native.Nat.{_-_, _≤_}
+use native.Mathlib.Omega.{arith}
+use borrow.Author.Needs.{needs}
+use lib.ListN.{getD}
+use Rattle.laws.specs.Digits.{bytes}
+use Rattle.laws.proofs.Digits.{length-bytes}
+use Rattle.laws.proofs.Lent.{Pieces, pieces-none, pieces-more, pieces-all}
+use Rattle.encoding.proofs.put_numbers.Statement.{statement}
+use Rattle.encoding.proofs.put_numbers.Tie as tie
+
+abbrev Inv-loop : tie.InvT-loop
+Inv-loop out₀ at n shuffle j₀ out j = (j ≤ n) × Pieces at j (bytes 2) (λ k. getD shuffle k 0) out₀ out
+
+abbrev μ-loop : tie.MeasureT-loop
+μ-loop out₀ at n shuffle j₀ out j = n - j
+
+loop-holds : tie.Need-loop-holds Inv-loop μ-loop
+loop-holds c = (omega arith, pieces-none _ (bytes 2) _ _)
+
+mul-put : tie.Need-mul-put Inv-loop μ-loop
+mul-put c = search needs
+
+add-put : tie.Need-add-put Inv-loop μ-loop
+add-put c = search needs
+
+mul-put-2 : tie.Need-mul-put-2 Inv-loop μ-loop
+mul-put-2 c = search needs
+
+shared-slice-read-put : tie.Need-shared-slice-read-put Inv-loop μ-loop
+shared-slice-read-put c = search needs
+
+cast-put : tie.Need-cast-put Inv-loop μ-loop
+cast-put c = omega (arith, c .shared-slice-known2 .given (c .before .before .before .loop .j))
+
+put-requires : tie.Need-put-requires Inv-loop μ-loop
+put-requires c κs = search needs
+
+add-j : tie.Need-add-j Inv-loop μ-loop
+add-j c = search needs
+
+loop-less : tie.Need-loop-less Inv-loop μ-loop
+loop-less c = search needs
+
+loop-again : tie.Need-loop-again Inv-loop μ-loop
+loop-again c =
+    let after = c .before .before in
+    let turn = after .before .before .before in
+    let l = turn .before .loop in
+    let s = turn .before .before .before .before in (
+      omega (arith, turn .loop-test .taken),
+      pieces-more (s .args .at) (bytes 2) (λ k. getD (s .args .shuffle .now) k 0) (s .args .out .now) 2 (l .j) (l .out) _ (length-bytes 2)
+          (omega arith) (l .inv .1) (after .put .ensures) (after .put .kept .0),
+    )
+
+same-length : tie.Need-same-length Inv-loop μ-loop
+same-length c = c .before .loop .inv .1 .kept
+
+returns : tie.Need-returns Inv-loop μ-loop
+returns c =
+    let l = c .before .loop in
+    let s = c .before .before .before .before in
+    pieces-all (s .args .at) (bytes 2) (λ k. getD (s .args .shuffle .now) k 0) (s .args .out .now) (l .j) (s .args .n) (l .out) (l .inv .1)
+    (omega arith)
+
+pub put-numbers-spec : {M : Type 1} → statement M
+put-numbers-spec =
+    tie.close
+    (tie.spec
+    Inv-loop
+    μ-loop
+    loop-holds
+    mul-put
+    add-put
+    mul-put-2
+    shared-slice-read-put
+    cast-put
+    put-requires
+    add-j
+    loop-less
+    loop-again
+    same-length
+    returns)

@@ -1,0 +1,2 @@
+-- `Fields`: which fault a field or the head has, by how far the check came.
+pub mod Fields

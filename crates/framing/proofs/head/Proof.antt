@@ -1,0 +1,72 @@
+-- `framing::head` meets its contract. Assumes nothing.
+use Prim.Native.Nat.{_≤_}
+use mathlib.Core.Path.{_≡_, sym, _∙_}
+use native.Mathlib.Omega.{arith}
+use borrow.Author.Needs.{needs}
+use lib.Dec.{lit≤}
+use lib.ListN.{length}
+use Rattle.refusal.specs.Fault.{none}
+use Rattle.refusal.specs.Number.{faultAt}
+use Rattle.refusal.proofs.Faults.{sound-none, faulty-then}
+use Rattle.pool.specs.Sheet.{headTag, headLength, firstPair, pairsIn}
+use Rattle.pool.specs.Faults.{fieldFault, headFault}
+use Rattle.pool.proofs.Fields.{field-passed}
+use Rattle.framing.proofs.Fields.{other-version, too-many, head-none}
+use Rattle.framing.proofs.head.Statement.{statement}
+use Rattle.framing.proofs.head.Tie as tie
+
+-- past the match, the field has no fault
+passed : (c : tie.After-enum-told) → fieldFault (c .before .before .before .before .args .b .now) 0 headTag headLength ≡ none
+passed c = sound-none 0 _ (c .before .before .field .ensures) (c .enum-told .given .1)
+
+whole : (c : tie.After-enum-told) → firstPair ≤ length (c .before .before .before .before .args .b .now)
+whole c = field-passed _ _ _ _ (passed c) .whole
+
+field-requires : tie.Need-field-requires
+field-requires c κs = search needs
+
+enum-known-why : tie.Need-enum-known-why
+enum-known-why c = search needs
+
+returns : tie.Need-returns
+unfolding faultAt headFault
+returns c = faulty-then 0 _ _ _ (c .before .before .before .field .ensures) _ (c .before .why .given .1)
+
+enum-told : tie.Need-enum-told
+enum-told c = search needs
+
+number-requires : tie.Need-number-requires
+number-requires c κs = (lit≤ tt, omega (arith, whole c))
+
+returns-2 : tie.Need-returns-2
+unfolding faultAt
+returns-2 c = sym (other-version _ (passed (c .before .before)) (λ e. c .if1 .taken (c .before .number .ensures ∙ e)))
+
+number-requires-2 : tie.Need-number-requires-2
+number-requires-2 c κs = (lit≤ tt, whole (c .before .before))
+
+returns-3 : tie.Need-returns-3
+unfolding faultAt pairsIn
+returns-3 c =
+    let d = c .before .before in
+    sym (too-many _ (passed (d .before .before)) (sym (d .before .number .ensures) ∙ d .if1 .left) (omega arith))
+
+returns-4 : tie.Need-returns-4
+unfolding faultAt pairsIn
+returns-4 c =
+    let d = c .before .before in
+    sym (head-none _ (passed (d .before .before)) (sym (d .before .number .ensures) ∙ d .if1 .left) (omega arith))
+
+pub head-spec : {M : Type 1} → statement M
+head-spec =
+    tie.close
+    (tie.spec
+    field-requires
+    enum-known-why
+    returns
+    enum-told
+    number-requires
+    returns-2
+    number-requires-2
+    returns-3
+    returns-4)

@@ -1,0 +1,3 @@
+-- What a search found in document 01's numbers, and what its steps ask.
+pub mod Answers
+pub mod Preconditions
