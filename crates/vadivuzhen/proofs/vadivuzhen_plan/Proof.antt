@@ -9,7 +9,7 @@ use Rattle.refusal.specs.Answer.{finished, outcome}
 use Rattle.exchange.specs.Promises.{Guarantee}
 use Rattle.planner.specs.Said.{answerOf, answerOf as Planner·answerOf}
 use Rattle.numbers.proofs.Own.{plan-numbered}
-use Rattle.vadivuzhen.proofs.Kept.{kept-plan}
+use Rattle.vadivuzhen.proofs.Exported.{kept-plan}
 use Rattle.records.specs.declared.Cycle.{Cycle}
 use Rattle.records.proofs.Cycle as Cycle-row
 use Rattle.records.proofs.Cycle.Laws as Cycle-laws
