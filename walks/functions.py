@@ -122,7 +122,7 @@ WALKS = [
         'kept-plan e2 (plan-numbered _) e1 .1 .1',
     ], [
         'use Rattle.numbers.proofs.Own.{plan-numbered}',
-        'use Rattle.vadivuzhen.proofs.Kept.{kept-plan}',
+        'use Rattle.vadivuzhen.proofs.Exported.{kept-plan}',
     ]),
 
     Walk('pools', 'plan', 22, [

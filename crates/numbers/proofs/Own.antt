@@ -1,5 +1,5 @@
--- The promises of the numbers: no two answers have the same, and what each call answers is such an answer. Assumes nothing.
-use mathlib.Core.Path.{_≡_, refl, ap}
+-- The promises of the numbers: what each call answers has a number and place as they ask, and no two such answers have the same numbers. Assumes nothing.
+use mathlib.Core.Path.{_≡_, refl, sym, ap}
 use Prim.Native.Nat.{ℕ, _≤_}
 use native.Mathlib.Omega.{arith}
 use Rattle.refusal.specs.Answer.{Answer, finished, refused}
@@ -26,52 +26,6 @@ use Rattle.printout.specs.declared.Printing.the-variants as Printing
 use Rattle.numbers.specs.declared.PlanAnswer.{PlanAnswer}
 use Rattle.numbers.specs.Numbers.{readNumbers, writeNumbers, buildNumbers, planNumbers, printNumbers}
 use Rattle.numbers.specs.Promises.{Numbered, NumberedAt0, Own, OneAnswer}
-
--- ## No two answers have the same numbers
-
-own-read : Own Numbered readNumbers
-unfolding readNumbers
-own-read (finished m) (finished n) p q e = ap (λ x. finished (x .pairs)) e
-own-read (finished m) (refused k o) p q e = absurd (let h = q k o refl in let z = ap (λ x. x .refusal) e in omega arith)
-own-read (refused k o) (finished n) p q e = absurd (let h = p k o refl in let z = ap (λ x. x .refusal) e in omega arith)
-own-read (refused k o) (refused l u) p q e = ap (λ x. refused (x .refusal) (x .place)) e
-
-same-refusal : {Result : Type 0} {k l o u at : ℕ} → k ≡ l → o ≡ at → u ≡ at → _≡_ {A = Answer Result} (refused k o) (refused l u)
-same-refusal e f g = cc
-
-own-write : Own NumberedAt0 writeNumbers
-unfolding writeNumbers
-own-write (finished m) (finished n) p q e = ap (λ x. finished (x .length)) e
-own-write (finished m) (refused k o) p q e = absurd (let h = q k o refl .0 in let z = ap (λ x. x .refusal) e in omega arith)
-own-write (refused k o) (finished n) p q e = absurd (let h = p k o refl .0 in let z = ap (λ x. x .refusal) e in omega arith)
-own-write (refused k o) (refused l u) p q e = same-refusal (ap (λ x. x .refusal) e) (p k o refl .1) (q l u refl .1)
-
-own-build : Own NumberedAt0 buildNumbers
-unfolding buildNumbers
-own-build (finished u) (finished v) p q e = refl
-own-build (finished m) (refused k o) p q e = absurd (let h = q k o refl .0 in let z = ap (λ x. x .refusal) e in omega arith)
-own-build (refused k o) (finished n) p q e = absurd (let h = p k o refl .0 in let z = ap (λ x. x .refusal) e in omega arith)
-own-build (refused k o) (refused l u) p q e = same-refusal (ap (λ x. x .refusal) e) (p k o refl .1) (q l u refl .1)
-
-planIn : PlanAnswer → Plan
-planIn r = plan (r .weight) (r .cycles) (tally (r .comparisons) (r .products) (r .rounds))
-
-own-plan : Own NumberedAt0 planNumbers
-unfolding planNumbers planIn
-own-plan (finished m) (finished n) p q e = ap (λ x. finished (planIn x)) e
-own-plan (finished m) (refused k o) p q e = absurd (let h = q k o refl .0 in let z = ap (λ x. x .refusal) e in omega arith)
-own-plan (refused k o) (finished n) p q e = absurd (let h = p k o refl .0 in let z = ap (λ x. x .refusal) e in omega arith)
-own-plan (refused k o) (refused l u) p q e = same-refusal (ap (λ x. x .refusal) e) (p k o refl .1) (q l u refl .1)
-
-own-print : Own NumberedAt0 printNumbers
-unfolding printNumbers
-own-print (finished m) (finished n) p q e = ap (λ x. finished (x .length)) e
-own-print (finished m) (refused k o) p q e = absurd (let h = q k o refl .0 in let z = ap (λ x. x .refusal) e in omega arith)
-own-print (refused k o) (finished n) p q e = absurd (let h = p k o refl .0 in let z = ap (λ x. x .refusal) e in omega arith)
-own-print (refused k o) (refused l u) p q e = same-refusal (ap (λ x. x .refusal) e) (p k o refl .1) (q l u refl .1)
-
-pub one-answer : OneAnswer
-one-answer = record { read = own-read; write = own-write; build = own-build; plan = own-plan; print = own-print }
 
 -- ## What each call answers
 
@@ -117,3 +71,52 @@ pub print-numbered : (r : Printing) → NumberedAt0 (Printout.answerOf r)
 unfolding Printout.answerOf
 print-numbered (Printing.Length n) = of-finished n
 print-numbered (Printing.Refused why) = at-0 why
+
+-- ## No two answers have the same numbers
+
+not-0 : {A : Type 0} {k : ℕ} → 1 ≤ k → 0 ≡ k → A
+not-0 h e = absurd (omega arith)
+
+own-read : Own Numbered readNumbers
+unfolding readNumbers
+own-read (finished m) (finished n) p q e = ap (λ x. finished (x .pairs)) e
+own-read (finished m) (refused k o) p q e = not-0 (q k o refl) (ap (λ x. x .refusal) e)
+own-read (refused k o) (finished n) p q e = not-0 (p k o refl) (sym (ap (λ x. x .refusal) e))
+own-read (refused k o) (refused l u) p q e = ap (λ x. refused (x .refusal) (x .place)) e
+
+same-refusal : {Result : Type 0} {k l o u at : ℕ} → k ≡ l → o ≡ at → u ≡ at → _≡_ {A = Answer Result} (refused k o) (refused l u)
+same-refusal e f g = cc
+
+own-write : Own NumberedAt0 writeNumbers
+unfolding writeNumbers
+own-write (finished m) (finished n) p q e = ap (λ x. finished (x .length)) e
+own-write (finished m) (refused k o) p q e = not-0 (q k o refl .0) (ap (λ x. x .refusal) e)
+own-write (refused k o) (finished n) p q e = not-0 (p k o refl .0) (sym (ap (λ x. x .refusal) e))
+own-write (refused k o) (refused l u) p q e = same-refusal (ap (λ x. x .refusal) e) (p k o refl .1) (q l u refl .1)
+
+own-build : Own NumberedAt0 buildNumbers
+unfolding buildNumbers
+own-build (finished u) (finished v) p q e = refl
+own-build (finished m) (refused k o) p q e = not-0 (q k o refl .0) (ap (λ x. x .refusal) e)
+own-build (refused k o) (finished n) p q e = not-0 (p k o refl .0) (sym (ap (λ x. x .refusal) e))
+own-build (refused k o) (refused l u) p q e = same-refusal (ap (λ x. x .refusal) e) (p k o refl .1) (q l u refl .1)
+
+planGiven : PlanAnswer → Plan
+planGiven r = plan (r .weight) (r .cycles) (tally (r .comparisons) (r .products) (r .rounds))
+
+own-plan : Own NumberedAt0 planNumbers
+unfolding planNumbers planGiven
+own-plan (finished m) (finished n) p q e = ap (λ x. finished (planGiven x)) e
+own-plan (finished m) (refused k o) p q e = not-0 (q k o refl .0) (ap (λ x. x .refusal) e)
+own-plan (refused k o) (finished n) p q e = not-0 (p k o refl .0) (sym (ap (λ x. x .refusal) e))
+own-plan (refused k o) (refused l u) p q e = same-refusal (ap (λ x. x .refusal) e) (p k o refl .1) (q l u refl .1)
+
+own-print : Own NumberedAt0 printNumbers
+unfolding printNumbers
+own-print (finished m) (finished n) p q e = ap (λ x. finished (x .length)) e
+own-print (finished m) (refused k o) p q e = not-0 (q k o refl .0) (ap (λ x. x .refusal) e)
+own-print (refused k o) (finished n) p q e = not-0 (p k o refl .0) (sym (ap (λ x. x .refusal) e))
+own-print (refused k o) (refused l u) p q e = same-refusal (ap (λ x. x .refusal) e) (p k o refl .1) (q l u refl .1)
+
+pub one-answer : OneAnswer
+one-answer = record { read = own-read; write = own-write; build = own-build; plan = own-plan; print = own-print }

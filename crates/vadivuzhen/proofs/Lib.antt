@@ -1,2 +1,2 @@
--- `Kept`: an exported call keeps what the library's call promised.
-pub mod Kept
+-- `Exported`: an exported call keeps what the library's call promised.
+pub mod Exported

@@ -1,6 +1,6 @@
 -- `vadivuzhen::vadivuzhen_build` meets its contract: it answers what `build` answered, in numbers. Assumes nothing.
 use Rattle.numbers.proofs.Own.{build-numbered}
-use Rattle.vadivuzhen.proofs.Kept.{kept-built}
+use Rattle.vadivuzhen.proofs.Exported.{kept-built}
 use borrow.Author.Needs.{needs}
 use Rattle.vadivuzhen.proofs.vadivuzhen_build.Statement.{statement}
 use Rattle.vadivuzhen.proofs.vadivuzhen_build.Tie as tie

@@ -3,7 +3,7 @@ use Rattle.printout.specs.Promises.{PrintsPlan}
 use Rattle.numbers.specs.Numbers.{printNumbers}
 use Rattle.numbers.specs.Promises.{NumberedAt0}
 use Rattle.numbers.proofs.Own.{print-numbered}
-use Rattle.vadivuzhen.proofs.Kept.{kept}
+use Rattle.vadivuzhen.proofs.Exported.{kept}
 use borrow.Author.Needs.{needs}
 use Rattle.vadivuzhen.proofs.vadivuzhen_print_plan.Statement.{statement}
 use Rattle.vadivuzhen.proofs.vadivuzhen_print_plan.Tie as tie

@@ -3,7 +3,7 @@ use Rattle.pool.specs.Promises.{ReadsRightly}
 use Rattle.numbers.specs.Numbers.{readNumbers}
 use Rattle.numbers.specs.Promises.{Numbered}
 use Rattle.numbers.proofs.Own.{read-numbered}
-use Rattle.vadivuzhen.proofs.Kept.{kept}
+use Rattle.vadivuzhen.proofs.Exported.{kept}
 use borrow.Author.Needs.{needs}
 use Rattle.vadivuzhen.proofs.vadivuzhen_read.Statement.{statement}
 use Rattle.vadivuzhen.proofs.vadivuzhen_read.Tie as tie

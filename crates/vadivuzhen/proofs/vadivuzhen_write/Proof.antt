@@ -3,7 +3,7 @@ use Rattle.pool.specs.Promises.{WritesRightly}
 use Rattle.numbers.specs.Numbers.{writeNumbers}
 use Rattle.numbers.specs.Promises.{NumberedAt0}
 use Rattle.numbers.proofs.Own.{write-numbered}
-use Rattle.vadivuzhen.proofs.Kept.{kept}
+use Rattle.vadivuzhen.proofs.Exported.{kept}
 use borrow.Author.Needs.{needs}
 use Rattle.vadivuzhen.proofs.vadivuzhen_write.Statement.{statement}
 use Rattle.vadivuzhen.proofs.vadivuzhen_write.Tie as tie
