@@ -26,7 +26,7 @@ use Rattle.cursor.proofs.Number.{six-times}
 use Rattle.printout.specs.Printed as Printed
 use Rattle.printout.specs.Printed.{planText}
 use Rattle.printout.specs.Calls.{printingPlan}
-use Rattle.printout.specs.Answers.{answerOf}
+use Rattle.printout.specs.Answers.{answerOf as Printout·answerOf}
 use Rattle.partners.specs.Preconditions.{PlanTablesHold}
 use Rattle.printout.specs.Promises.{planRoom, PrintsPlan}
 use Rattle.printout.specs.declared.Printing.{Printing}
@@ -166,8 +166,8 @@ module _ (n : ℕ) (M W s a b : List ℕ) (q : Planned) (d r : List ℕ) (w : Pa
         let p : Plan = w .result i in
         Printed.printedPlan n (p .cycles) (p .weight) ids (first-donors i) (first-recipients i) (p .tally .comparisons) (p .tally .products) (p .tally .rounds)
 
-    module _ (out new : List ℕ) (l : length out ≡ planRoom most) (x : Printing) (e : outcome (answerOf x) new ≡ printingPlan madePlan out)
-        (u : PrintsPlan madePlan (length out) (answerOf x)) where
+    module _ (out new : List ℕ) (l : length out ≡ planRoom most) (x : Printing) (e : outcome (Printout·answerOf x) new ≡ printingPlan madePlan out)
+        (u : PrintsPlan madePlan (length out) (Printout·answerOf x)) where
       hold : PlanTablesHold n ids (take n d) (take n r)
       hold = record { ids = held; donors = omega (arith, length-donors); recipients = omega (arith, length-recipients) }
 
