@@ -1,10 +1,10 @@
 -- `scan::check` meets its contract. Assumes nothing.
 use Prim.Native.Nat.{_≤_}
-use mathlib.Core.Path.{_≡_}
+use mathlib.Core.Path.{_≡_, ap, _∙_}
 use native.Mathlib.Omega.{arith}
 use borrow.Author.Needs.{needs}
 use lib.Dec.{lit≤}
-use Rattle.refusal.specs.Fault.{none, firstBelow}
+use Rattle.refusal.specs.Fault.{none, fault, firstBelow}
 use Rattle.refusal.proofs.Faults.{sound-none, faulty-fault}
 use Rattle.pool.specs.Sheet.{pairsIn}
 use Rattle.pool.specs.Faults.{headFault, pairFieldFault, shuffleFieldFault}
@@ -104,8 +104,8 @@ returns-4 c =
     let d = w .before in
     let e = d .before .before .before .before in
     let n = e .before .before .before in
-    rw (w .sheet-length .ensures)
-    (left-over _ _ (many n) (no-head (n .before)) (no-pairs e) (no-shuffle d) (omega (arith, w .sheet-length .ensures, c .if1 .taken)))
+    ap (fault 5) (w .sheet-length .ensures)
+    ∙ left-over _ _ (many n) (no-head (n .before)) (no-pairs e) (no-shuffle d) (omega (arith, w .sheet-length .ensures, c .if1 .taken))
 
 returns-5 : tie.Need-returns-5
 unfolding foundFault
