@@ -101,10 +101,10 @@ module _ (n : ℕ) (M W s weights choices donors recipients : List ℕ) (asked :
     }
 
     module _ (found : Resolved) (ds rs : List ℕ)
-        (f : (found ≡ resolvedCycles n M W (cyclesOf n M W s again)) × (ds ≡ donorTable n (cyclesOf n M W s again)) × (rs ≡ recipientTable n (cyclesOf n M W s again))) where
-      cycles-are : cyclesOf n M W s again ≡ plannedBy (q n M W s)
+        (f : (found ≡ resolvedCycles n M W (cyclesOf (upToThree n) M W s again)) × (ds ≡ donorTable n (cyclesOf (upToThree n) M W s again)) × (rs ≡ recipientTable n (cyclesOf (upToThree n) M W s again))) where
+      cycles-are : cyclesOf (upToThree n) M W s again ≡ plannedBy (q n M W s)
       unfolding plannedBy
-      cycles-are = ap (cyclesOf n M W s) (choices-again ∙ choices-are)
+      cycles-are = ap (cyclesOf (upToThree n) M W s) (choices-again ∙ choices-are)
 
       found-is : found ≡ resolvedCycles n M W (plannedBy (q n M W s))
       found-is = f .0 ∙ ap (resolvedCycles n M W) cycles-are

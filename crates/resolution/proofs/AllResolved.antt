@@ -39,7 +39,7 @@ empty-yet n c e = ap (λ (x : Cycle). record { weight = 0; cycles = 0; records =
 module _ (n : ℕ) (M W s : List ℕ) (typed : (i : ℕ) → getD W i 0 < 2 ^ 16) (choice : ℕ) (r : Resolved) (donors recipients : List ℕ)
     (asked : One n M W s r donors recipients) where
   -- none was chosen
-  pub none : subsetCount (upToThree n) ≤ choice → Added n M W (cyclesOf n M W s (choice ∷ [])) r donors recipients r donors recipients
+  pub none : subsetCount (upToThree n) ≤ choice → Added n M W (cyclesOf (upToThree n) M W s (choice ∷ [])) r donors recipients r donors recipients
   unfolding total given received flatMap
   none h =
       subst (λ (cs : List (List ℕ)). Added n M W cs r donors recipients r donors recipients) (sym (none-chosen (entry M n) (entry W n) s (order (upToThree n)) choice h))
@@ -101,7 +101,7 @@ module _ (n : ℕ) (M W s : List ℕ) (typed : (i : ℕ) → getD W i 0 < 2 ^ 16
 
       pub added : (r′ : Resolved) (donors′ recipients′ : List ℕ) → r′ ≡ withCycle r g
           → (recipients′ ≡ given (edges (pairsOf n (g .cycle))) recipients) × (donors′ ≡ received (edges (pairsOf n (g .cycle))) donors)
-          → Added n M W (cyclesOf n M W s (choice ∷ [])) r donors recipients r′ donors′ recipients′
+          → Added n M W (cyclesOf (upToThree n) M W s (choice ∷ [])) r donors recipients r′ donors′ recipients′
       unfolding total
       added r′ donors′ recipients′ er es =
           subst (λ (cs : List (List ℕ)). Added n M W cs r donors recipients r′ donors′ recipients′) (sym (one-chosen (entry M n) (entry W n) s (order (upToThree n)) choice h))
@@ -135,7 +135,7 @@ module _ (n : ℕ) (M W s : List ℕ) (readable : Readable n M W) (shuffled : Sh
     between = cyclic-between n _ (chosen-cyclic n (entry M n) (entry W n) s shuffled choice (readable .few) h);
   }
 
-  little : (choice : ℕ) → Little n M W (cyclesOf n M W s (choice ∷ []))
+  little : (choice : ℕ) → Little n M W (cyclesOf (upToThree n) M W s (choice ∷ []))
   little choice = elim (decLt choice (subsetCount (upToThree n))) [
     | yes h ↦ subst (Little n M W) (sym (one-chosen (entry M n) (entry W n) s (order (upToThree n)) choice h)) (little-one choice h)
     | no h ↦ subst (Little n M W) (sym (none-chosen (entry M n) (entry W n) s (order (upToThree n)) choice (omega arith))) little-none
@@ -159,11 +159,11 @@ results e f g = cc
 -- the loop of `resolve`, before the choice k
 pub record BeforeChoice (n : ℕ) (M W s choices donors recipients : List ℕ) (r : Resolved) (k : ℕ) : Type 0 where
   pub upto : k ≤ length choices
-  pub sum : r .weight ≡ total (entry M n) (entry W n) (cyclesOf n M W s (take k choices))
-  pub number : r .cycles ≡ length (cyclesOf n M W s (take k choices))
-  pub inRecords : r .records ≡ filled (map (recordOf n) (cyclesOf n M W s (take k choices))) (noRecords n)
-  pub inDonors : donors ≡ donorTable n (cyclesOf n M W s (take k choices))
-  pub inRecipients : recipients ≡ recipientTable n (cyclesOf n M W s (take k choices))
+  pub sum : r .weight ≡ total (entry M n) (entry W n) (cyclesOf (upToThree n) M W s (take k choices))
+  pub number : r .cycles ≡ length (cyclesOf (upToThree n) M W s (take k choices))
+  pub inRecords : r .records ≡ filled (map (recordOf n) (cyclesOf (upToThree n) M W s (take k choices))) (noRecords n)
+  pub inDonors : donors ≡ donorTable n (cyclesOf (upToThree n) M W s (take k choices))
+  pub inRecipients : recipients ≡ recipientTable n (cyclesOf (upToThree n) M W s (take k choices))
   pub few : r .cycles ≤ k
   pub light : r .weight ≤ 196605 * k
 
@@ -195,10 +195,10 @@ module _ (n : ℕ) (M W s choices donors₀ recipients₀ : List ℕ) (asked : R
     recipients-kept = ap length (inv .inRecipients) ∙ length-table n _ ∙ sym (asked .allRecipients)
 
     pub ends : length choices ≤ k
-        → (r ≡ resolvedCycles n M W (cyclesOf n M W s choices))
-        × (donors ≡ donorTable n (cyclesOf n M W s choices)) × (recipients ≡ recipientTable n (cyclesOf n M W s choices))
+        → (r ≡ resolvedCycles n M W (cyclesOf (upToThree n) M W s choices))
+        × (donors ≡ donorTable n (cyclesOf (upToThree n) M W s choices)) × (recipients ≡ recipientTable n (cyclesOf (upToThree n) M W s choices))
     ends h =
-        let all : cyclesOf n M W s (take k choices) ≡ cyclesOf n M W s choices = ap (cyclesOf n M W s) (take-all k choices h) in (
+        let all : cyclesOf (upToThree n) M W s (take k choices) ≡ cyclesOf (upToThree n) M W s choices = ap (cyclesOf (upToThree n) M W s) (take-all k choices h) in (
           results (inv .sum) (inv .number) (inv .inRecords) ∙ ap (resolvedCycles n M W) all,
           inv .inDonors ∙ ap (donorTable n) all,
           inv .inRecipients ∙ ap (recipientTable n) all,
@@ -211,7 +211,7 @@ module _ (n : ℕ) (M W s choices donors₀ recipients₀ : List ℕ) (asked : R
       all-records : length (r .records) ≡ 100
       all-records =
           let all : length (noRecords n) ≡ 100 = length-replicate 100 (recordOf n []) in
-          let cs = cyclesOf n M W s (take k choices) in
+          let cs = cyclesOf (upToThree n) M W s (take k choices) in
           ap length (inv .inRecords)
           ∙ length-filled (map (recordOf n) cs) (noRecords n) (omega (arith, length-map cs (recordOf n), all, inv .number, inv .few, turns-few))
           ∙ all
@@ -228,19 +228,19 @@ module _ (n : ℕ) (M W s choices donors₀ recipients₀ : List ℕ) (asked : R
       }
 
       module _ (typed : (i : ℕ) → getD W i 0 < 2 ^ 16) (r′ : Resolved) (donors′ recipients′ : List ℕ)
-          (e : Added n M W (cyclesOf n M W s (getD choices k 0 ∷ [])) r donors recipients r′ donors′ recipients′) where
-        small : Little n M W (cyclesOf n M W s (getD choices k 0 ∷ []))
+          (e : Added n M W (cyclesOf (upToThree n) M W s (getD choices k 0 ∷ [])) r donors recipients r′ donors′ recipients′) where
+        small : Little n M W (cyclesOf (upToThree n) M W s (getD choices k 0 ∷ []))
         small = little n M W s (asked .readable) (asked .shuffled) typed (getD choices k 0)
 
-        more : cyclesOf n M W s (take k choices) ++ cyclesOf n M W s (getD choices k 0 ∷ []) ≡ cyclesOf n M W s (take (k + 1) choices)
+        more : cyclesOf (upToThree n) M W s (take k choices) ++ cyclesOf (upToThree n) M W s (getD choices k 0 ∷ []) ≡ cyclesOf (upToThree n) M W s (take (k + 1) choices)
         more =
             sym (resolved-append (entry M n) (entry W n) s (order (upToThree n)) (take k choices) (getD choices k 0 ∷ []))
-            ∙ ap (cyclesOf n M W s) (sym (take-suc choices k 0 h) ∙ ap (λ (j : ℕ). take j choices) (sym (add-one k)))
+            ∙ ap (cyclesOf (upToThree n) M W s) (sym (take-suc choices k 0 h) ∙ ap (λ (j : ℕ). take j choices) (sym (add-one k)))
 
         pub again : BeforeChoice n M W s choices donors′ recipients′ r′ (k + 1)
         again =
-            let cs = cyclesOf n M W s (take k choices) in
-            let ds = cyclesOf n M W s (getD choices k 0 ∷ []) in
+            let cs = cyclesOf (upToThree n) M W s (take k choices) in
+            let ds = cyclesOf (upToThree n) M W s (getD choices k 0 ∷ []) in
             record {
               upto = omega (arith, h);
               sum = e .weight ∙ ap (λ (x : ℕ). x + total (entry M n) (entry W n) ds) (inv .sum) ∙ sym (total-append (entry M n) (entry W n) cs ds)

@@ -5,7 +5,7 @@ use mathlib.Core.Path.{_≡_}
 use lib.ListN.{length, set, replicate}
 use Rattle.laws.specs.Lent.{stored, filled}
 use Rattle.records.specs.declared.Cycle.{Cycle}
-use Rattle.exchange.specs.Subsets.{upToThree, order, Edge, edges, entry}
+use Rattle.exchange.specs.Subsets.{Scope, order, Edge, edges, entry, pairsAt, bestCycle}
 use Rattle.exchange.specs.Resolution.{recordOf, resolved, total}
 use Rattle.resolution.specs.declared.Giving.{Giving}
 use Rattle.resolution.specs.declared.Resolved.{Resolved}
@@ -20,9 +20,13 @@ unfoldable pub received : List Edge → List ℕ → List ℕ
 received [] l = l
 received (e ∷ es) l = received es (set l (e .patient) (e .donor))
 
--- the cycles of these choices, by lent tables
-abbrev pub cyclesOf : ℕ → List ℕ → List ℕ → List ℕ → List ℕ → List (List ℕ)
-cyclesOf n M W s choices = resolved (entry M n) (entry W n) s (order (upToThree n)) choices
+-- the cycle that a subset t is weighed by, as its pairs, by lent tables
+abbrev pub cycleOf : ℕ → List ℕ → List ℕ → List ℕ → List ℕ → List ℕ
+cycleOf n M W s t = pairsAt s (bestCycle (entry M n) (entry W n) s t)
+
+-- the cycles of these choices
+abbrev pub cyclesOf : Scope → List ℕ → List ℕ → List ℕ → List ℕ → List (List ℕ)
+cyclesOf q M W s choices = resolved (entry M (q .pairs)) (entry W (q .pairs)) s (order q) choices
 
 -- records of no cycle: N three times
 abbrev pub noRecords : ℕ → List Cycle

@@ -6,11 +6,11 @@ ghost use mathlib.Core.List.{[], _∷_};
 ghost use Prim.Native.Nat.{_^_, _≤_, _<_};
 ghost use lib.ListN.{length, set};
 ghost use Rattle.laws.specs.Below.{table};
-ghost use Rattle.exchange.specs.Subsets.{entry, edges, pairsAt, bestCycle};
+ghost use Rattle.exchange.specs.Subsets.{upToThree, edges};
 ghost use Rattle.exchange.specs.Resolution.{pairsOf, recordOf, recipientTable, donorTable};
 ghost use Rattle.cursor.specs.Cursor.{OnSubset, subsetAt};
 ghost use Rattle.entries.specs.Preconditions.{weightOf, Readable, Shuffled};
-ghost use Rattle.resolution.specs.Records.{given, received, cyclesOf, noneYet, withCycle, resolvedCycles, Added};
+ghost use Rattle.resolution.specs.Records.{given, received, cycleOf, cyclesOf, noneYet, withCycle, resolvedCycles, Added};
 ghost use Rattle.resolution.specs.Preconditions.{Partners, RecordRoom, One, Resolving};
 
 // A cycle's record and its weight.
@@ -41,7 +41,9 @@ fn record_of(first: usize, second: usize, third: usize) -> Cycle
 // The cycle that the subset at the cursor is weighed by.
 fn cycle_at(n: usize, m: &[u8], w: &[u16], s: &[u16], p: Places) -> Giving
     requires { ⌜ Readable n (now m) (now w) × Shuffled n (now s) × OnSubset n p ⌝ }
-    ensures { λ r. ⌜ (r .cycle ≡ recordOf n (pairsAt (now (s .entry)) (bestCycle (entry (now (m .entry)) n) (entry (now (w .entry)) n) (now (s .entry)) (subsetAt n p)))) × (r .weight ≡ weightOf n (now (m .entry)) (now (w .entry)) (pairsAt (now (s .entry)) (bestCycle (entry (now (m .entry)) n) (entry (now (w .entry)) n) (now (s .entry)) (subsetAt n p)))) ⌝ }
+    ensures { λ r.
+        let c = cycleOf n (now (m .entry)) (now (w .entry)) (now (s .entry)) (subsetAt n p) in
+        ⌜ (r .cycle ≡ recordOf n c) × (r .weight ≡ weightOf n (now (m .entry)) (now (w .entry)) c) ⌝ }
 {
     let u = p.u;
     let v = p.v;
@@ -81,7 +83,9 @@ fn give(a: u16, b: u16, donors: &mut [u16], recipients: &mut [u16])
 // The edges of a cycle.
 fn engage(n: usize, c: Cycle, donors: &mut [u16], recipients: &mut [u16])
     requires { ⌜ Partners n c (now donors) (now recipients) ⌝ }
-    ensures { λ _. ⌜ (now (recipients .exit) ≡ given (edges (pairsOf n c)) (now (recipients .entry))) × (now (donors .exit) ≡ received (edges (pairsOf n c)) (now (donors .entry))) ⌝ }
+    ensures { λ _.
+        ⌜ (now (recipients .exit) ≡ given (edges (pairsOf n c)) (now (recipients .entry)))
+        × (now (donors .exit) ≡ received (edges (pairsOf n c)) (now (donors .entry))) ⌝ }
 {
     let first = c.first;
     let second = c.second;
@@ -150,7 +154,10 @@ fn resolve_one(
     recipients: &mut [u16],
 ) -> Resolved
     requires { ⌜ One n (now m) (now w) (now s) «so_far» (now donors) (now recipients) ⌝ }
-    ensures { λ r. ⌜ Added n (now (m .entry)) (now (w .entry)) (cyclesOf n (now (m .entry)) (now (w .entry)) (now (s .entry)) (choice ∷ [])) «so_far» (now (donors .entry)) (now (recipients .entry)) r (now (donors .exit)) (now (recipients .exit)) ⌝ }
+    ensures { λ r.
+        let cs = cyclesOf (upToThree n) (now (m .entry)) (now (w .entry)) (now (s .entry)) (choice ∷ []) in
+        ⌜ Added n (now (m .entry)) (now (w .entry)) cs «so_far» (now (donors .entry)) (now (recipients .entry))
+        r (now (donors .exit)) (now (recipients .exit)) ⌝ }
 {
     if cursor::count(n) <= choice {
         return so_far;
@@ -172,7 +179,11 @@ pub fn resolve(
     recipients: &mut [u16],
 ) -> Resolved
     requires { ⌜ Resolving n (now m) (now w) (now s) (now choices) (now donors) (now recipients) ⌝ }
-    ensures { λ r. ⌜ (r ≡ resolvedCycles n (now (m .entry)) (now (w .entry)) (cyclesOf n (now (m .entry)) (now (w .entry)) (now (s .entry)) (now (choices .entry)))) × (now (donors .exit) ≡ donorTable n (cyclesOf n (now (m .entry)) (now (w .entry)) (now (s .entry)) (now (choices .entry)))) × (now (recipients .exit) ≡ recipientTable n (cyclesOf n (now (m .entry)) (now (w .entry)) (now (s .entry)) (now (choices .entry)))) ⌝ }
+    ensures { λ r.
+        let cs = cyclesOf (upToThree n) (now (m .entry)) (now (w .entry)) (now (s .entry)) (now (choices .entry)) in
+        ⌜ (r ≡ resolvedCycles n (now (m .entry)) (now (w .entry)) cs)
+        × (now (donors .exit) ≡ donorTable n cs)
+        × (now (recipients .exit) ≡ recipientTable n cs) ⌝ }
 {
     alone(n, donors);
     alone(n, recipients);
