@@ -80,6 +80,9 @@ BRACKETS = {
     ('choosing', 'choose_halves'): ['&weights[..half]', '&weights[half..]'],
 }
 
+# The only constants: numbers that all know.
+CONSTANTS = ['const FLOOR: usize = 0;']
+
 # What may change: a loop's counter, cursor and tally.
 CHANGING = ['i', 'k', 'p', 'tally']
 
@@ -172,7 +175,7 @@ def split(text, at):
 
 
 def whole(clause):
-    """Does a clause, or an import of definitions, stand on its line, and nothing else?"""
+    """Is this a clause, or an import of definitions, and nothing else?"""
     if clause.startswith('ghost use'):
         return re.fullmatch(r'ghost use [^;{}]*(\{[^;{}]*\})?;', clause)
     opens = re.match(r'(requires|ensures)( \w+)? \{', clause)
@@ -182,15 +185,28 @@ def whole(clause):
         return False
 
 
+def joined(text):
+    """The text with each clause on one line: what a clause goes on with, while its bracket is open, stands eight spaces in."""
+    lines = []
+    for line in text.splitlines():
+        if lines and re.match(r'    (requires|ensures)\b', lines[-1]) and lines[-1].count('{') > lines[-1].count('}') and line.startswith(' ' * 8):
+            lines[-1] += ' ' + line.strip()
+        else:
+            lines.append(line)
+    return '\n'.join(lines)
+
+
 class Source:
     """A crate's source without comments and contracts: its uses, its structs and its functions by name, and whatever else stands there."""
 
     def __init__(self, text):
-        self.raw = text
+        text = self.raw = joined(text)
         self.clauses = [line.strip() for line in text.splitlines() if re.match(r'\s*(ghost use|requires|ensures)\b', line)]
         rest = '\n'.join(re.sub(r'//.*', '', line) for line in text.splitlines() if line.strip() not in self.clauses)
         self.uses = re.findall(r'^use ([^;]*);', rest, re.M)
         rest = re.sub(r'^use [^;]*;', '', rest, flags=re.M)
+        for constant in CONSTANTS:
+            rest = re.sub(rf'^{re.escape(constant)}$', '', rest, count=1, flags=re.M)
         self.structs = {name: ' '.join(struct.split()) for struct, name in re.findall(r'^(pub struct (\w+) \{[^{}]*\})', rest, re.M)}
         rest = re.sub(r'^pub struct \w+ \{[^{}]*\}', '', rest, flags=re.M)
         self.functions = {}
@@ -220,7 +236,7 @@ class Source:
 # ## The rules. Each takes the sources by crate, and gives a line for each thing that is wrong.
 
 def plain(sources):
-    """A source has uses of gates and the cursor, structs and functions, and nothing else, with each clause on its line; a body has `let`, `if`, `while`,
+    """A source has uses of gates and the cursor, structs, the listed constants and functions, and nothing else; a clause has nothing after it; a body has `let`, `if`, `while`,
     `return` and calls by name. A name is bound once, a secret by its value apart; no value with a tally in it is copied, made by hand or let go."""
     for crate in CRATES:
         source = sources[crate]
@@ -498,8 +514,10 @@ CHEATS = [
 
     ('evaluation', 'code behind a clause', [('ghost use mathlib.Core.Path.{_≡_};\n', 'ghost use mathlib.Core.Path.{_≡_}; fn evil(w: &[u16]) -> bool { w[0] == 0 }\n')],
      plain, 'evaluation: a clause has more on its line, or goes on: ghost use mathlib.Core.Path.{_'),
-    ('evaluation', 'code between the lines of a clause', [('    requires { ⌜ Evaluating n (now m) (now w) (now s) (now weights) t ⌝ }\n', '    requires { ⌜ Evaluating n (now m) (now w) (now s) (now weights) t ⌝\n    }\n')],
-     plain, 'evaluation: a clause has more on its line, or goes on: requires { ⌜ Evaluating n (now'),
+    ('evaluation', 'code between the lines of a clause', [('    requires { ⌜ Evaluating (upToThree n) (now m) (now w) (now s) (now weights) t ⌝ }\n', '    requires { ⌜ Evaluating (upToThree n) (now m) (now w) (now s) (now weights) t ⌝\n    }\n')],
+     plain, 'evaluation: a clause has more on its line, or goes on: requires { ⌜ Evaluating (upToT'),
+    ('choosing', 'another constant', [('const FLOOR: usize = 0;\n', 'const FLOOR: usize = 0;\n\nconst MOST: usize = 9;\n')],
+     plain, 'choosing: has more than uses, structs and functions: const MOST: usize = 9;'),
     ('gates', 'a place bound again', [('    Secret { value: table[at] }\n', '    let at = at * 1;\n    Secret { value: table[at] }\n')], plain, 'gates: load_u32 binds at again'),
     ('choosing', 'a half that changes', [('    let half = weights.len() / 2;\n', '    let mut half = weights.len() / 2;\n    half -= half - 1;\n')], plain, 'choosing: choose_halves changes half'),
     ('evaluation', 'a tally copied', [('    let sum = gates::sum(ab.w, ba.w);\n', '    let sum = gates::sum(ab.w, ba.w);\n    let kept = there;\n')], plain, 'evaluation: two copies there'),
@@ -565,7 +583,7 @@ CHEATS = [
     ('cursor', 'a cursor that compares', [('// How many subsets there are', 'pub fn shows(p: usize) -> usize {\n    std::num::wrapping_add_usize(p, 1)\n}\n\n// How many subsets there are')],
      within, 'cursor: shows calls std::num::wrapping_add_usize'),
 
-    ('choosing', 'an equality test that is not tallied', [('    let zero = gates::known(0);\n', '    let zero = gates::demux_readout(n, best.at);\n')],
+    ('choosing', 'an equality test that is not tallied', [('    let floor = gates::known(FLOOR);\n', '    let floor = gates::demux_readout(n, best.at);\n')],
      readout, 'choosing: final_test asks demux_readout(n, best.at)'),
     ('clearing', 'a place asked twice', [('    let first = gates::product(', '    let seen = gates::demux_readout(p.u, choice);\n    let first = gates::product(')],
      readout, 'clearing: weight_after asks demux_readout(p.u, choice)'),

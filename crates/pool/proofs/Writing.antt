@@ -14,7 +14,7 @@ use Rattle.pool.specs.Sheet.{sheetLength, sheetOf}
 use Rattle.pool.specs.Tables.{Fields, Tables, room, pairIn, poolIn}
 use Rattle.pool.specs.Faults.{pairFault, pairsFault, poolFault, roomFault, shuffleFault}
 use Rattle.pool.specs.Calls.{writing}
-use Rattle.pool.specs.Faultless.{InRange, Unlike, Faultless, Before, FaultlessPool, PairsFault, PoolFault, TablesHold}
+use Rattle.pool.specs.Faultless.{InRange, Unlike, Faultless, NoneBefore, FaultlessPool, PairsFault, PoolFault, TablesHold}
 use Rattle.pool.specs.Promises.{WritesRightly}
 use Rattle.pool.proofs.Lengths.{length-sheetIn}
 use Rattle.pool.proofs.Rooms.{room-hold, hold-room}
@@ -43,7 +43,7 @@ module _ (n space : ℕ) (pair : ℕ → Pair) where
         λ i j k l. pair-passed 0 pair i (at i l) .1 j k,
       )
 
-  before-passed : (i : ℕ) → ((j : ℕ) → j < i → pairFault 0 pair j ≡ none) → Before i pair
+  before-passed : (i : ℕ) → ((j : ℕ) → j < i → pairFault 0 pair j ≡ none) → NoneBefore i pair
   before-passed i e j l = pair-passed 0 pair j (e j l)
 
   pub pairs-fault : (Hold : Type 0) → (n ≤ space → Hold) → (Hold → n ≤ space) → (k o : ℕ) → pairsFault n space pair ≡ fault k o

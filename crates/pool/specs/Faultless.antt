@@ -153,21 +153,21 @@ pub record FaultlessPool (n : ℕ) (t : Tables) : Type 0 where
   pub pool : Faultless n (pairIn (t .fields)) (λ j. getD (t .shuffle) j 0)
 
 -- the pairs before the i-th have none of 6 and 7
-abbrev pub Before : ℕ → (ℕ → Pair) → Type 0
-Before i at = (j : ℕ) → j < i → InRange (at j) × ((h : ℕ) → h < j → at h .id ≡ at j .id → ⊥)
+abbrev pub NoneBefore : ℕ → (ℕ → Pair) → Type 0
+NoneBefore i at = (j : ℕ) → j < i → InRange (at j) × ((h : ℕ) → h < j → at h .id ≡ at j .id → ⊥)
 
 -- 4, 9, 6 or 7 of n pairs in tables that `Hold` them: fault k is there, and none that is looked for before it
 pub data PairsFault (n : ℕ) (Hold : Type 0) (pair : ℕ → Pair) : ℕ → Type 0 where
   tooManyPairs : 200 < n → PairsFault n Hold pair 4
   tableTooShort : n ≤ 200 → (Hold → ⊥) → PairsFault n Hold pair 9
-  outOfRange : (i : ℕ) → i < n → n ≤ 200 → Hold → Before i pair → (InRange (pair i) → ⊥) → PairsFault n Hold pair 6
+  outOfRange : (i : ℕ) → i < n → n ≤ 200 → Hold → NoneBefore i pair → (InRange (pair i) → ⊥) → PairsFault n Hold pair 6
   repeatedId :
       (i j : ℕ)
       → j < i
       → i < n
       → n ≤ 200
       → Hold
-      → Before i pair
+      → NoneBefore i pair
       → InRange (pair i)
       → pair j .id ≡ pair i .id
       → PairsFault n Hold pair 7
@@ -178,7 +178,7 @@ pub data PoolFault (n : ℕ) (t : Tables) (space : ℕ) : ℕ → Type 0 where
   notAShuffle :
       n ≤ 200
       → TablesHold n t
-      → Before n (pairIn (t .fields))
+      → NoneBefore n (pairIn (t .fields))
       → (EachOnce n (λ j. getD (t .shuffle) j 0) → ⊥)
       → PoolFault n t space 8
   bufferTooShort : FaultlessPool n t → space < sheetLength n → PoolFault n t space 9

@@ -4,18 +4,6 @@ use Rattle.checks.proofs.Found.{pair-group, pair-again, pair-sound}
 use Rattle.checks.proofs.pair.Statement.{statement}
 use Rattle.checks.proofs.pair.Tie as tie
 
-groups-requires : tie.Need-groups-requires
-groups-requires c κs = search needs
-
-enum-known-why : tie.Need-enum-known-why
-enum-known-why c = search needs
-
-enum-told : tie.Need-enum-told
-enum-told c = search needs
-
-repeated-requires : tie.Need-repeated-requires
-repeated-requires c κs = search needs
-
 returns : tie.Need-returns
 returns c o p a =
     let g = c .before .before .before .groups in
@@ -38,11 +26,4 @@ returns-3 c o p a =
 pub pair-spec : {M : Type 1} → statement M
 pair-spec =
     tie.close
-    (tie.spec
-    groups-requires
-    enum-known-why
-    enum-told
-    repeated-requires
-    returns
-    returns-2
-    returns-3)
+    (tie.spec (λ c κs. search needs) (λ c. search needs) (λ c. search needs) (λ c κs. search needs) returns returns-2 returns-3)

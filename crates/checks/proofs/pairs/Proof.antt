@@ -29,24 +29,6 @@ loop-holds : tie.Need-loop-holds Inv-loop μ-loop
 unfolding firstBelow
 loop-holds c = (omega arith, λ f g h. refl)
 
-shared-slice-read-pair : tie.Need-shared-slice-read-pair Inv-loop μ-loop
-shared-slice-read-pair c = search needs
-
-shared-slice-read-pair-2 : tie.Need-shared-slice-read-pair-2 Inv-loop μ-loop
-shared-slice-read-pair-2 c = search needs
-
-shared-slice-read-pair-3 : tie.Need-shared-slice-read-pair-3 Inv-loop μ-loop
-shared-slice-read-pair-3 c = search needs
-
-shared-slice-read-pair-4 : tie.Need-shared-slice-read-pair-4 Inv-loop μ-loop
-shared-slice-read-pair-4 c = search needs
-
-pair-requires : tie.Need-pair-requires Inv-loop μ-loop
-pair-requires c κs = search needs
-
-enum-known-why : tie.Need-enum-known-why Inv-loop μ-loop
-enum-known-why c = search needs
-
 returns-3 : tie.Need-returns-3 Inv-loop μ-loop
 returns-3 c f g h =
     let d = c .before .before .before in
@@ -55,19 +37,11 @@ returns-3 c f g h =
     pairs-found _ _ _ (t .before .before .before .if1 .left) (t .before .before .if2 .left) (l .i) (t .loop-test .taken) (l .inv .1 f g h) (d .pair .result)
     (d .pair .ensures 0 _ (agree-in _ _ _ _ _ f g h (l .i))) _ (c .before .why .given .1)
 
-enum-told : tie.Need-enum-told Inv-loop μ-loop
-enum-told c = search needs
-
-add-i : tie.Need-add-i Inv-loop μ-loop
-add-i c = search needs
-
-loop-less : tie.Need-loop-less Inv-loop μ-loop
-loop-less c = search needs
-
 loop-again : tie.Need-loop-again Inv-loop μ-loop
 loop-again c =
     let d = c .before .before in
-    let l = d .before .before .before .before .before .before .loop in (
+    let at-loop = d .before .before .before .before .before .before in
+    let l = at-loop .loop in (
       omega arith,
       λ f g h.
           first-more (l .i) _ (l .inv .1 f g h)
@@ -82,21 +56,5 @@ returns-4 c f g h =
 pub pairs-spec : {M : Type 1} → statement M
 pairs-spec =
     tie.close
-    (tie.spec
-    Inv-loop
-    μ-loop
-    returns
-    returns-2
-    loop-holds
-    shared-slice-read-pair
-    shared-slice-read-pair-2
-    shared-slice-read-pair-3
-    shared-slice-read-pair-4
-    pair-requires
-    enum-known-why
-    returns-3
-    enum-told
-    add-i
-    loop-less
-    loop-again
-    returns-4)
+    (tie.spec Inv-loop μ-loop returns returns-2 loop-holds (λ c. search needs) (λ c. search needs) (λ c. search needs) (λ c. search needs)
+    (λ c κs. search needs) (λ c. search needs) returns-3 (λ c. search needs) (λ c. search needs) (λ c. search needs) loop-again returns-4)

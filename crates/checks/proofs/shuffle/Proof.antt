@@ -30,27 +30,20 @@ loop-holds : tie.Need-loop-holds Inv-loop μ-loop
 unfolding anyBelow
 loop-holds c = (omega arith, refl)
 
-times-requires : tie.Need-times-requires Inv-loop μ-loop
-times-requires c κs = search needs
-
 returns : tie.Need-returns Inv-loop μ-loop
 unfolding faultAt shuffleFault
 returns c o =
-    let s = c .before .before .before .before .before .args in
-    let l = c .before .before .before .loop in
+    let at-loop = c .before .before .before in
+    let s = at-loop .before .before .args in
+    let l = at-loop .loop in
     let h : missed (s .s .now) (s .n) (l .v) ≡ _ = ap not (ne-eqb _ 1 (λ e. c .if1 .taken (c .before .times .ensures ∙ e))) in
     sym (fault-refuse 8 o _ (any-hit (s .n) (missed (s .s .now) (s .n)) (l .v) (c .before .before .loop-test .taken) h))
 
-add-v : tie.Need-add-v Inv-loop μ-loop
-add-v c = search needs
-
-loop-less : tie.Need-loop-less Inv-loop μ-loop
-loop-less c = search needs
-
 loop-again : tie.Need-loop-again Inv-loop μ-loop
 loop-again c =
-    let s = c .before .before .before .before .before .args in
-    let l = c .before .before .before .loop in
+    let at-loop = c .before .before .before in
+    let s = at-loop .before .before .args in
+    let l = at-loop .loop in
     let h = ap not (eq-eqb _ 1 (sym (c .before .times .ensures) ∙ c .if1 .left)) in
     (omega arith, any-more (l .v) (missed (s .s .now) (s .n)) (l .inv .1) h)
 
@@ -65,13 +58,4 @@ returns-2 c o =
 pub shuffle-spec : {M : Type 1} → statement M
 shuffle-spec =
     tie.close
-    (tie.spec
-    Inv-loop
-    μ-loop
-    loop-holds
-    times-requires
-    returns
-    add-v
-    loop-less
-    loop-again
-    returns-2)
+    (tie.spec Inv-loop μ-loop loop-holds (λ c κs. search needs) returns (λ c. search needs) (λ c. search needs) loop-again returns-2)

@@ -62,39 +62,9 @@ choose-halves-choose-part-requires : (t : ℕ) → choose-halves-lts.Need-choose
   join-reads.Asked,
   join-reads.Learnt,
 ) (choose-halves-at t) choose-halves.Post
-choose-halves-choose-part-requires t c κs = let s = c .before .before in (omega (arith, s .pre .0, s .pre .1 .1, length-left (s .args .weights .now)), asks-left _ _ _ _ _ (s .pre .1 .0) (s .pre .1 .1))
-
-choose-halves-mul-choose-part : (t : ℕ) → choose-halves-lts.Need-mul-choose-part (
-  choose-part-below t,
-  choose-part.Post,
-  join-reads.Asked,
-  join-reads.Learnt,
-) (choose-halves-at t) choose-halves.Post
-choose-halves-mul-choose-part t c = search needs
-
-choose-halves-sub-choose-part : (t : ℕ) → choose-halves-lts.Need-sub-choose-part (
-  choose-part-below t,
-  choose-part.Post,
-  join-reads.Asked,
-  join-reads.Learnt,
-) (choose-halves-at t) choose-halves.Post
-choose-halves-sub-choose-part t c = search needs
-
-choose-halves-part-choose-part-start : (t : ℕ) → choose-halves-lts.Need-part-choose-part-start (
-  choose-part-below t,
-  choose-part.Post,
-  join-reads.Asked,
-  join-reads.Learnt,
-) (choose-halves-at t) choose-halves.Post
-choose-halves-part-choose-part-start t c = search needs
-
-choose-halves-part-choose-part-end : (t : ℕ) → choose-halves-lts.Need-part-choose-part-end (
-  choose-part-below t,
-  choose-part.Post,
-  join-reads.Asked,
-  join-reads.Learnt,
-) (choose-halves-at t) choose-halves.Post
-choose-halves-part-choose-part-end t c = search needs
+choose-halves-choose-part-requires t c κs =
+    let s = c .before .before in
+    (omega (arith, s .pre .0, s .pre .1 .1, length-left (s .args .weights .now)), asks-left _ _ _ _ _ (s .pre .1 .0) (s .pre .1 .1))
 
 choose-halves-add-choose-part : (t : ℕ) → choose-halves-lts.Need-add-choose-part (
   choose-part-below t,
@@ -208,10 +178,10 @@ pub +choose-halves+choose-part-spec : {M : Type 1} → statement M
     choose-halves.Post
     (choose-halves-slice-aggregate-choose-part t)
     (choose-halves-choose-part-requires t)
-    (choose-halves-mul-choose-part t)
-    (choose-halves-sub-choose-part t)
-    (choose-halves-part-choose-part-start t)
-    (choose-halves-part-choose-part-end t)
+    (λ c. search needs)
+    (λ c. search needs)
+    (λ c. search needs)
+    (λ c. search needs)
     (choose-halves-add-choose-part t)
     (choose-halves-choose-part-requires-2 t)
     (choose-halves-join-requires t)

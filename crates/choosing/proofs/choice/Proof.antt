@@ -6,9 +6,6 @@ use Rattle.choosing.proofs.Tested.{asks-part, room-test, chosen}
 use Rattle.choosing.proofs.choice.Statement.{statement}
 use Rattle.choosing.proofs.choice.Tie as tie
 
-first-requires : tie.Need-first-requires
-first-requires c κs = search needs
-
 choose-part-requires : tie.Need-choose-part-requires
 choose-part-requires c κs = asks-part _ _ _ (c .before .before .pre) _ (c .first .ensures)
 
@@ -25,4 +22,4 @@ returns c =
     chosen _ _ _ (won .before .before .before .pre) _ (won .choose-part .ensures) _ (made .0) (made .1) (made .2)
 
 pub choice-spec : {M : Type 1} → statement M
-choice-spec = tie.close (tie.spec first-requires choose-part-requires final-test-requires returns)
+choice-spec = tie.close (tie.spec (λ c κs. search needs) choose-part-requires final-test-requires returns)

@@ -4,26 +4,22 @@ use Rattle.choosing.proofs.InRound.{asks-choice, stored-is}
 use Rattle.choosing.proofs.chosen_in_round.Statement.{statement}
 use Rattle.choosing.proofs.chosen_in_round.Tie as tie
 
-begin-round-requires : tie.Need-begin-round-requires
-begin-round-requires c κs = search needs
+-- moments, each seen from a later one
+abbrev start : tie.After-begin-round → tie.Start
+start c = c .before .before .before
 
 choice-requires : tie.Need-choice-requires
-choice-requires c κs = asks-choice _ _ _ _ _ (c .before .before .before .pre) _ (c .begin-round .ensures)
+choice-requires c κs = asks-choice _ _ _ _ _ (start c .pre) _ (c .begin-round .ensures)
 
 store-u32-requires : tie.Need-store-u32-requires
-store-u32-requires c κs = c .before .before .before .before .before .pre .within
-
-same-length : tie.Need-same-length
-same-length c = search needs
+store-u32-requires c κs = start (c .before .before) .pre .within
 
 returns : tie.Need-returns
 returns c =
     let stored = c .before .before .before .before in
     let chosen = stored .before .before in
     let begun = chosen .before in
-    stored-is _ _ _ _ _ (begun .before .before .before .pre) _ (begun .begin-round .ensures) _ (chosen .choice .ensures) _ (stored .store-u32 .ensures)
+    stored-is _ _ _ _ _ (start begun .pre) _ (begun .begin-round .ensures) _ (chosen .choice .ensures) _ (stored .store-u32 .ensures)
 
 pub chosen-in-round-spec : {M : Type 1} → statement M
-chosen-in-round-spec =
-    tie.close
-    (tie.spec begin-round-requires choice-requires store-u32-requires same-length returns)
+chosen-in-round-spec = tie.close (tie.spec (λ c κs. search needs) choice-requires store-u32-requires (λ c. search needs) returns)

@@ -9,18 +9,6 @@ use Rattle.choosing.proofs.final_test.Tie as tie
 abbrev start : tie.After-comparison → tie.Start
 start c = c .before .before .before .before
 
-known-requires : tie.Need-known-requires
-known-requires c κs = search needs
-
-known-requires-2 : tie.Need-known-requires-2
-known-requires-2 c κs = search needs
-
-known-requires-3 : tie.Need-known-requires-3
-known-requires-3 c κs = search needs
-
-comparison-requires : tie.Need-comparison-requires
-comparison-requires c κs = search needs
-
 pick-requires : tie.Need-pick-requires
 pick-requires c κs = (bit-le _ _ (c .comparison .ensures .0), search needs)
 
@@ -46,19 +34,12 @@ returns c =
       number-is (a .n) (a .none) (a .best) _ _ (none .before .known .ensures) (some .comparison .ensures .0) _ _ (none .known2 .ensures) (number .pick .ensures .0),
       places-are-tested (a .n) (a .none) (a .best) _ _ (none .before .known .ensures) (some .comparison .ensures .0) _ _ _ _ (nowhere .known3 .ensures)
           (u .pick2 .ensures .0) (v .pick3 .ensures .0) (w .pick4 .ensures .0),
-      raised-then (raised-then (raised-then (raised-then (some .comparison .ensures .1) (number .pick .ensures .1)) (u .pick2 .ensures .1)) (v .pick3 .ensures .1)) (w .pick4 .ensures .1),
+      raised-then (raised-then (raised-then (raised-then (some .comparison .ensures .1) (number .pick .ensures .1)) (u .pick2 .ensures .1))
+          (v .pick3 .ensures .1)) (w .pick4 .ensures .1),
     )
 
 pub final-test-spec : {M : Type 1} → statement M
 final-test-spec =
     tie.close
-    (tie.spec
-    known-requires
-    known-requires-2
-    known-requires-3
-    comparison-requires
-    pick-requires
-    pick-requires-2
-    pick-requires-3
-    pick-requires-4
-    returns)
+    (tie.spec (λ c κs. search needs) (λ c κs. search needs) (λ c κs. search needs) (λ c κs. search needs) pick-requires pick-requires-2
+    pick-requires-3 pick-requires-4 returns)

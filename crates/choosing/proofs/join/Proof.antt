@@ -5,9 +5,6 @@ use Rattle.choosing.proofs.Joins.{joined}
 use Rattle.choosing.proofs.join.Statement.{statement}
 use Rattle.choosing.proofs.join.Tie as tie
 
-comparison-requires : tie.Need-comparison-requires
-comparison-requires c κs = search needs
-
 pick-requires : tie.Need-pick-requires
 pick-requires c κs = (bit-le _ _ (c .comparison .ensures .0), search needs)
 
@@ -34,18 +31,12 @@ returns c =
     let s = right .before in (
       joined (s .args .a) (s .args .b) _ (right .comparison .ensures .0) _ _ _ _ _ (weight .pick .ensures .0) (number .pick2 .ensures .0) (u .pick3 .ensures .0)
           (v .pick4 .ensures .0) (w .pick5 .ensures .0),
-      raised-then (raised-then (raised-then (raised-then (raised-then (right .comparison .ensures .1) (weight .pick .ensures .1)) (number .pick2 .ensures .1)) (u .pick3 .ensures .1))
+      raised-then (raised-then (raised-then (raised-then (raised-then (right .comparison .ensures .1) (weight .pick .ensures .1))
+          (number .pick2 .ensures .1)) (u .pick3 .ensures .1))
           (v .pick4 .ensures .1)) (w .pick5 .ensures .1),
     )
 
 pub join-spec : {M : Type 1} → statement M
 join-spec =
     tie.close
-    (tie.spec
-    comparison-requires
-    pick-requires
-    pick-requires-2
-    pick-requires-3
-    pick-requires-4
-    pick-requires-5
-    returns)
+    (tie.spec (λ c κs. search needs) pick-requires pick-requires-2 pick-requires-3 pick-requires-4 pick-requires-5 returns)

@@ -17,8 +17,9 @@ abbrev μ-loop : tie.MeasureT-loop
 abbrev start : tie.At-loop Inv-loop μ-loop → tie.Start Inv-loop μ-loop
 start l = l .before .before .before
 
-first-requires : tie.Need-first-requires Inv-loop μ-loop
-first-requires c κs = search needs
+-- moments, each seen from a later one
+abbrev in-loop : tie.After-tally Inv-loop μ-loop → tie.In-loop Inv-loop μ-loop
+in-loop c = c .before .before .before .before .before .before .before .before
 
 loop-holds : tie.Need-loop-holds Inv-loop μ-loop
 loop-holds c = begins _ _ _ _ (c .before .before .pre) _ (c .first .ensures)
@@ -38,19 +39,19 @@ store-u32-requires c κs = c .before .before .before .before .loop-test .taken
 
 next-requires : tie.Need-next-requires Inv-loop μ-loop
 next-requires c κs =
-    let turn = c .before .before .before .before .before .before .before .before in
+    let turn = in-loop c in
     let l = turn .before in
     ranged _ _ _ _ (start l .pre) _ _ _ _ (l .loop .inv) (turn .loop-test .taken)
 
 add-i : tie.Need-add-i Inv-loop μ-loop
 add-i c =
-    let turn = c .before .before .before .before .before .before .before .before .before in
+    let turn = in-loop (c .before) in
     let l = turn .before in
     record { fits = omega (arith, below-few _ _ _ _ (start l .pre) _ _ _ _ (l .loop .inv) (turn .loop-test .taken)) }
 
 loop-less : tie.Need-loop-less Inv-loop μ-loop
 loop-less c =
-    let turn = c .before .before .before .before .before .before .before .before .before in
+    let turn = in-loop (c .before) in
     let l = turn .before in
     omega (arith, kept _ _ _ _ (start l .pre) _ _ _ _ (l .loop .inv), turn .loop-test .taken)
 
@@ -75,17 +76,5 @@ returns c = let l = c .before in ends _ _ _ _ (start l .pre) _ _ _ _ (l .loop .i
 pub all-cleared-spec : {M : Type 1} → statement M
 all-cleared-spec =
     tie.close
-    (tie.spec
-    Inv-loop
-    μ-loop
-    first-requires
-    loop-holds
-    load-u32-requires
-    weight-after-requires
-    store-u32-requires
-    next-requires
-    add-i
-    loop-less
-    loop-again
-    same-length
-    returns)
+    (tie.spec Inv-loop μ-loop (λ c κs. search needs) loop-holds load-u32-requires weight-after-requires store-u32-requires next-requires
+    add-i loop-less loop-again same-length returns)

@@ -17,17 +17,11 @@ start c = c .before .before .before .before
 small : (s : tie.Start) → valueOf (s .args .x) < 2 ^ 32
 small s = omega arith
 
-demux-readout-requires : tie.Need-demux-readout-requires
-demux-readout-requires c κs = search needs
-
 product-requires : tie.Need-product-requires
 product-requires c κs =
     let s = c .before in
     let a = s .args in
     (first-fits (a .n) (valueOf (a .x)) (a .p) (shown (a .choice)) (s .pre .0) (small s) _ (c .demux-readout .ensures), search needs)
-
-demux-readout-requires-2 : tie.Need-demux-readout-requires-2
-demux-readout-requires-2 c κs = search needs
 
 product-requires-2 : tie.Need-product-requires-2
 product-requires-2 c κs =
@@ -50,9 +44,6 @@ returns c =
       raised 0 2 _ _ (raised-then (first .product .ensures .1) (second .product2 .ensures .1)) ∙ tally-two _ _ (s .pre .0) _ (c .if1 .taken),
     )
 
-demux-readout-requires-3 : tie.Need-demux-readout-requires-3
-demux-readout-requires-3 c κs = search needs
-
 product-requires-3 : tie.Need-product-requires-3
 product-requires-3 c κs =
     let second = c .before .before .before in
@@ -72,7 +63,8 @@ returns-2 c =
     let s = start second in
     let a = s .args in (
       triple-cleared (a .n) (valueOf (a .x)) (a .p) (shown (a .choice)) (s .pre .0) (small s) _ (first .before .demux-readout .ensures) _ (first .product .ensures .0) _
-          (second .before .demux-readout2 .ensures) _ (second .product2 .ensures .0) _ (c .before .demux-readout3 .ensures) (branch .if1 .left) _ (c .product3 .ensures .0),
+          (second .before .demux-readout2 .ensures) _ (second .product2 .ensures .0) _ (c .before .demux-readout3 .ensures)
+          (branch .if1 .left) _ (c .product3 .ensures .0),
       raised 0 3 _ _ (raised-then (raised-then (first .product .ensures .1) (second .product2 .ensures .1)) (c .product3 .ensures .1))
           ∙ tally-triple _ _ (s .pre .0) _ (branch .if1 .left),
     )
@@ -80,12 +72,5 @@ returns-2 c =
 pub weight-after-spec : {M : Type 1} → statement M
 weight-after-spec =
     tie.close
-    (tie.spec
-    demux-readout-requires
-    product-requires
-    demux-readout-requires-2
-    product-requires-2
-    returns
-    demux-readout-requires-3
-    product-requires-3
-    returns-2)
+    (tie.spec (λ c κs. search needs) product-requires (λ c κs. search needs) product-requires-2 returns (λ c κs. search needs)
+    product-requires-3 returns-2)

@@ -15,23 +15,15 @@ Inv-loop n k p₀ i₀ p i = (i ≤ k) × (p ≡ placesAt (upToThree n) i)
 abbrev μ-loop : tie.MeasureT-loop
 μ-loop n k p₀ i₀ p i = k - i
 
-first-requires : tie.Need-first-requires Inv-loop μ-loop
-first-requires c κs = search needs
-
-loop-holds : tie.Need-loop-holds Inv-loop μ-loop
-loop-holds c = search needs
-
 next-requires : tie.Need-next-requires Inv-loop μ-loop
-next-requires c κs = in-range _ (c .before .loop .i) (c .before .before .before .pre .0) (omega (arith, c .before .before .before .pre .1)) _ (c .before .loop .inv .1)
-
-add-i : tie.Need-add-i Inv-loop μ-loop
-add-i c = search needs
-
-loop-less : tie.Need-loop-less Inv-loop μ-loop
-loop-less c = search needs
+next-requires c κs =
+    let start = c .before .before .before in
+    in-range _ (c .before .loop .i) (start .pre .0) (omega (arith, start .pre .1)) _ (c .before .loop .inv .1)
 
 loop-again : tie.Need-loop-again Inv-loop μ-loop
-loop-again c = (search needs, c .next .ensures (c .before .before .loop .i) (omega (arith, c .before .before .before .before .pre .1)) (c .before .before .loop .inv .1))
+loop-again c =
+    let at-loop = c .before .before in
+    (search needs, c .next .ensures (at-loop .loop .i) (omega (arith, at-loop .before .before .pre .1)) (at-loop .loop .inv .1))
 
 returns : tie.Need-returns Inv-loop μ-loop
 returns c = let e : c .before .loop .i ≡ c .before .before .before .args .k = omega arith in c .before .loop .inv .1 ∙ ap (placesAt _) e
@@ -39,13 +31,5 @@ returns c = let e : c .before .loop .i ≡ c .before .before .before .args .k = 
 pub at-spec : {M : Type 1} → statement M
 at-spec =
     tie.close
-    (tie.spec
-    Inv-loop
-    μ-loop
-    first-requires
-    loop-holds
-    next-requires
-    add-i
-    loop-less
-    loop-again
+    (tie.spec Inv-loop μ-loop (λ c κs. search needs) (λ c. search needs) next-requires (λ c. search needs) (λ c. search needs) loop-again
     returns)

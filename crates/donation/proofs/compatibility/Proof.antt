@@ -10,12 +10,6 @@ returns : tie.Need-returns
 unfolding one
 returns c = simp (eq-eqb _ _ (c .if1 .taken))
 
-suits-requires : tie.Need-suits-requires
-suits-requires c κs = search needs
-
-share-bit-requires : tie.Need-share-bit-requires
-share-bit-requires c κs = search needs
-
 returns-2 : tie.Need-returns-2
 unfolding one
 returns-2 c =
@@ -35,4 +29,4 @@ unfolding one
 returns-4 c = simp (ne-eqb _ _ (c .before .before .if1 .left), sym (c .before .suits .ensures) ∙ c .if2 .left)
 
 pub compatibility-spec : {M : Type 1} → statement M
-compatibility-spec = tie.close (tie.spec returns suits-requires share-bit-requires returns-2 returns-3 returns-4)
+compatibility-spec = tie.close (tie.spec returns (λ c κs. search needs) (λ c κs. search needs) returns-2 returns-3 returns-4)

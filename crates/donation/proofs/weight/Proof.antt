@@ -7,18 +7,9 @@ use Rattle.donation.proofs.Points.{documentMismatch-most, documentAge-m
 use Rattle.donation.proofs.weight.Statement.{statement}
 use Rattle.donation.proofs.weight.Tie as tie
 
-mismatches-requires : tie.Need-mismatches-requires
-mismatches-requires c κs = search needs
-
-mismatch-points-requires : tie.Need-mismatch-points-requires
-mismatch-points-requires c κs = search needs
-
 add-result : tie.Need-add-result
 unfolding documentPoints
 add-result c = omega (arith, documentMismatch-most (c .before .mismatches .result))
-
-age-points-requires : tie.Need-age-points-requires
-age-points-requires c κs = search needs
 
 add-result-2 : tie.Need-add-result-2
 unfolding documentPoints
@@ -38,11 +29,4 @@ returns-2 c = simp (eq-eqb _ _ (c .if1 .left))
 pub weight-spec : {M : Type 1} → statement M
 weight-spec =
     tie.close
-    (tie.spec
-    mismatches-requires
-    mismatch-points-requires
-    add-result
-    age-points-requires
-    add-result-2
-    returns
-    returns-2)
+    (tie.spec (λ c κs. search needs) (λ c κs. search needs) add-result (λ c κs. search needs) add-result-2 returns returns-2)

@@ -24,5 +24,4 @@ unfolding entry
 returns c = refl
 
 pub compatible-spec : {M : Type 1} → statement M
-compatible-spec =
-    tie.close (tie.spec mul-result add-result shared-slice-read-result cast-result returns)
+compatible-spec = tie.close (tie.spec mul-result add-result shared-slice-read-result cast-result returns)

@@ -27,6 +27,4 @@ unfolding entry
 returns c = refl
 
 pub points-spec : {M : Type 1} → statement M
-points-spec =
-    tie.close
-    (tie.spec mul-result add-result mul-result-2 shared-slice-read-result cast-result returns)
+points-spec = tie.close (tie.spec mul-result add-result mul-result-2 shared-slice-read-result cast-result returns)

@@ -34,23 +34,15 @@ load-u16-requires c κs = omega (arith, at (start (c .before)), start (c .before
 returns : tie.Need-returns
 unfolding entry
 returns c =
-    let s = start (c .before .before) in
+    let after-shared-slice-known2 = c .before .before in
+    let s = start (after-shared-slice-known2) in
     let pre = s .pre in (
       record { m = c .before .load-u8 .ensures; w = c .load-u16 .ensures },
       record {
         zeroOrOne = omega (arith, c .before .load-u8 .ensures, pre .0 .zeroOrOne (s .args .i) (s .args .j) (pre .1) (pre .2));
-        sixteen = omega (arith, c .load-u16 .ensures, c .before .before .shared-slice-known2 .given (s .args .i * s .args .n + s .args .j));
+        sixteen = omega (arith, c .load-u16 .ensures, after-shared-slice-known2 .shared-slice-known2 .given (s .args .i * s .args .n + s .args .j));
       },
     )
 
 pub edge-spec : {M : Type 1} → statement M
-edge-spec =
-    tie.close
-    (tie.spec
-    mul-load-u8
-    add-load-u8
-    load-u8-requires
-    mul-load-u16
-    add-load-u16
-    load-u16-requires
-    returns)
+edge-spec = tie.close (tie.spec mul-load-u8 add-load-u8 load-u8-requires mul-load-u16 add-load-u16 load-u16-requires returns)

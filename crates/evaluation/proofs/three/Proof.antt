@@ -17,20 +17,15 @@ product-requires-2 c κs =
       search needs,
     )
 
-sum-requires : tie.Need-sum-requires
-sum-requires c κs = search needs
-
-sum-requires-2 : tie.Need-sum-requires-2
-sum-requires-2 c κs = search needs
-
 product-requires-3 : tie.Need-product-requires-3
 product-requires-3 c κs =
-    let both = c .before .before .before in
+    let after-product2 = c .before .before in
+    let both = after-product2 .before in
     let pre = both .before .pre in
     let two = ones-is _ _ _ (pre .0 .zeroOrOne) (pre .1 .zeroOrOne) (both .product .ensures .0) in (
-      product-fits _ _ (ones-is _ _ _ two (pre .2 .zeroOrOne) (c .before .before .product2 .ensures .0))
+      product-fits _ _ (ones-is _ _ _ two (pre .2 .zeroOrOne) (after-product2 .product2 .ensures .0))
           (omega (arith, c .sum2 .ensures, c .before .sum .ensures, pre .0 .sixteen, pre .1 .sixteen, pre .2 .sixteen)),
-      room-left 0 2 0 1 _ _ (pre .3) (raised-then (both .product .ensures .1) (c .before .before .product2 .ensures .1)),
+      room-left 0 2 0 1 _ _ (pre .3) (raised-then (both .product .ensures .1) (after-product2 .product2 .ensures .1)),
     )
 
 returns : tie.Need-returns
@@ -39,17 +34,12 @@ returns c =
     let both = all .before in
     let a = both .before .args in (
       c .product3 .ensures .0
-          ∙ (rw (all .product2 .ensures .0, both .product .ensures .0, c .before .sum2 .ensures, c .before .before .sum .ensures) (sym (three-is (a .ab) (a .bc) (a .ca)))),
+          ∙ (rw (all .product2 .ensures .0, both .product .ensures .0, c .before .sum2 .ensures, c .before .before .sum .ensures)
+          (sym (three-is (a .ab) (a .bc) (a .ca)))),
       raised-then (raised-then (both .product .ensures .1) (all .product2 .ensures .1)) (c .product3 .ensures .1),
     )
 
 pub three-spec : {M : Type 1} → statement M
 three-spec =
     tie.close
-    (tie.spec
-    product-requires
-    product-requires-2
-    sum-requires
-    sum-requires-2
-    product-requires-3
-    returns)
+    (tie.spec product-requires product-requires-2 (λ c κs. search needs) (λ c κs. search needs) product-requires-3 returns)

@@ -5,15 +5,6 @@ use Rattle.evaluation.proofs.Subsets.{larger-is}
 use Rattle.evaluation.proofs.triple.Statement.{statement}
 use Rattle.evaluation.proofs.triple.Tie as tie
 
-three-requires : tie.Need-three-requires
-three-requires c κs = search needs
-
-three-requires-2 : tie.Need-three-requires-2
-three-requires-2 c κs = search needs
-
-comparison-requires : tie.Need-comparison-requires
-comparison-requires c κs = search needs
-
 pick-requires : tie.Need-pick-requires
 pick-requires c κs = (bit-le _ _ (c .comparison .ensures .0), search needs)
 
@@ -26,5 +17,4 @@ returns c =
     )
 
 pub triple-spec : {M : Type 1} → statement M
-triple-spec =
-    tie.close (tie.spec three-requires three-requires-2 comparison-requires pick-requires returns)
+triple-spec = tie.close (tie.spec (λ c κs. search needs) (λ c κs. search needs) (λ c κs. search needs) pick-requires returns)

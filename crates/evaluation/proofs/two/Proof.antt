@@ -10,9 +10,6 @@ use Rattle.evaluation.proofs.two.Tie as tie
 product-requires : tie.Need-product-requires
 product-requires c κs = (both-fit _ _ (c .pre .0 .zeroOrOne) (c .pre .1 .zeroOrOne), search needs)
 
-sum-requires : tie.Need-sum-requires
-sum-requires c κs = search needs
-
 product-requires-2 : tie.Need-product-requires-2
 product-requires-2 c κs =
     let pre = c .before .before .pre in (
@@ -23,10 +20,11 @@ product-requires-2 c κs =
 
 returns : tie.Need-returns
 returns c =
-    let a = c .before .before .before .args in (
-      c .product2 .ensures .0 ∙ (rw (c .before .before .product .ensures .0, c .before .sum .ensures) (sym (two-is (a .ab) (a .ba)))),
-      raised-then (c .before .before .product .ensures .1) (c .product2 .ensures .1),
+    let after-product = c .before .before in
+    let a = after-product .before .args in (
+      c .product2 .ensures .0 ∙ (rw (after-product .product .ensures .0, c .before .sum .ensures) (sym (two-is (a .ab) (a .ba)))),
+      raised-then (after-product .product .ensures .1) (c .product2 .ensures .1),
     )
 
 pub two-spec : {M : Type 1} → statement M
-two-spec = tie.close (tie.spec product-requires sum-requires product-requires-2 returns)
+two-spec = tie.close (tie.spec product-requires (λ c κs. search needs) product-requires-2 returns)

@@ -14,20 +14,8 @@ start c = c .before .before .before .before .before
 abbrev looked : tie.After-edge2 → tie.Start
 looked c = start (c .before .before)
 
-mul-a : tie.Need-mul-a
-mul-a c = search needs
-
-shared-slice-read-a : tie.Need-shared-slice-read-a
-shared-slice-read-a c = search needs
-
 cast-a : tie.Need-cast-a
 cast-a c = record { fits = omega (arith, c .shared-slice-known4 .given (c .before .before .before .before .args .p .u)) }
-
-mul-b : tie.Need-mul-b
-mul-b c = search needs
-
-shared-slice-read-b : tie.Need-shared-slice-read-b
-shared-slice-read-b c = search needs
 
 cast-b : tie.Need-cast-b
 cast-b c = record { fits = omega (arith, c .shared-slice-known5 .given (start c .args .p .u), c .shared-slice-known5 .given (start c .args .p .v)) }
@@ -44,9 +32,6 @@ edge-requires-2 c κs =
     let asked = asks-two _ _ _ _ _ (pre .0) (pre .1) (pre .2) in
     search (needs, pre .0, asked .first, asked .second, asked .third)
 
-two-requires : tie.Need-two-requires
-two-requires c κs = search needs
-
 returns : tie.Need-returns
 returns c =
     let back = c .before .before in
@@ -55,12 +40,6 @@ returns c =
       c .two .ensures .0 ∙ is-two _ _ _ _ _ (pre .0) (pre .1) (pre .2) taken _ _ (back .before .edge .ensures .0) (back .edge2 .ensures .0),
       raised 0 2 _ _ (c .two .ensures .1) ∙ tally-two _ _ (pre .2) _ taken,
     )
-
-mul-c : tie.Need-mul-c
-mul-c c = search needs
-
-shared-slice-read-c : tie.Need-shared-slice-read-c
-shared-slice-read-c c = search needs
 
 cast-c : tie.Need-cast-c
 cast-c c = record { fits = omega (arith, c .shared-slice-known6 .given (looked (c .before .before) .args .p .w)) }
@@ -94,8 +73,9 @@ edge-requires-6 c κs =
 
 triple-requires : tie.Need-triple-requires
 triple-requires c κs =
-    let back = c .before .before .before .before .before .before in (
-      (back .before .edge .ensures .1, c .before .before .before .edge3 .ensures .1, c .before .before .edge4 .ensures .1),
+    let after-edge3 = c .before .before .before in
+    let back = after-edge3 .before .before .before in (
+      (back .before .edge .ensures .1, after-edge3 .edge3 .ensures .1, c .before .before .edge4 .ensures .1),
       (c .before .edge5 .ensures .1, c .edge6 .ensures .1, back .edge2 .ensures .1),
       looked back .pre .3,
     )
@@ -116,23 +96,6 @@ returns-2 c =
 pub weight-at-spec : {M : Type 1} → statement M
 weight-at-spec =
     tie.close
-    (tie.spec
-    mul-a
-    shared-slice-read-a
-    cast-a
-    mul-b
-    shared-slice-read-b
-    cast-b
-    edge-requires
-    edge-requires-2
-    two-requires
-    returns
-    mul-c
-    shared-slice-read-c
-    cast-c
-    edge-requires-3
-    edge-requires-4
-    edge-requires-5
-    edge-requires-6
-    triple-requires
-    returns-2)
+    (tie.spec (λ c. search needs) (λ c. search needs) cast-a (λ c. search needs) (λ c. search needs) cast-b edge-requires edge-requires-2
+    (λ c κs. search needs) returns (λ c. search needs) (λ c. search needs) cast-c edge-requires-3 edge-requires-4 edge-requires-5
+    edge-requires-6 triple-requires returns-2)

@@ -4,12 +4,9 @@ use Rattle.greedy.specs.Tally.{nextRound}
 use Rattle.gates.proofs.begin_round.Statement.{statement}
 use Rattle.gates.proofs.begin_round.Tie as tie
 
-add-t2 : tie.Need-add-t2
-add-t2 c = search needs
-
 returns : tie.Need-returns
 unfolding nextRound
 returns c = search needs
 
 pub begin-round-spec : {M : Type 1} → statement M
-begin-round-spec = tie.close (tie.spec add-t2 returns)
+begin-round-spec = tie.close (tie.spec (λ c. search needs) returns)

@@ -4,14 +4,8 @@ use borrow.Author.Needs.{needs}
 use Rattle.gates.proofs.load_u8.Statement.{statement}
 use Rattle.gates.proofs.load_u8.Tie as tie
 
-shared-slice-read-t4 : tie.Need-shared-slice-read-t4
-shared-slice-read-t4 c = search needs
-
 cast-t5 : tie.Need-cast-t5
 cast-t5 c = record { fits = omega (arith, c .shared-slice-known .given (c .before .args .at)) }
 
-returns : tie.Need-returns
-returns c = search needs
-
 pub load-u8-spec : {M : Type 1} → statement M
-load-u8-spec = tie.close (tie.spec shared-slice-read-t4 cast-t5 returns)
+load-u8-spec = tie.close (tie.spec (λ c. search needs) cast-t5 (λ c. search needs))

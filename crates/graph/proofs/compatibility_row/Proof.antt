@@ -23,38 +23,26 @@ abbrev μ-loop : tie.MeasureT-loop
 μ-loop i n donor-blood patient-blood donor-antigens patient-antibodies compatibilities₀ blood antigens start j₀ compatibilities j =
     n - j
 
-shared-slice-read-blood : tie.Need-shared-slice-read-blood Inv-loop μ-loop
-shared-slice-read-blood c = search needs
-
-mul-antigens : tie.Need-mul-antigens Inv-loop μ-loop
-mul-antigens c = search needs
-
-shared-slice-read-antigens : tie.Need-shared-slice-read-antigens Inv-loop μ-loop
-shared-slice-read-antigens c = search needs
+-- moments, each seen from a later one
+abbrev at-loop : tie.After-compatibility Inv-loop μ-loop → tie.At-loop Inv-loop μ-loop
+at-loop c = c .before .before .before .before
 
 mul-start : tie.Need-mul-start Inv-loop μ-loop
 mul-start c =
-    let p = c .before .before .before .before .before .before .before .pre .0 in
+    let start = c .before .before .before .before .before .before .before in
+    let p = start .pre .0 in
     omega (arith, row-fits (p .inside), rows-few (p .few))
 
 loop-holds : tie.Need-loop-holds Inv-loop μ-loop
 loop-holds c =
-    let p = c .before .before .before .before .before .before .before .pre in
+    let start = c .before .before .before .before .before .before .before in
+    let p = start .pre in
     (omega arith, p .0, p .1, storing-none _ _ _)
-
-shared-slice-read-compatibility : tie.Need-shared-slice-read-compatibility Inv-loop μ-loop
-shared-slice-read-compatibility c = search needs
-
-mul-compatibility : tie.Need-mul-compatibility Inv-loop μ-loop
-mul-compatibility c = search needs
-
-shared-slice-read-compatibility-2 : tie.Need-shared-slice-read-compatibility-2 Inv-loop μ-loop
-shared-slice-read-compatibility-2 c = search needs
 
 loop-again : tie.Need-loop-again Inv-loop μ-loop
 unfolding compatibility pairIn
 loop-again c =
-    let l = c .before .before .before .before .loop in
+    let l = at-loop c .loop in
     let v = l .inv in (
       omega arith,
       v .1,
@@ -70,19 +58,13 @@ compatibility-requires c κs =
 
 add-compatibilities : tie.Need-add-compatibilities Inv-loop μ-loop
 add-compatibilities c =
-    let r = c .before .before .before .before .loop .inv .1 in
+    let r = at-loop c .loop .inv .1 in
     omega (arith, row-fits (r .inside), rows-few (r .few))
 
 slice-write-compatibilities : tie.Need-slice-write-compatibilities Inv-loop μ-loop
 slice-write-compatibilities c =
-    let v = c .before .before .before .before .loop .inv in
+    let v = at-loop c .loop .inv in
     omega (arith, row-fits (v .1 .inside), v .1 .fits, v .3 .kept)
-
-add-j : tie.Need-add-j Inv-loop μ-loop
-add-j c = search needs
-
-loop-less : tie.Need-loop-less Inv-loop μ-loop
-loop-less c = search needs
 
 same-length : tie.Need-same-length Inv-loop μ-loop
 same-length c = c .before .loop .inv .3 .kept
@@ -96,22 +78,6 @@ returns c =
 pub compatibility-row-spec : {M : Type 1} → statement M
 compatibility-row-spec =
     tie.close
-    (tie.spec
-    Inv-loop
-    μ-loop
-    shared-slice-read-blood
-    mul-antigens
-    shared-slice-read-antigens
-    mul-start
-    loop-holds
-    shared-slice-read-compatibility
-    mul-compatibility
-    shared-slice-read-compatibility-2
-    compatibility-requires
-    add-compatibilities
-    slice-write-compatibilities
-    add-j
-    loop-less
-    loop-again
-    same-length
-    returns)
+    (tie.spec Inv-loop μ-loop (λ c. search needs) (λ c. search needs) (λ c. search needs) mul-start loop-holds (λ c. search needs)
+    (λ c. search needs) (λ c. search needs) compatibility-requires add-compatibilities slice-write-compatibilities (λ c. search needs)
+    (λ c. search needs) loop-again same-length returns)

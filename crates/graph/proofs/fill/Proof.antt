@@ -28,7 +28,8 @@ abbrev μ-loop : tie.MeasureT-loop
 
 loop-holds : tie.Need-loop-holds Inv-loop μ-loop
 loop-holds c =
-    (omega arith, c .before .before .before .before .before .before .before .before .before .pre, rows-none _ _ _, rows-none _ _ _)
+    let start = c .before .before .before .before .before .before .before .before .before in
+    (omega arith, start .pre, rows-none _ _ _, rows-none _ _ _)
 
 loop-again : tie.Need-loop-again Inv-loop μ-loop
 unfolding withRow compatibility weight pairIn
@@ -56,12 +57,6 @@ weight-row-requires c κs =
     let v = t .before .loop .inv in
     (record { inside = t .loop-test .taken; few = v .1 .few; fits = rw (v .3 .kept) (v .1 .inWeights) }, v .1 .forW)
 
-add-i : tie.Need-add-i Inv-loop μ-loop
-add-i c = search needs
-
-loop-less : tie.Need-loop-less Inv-loop μ-loop
-loop-less c = search needs
-
 same-length : tie.Need-same-length Inv-loop μ-loop
 same-length c = c .before .loop .inv .2 .kept
 
@@ -77,15 +72,5 @@ returns c =
 pub fill-spec : {M : Type 1} → statement M
 fill-spec =
     tie.close
-    (tie.spec
-    Inv-loop
-    μ-loop
-    loop-holds
-    compatibility-row-requires
-    weight-row-requires
-    add-i
-    loop-less
-    loop-again
-    same-length
-    same-length-2
-    returns)
+    (tie.spec Inv-loop μ-loop loop-holds compatibility-row-requires weight-row-requires (λ c. search needs) (λ c. search needs) loop-again
+    same-length same-length-2 returns)

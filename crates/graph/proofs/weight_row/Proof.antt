@@ -23,62 +23,41 @@ abbrev μ-loop : tie.MeasureT-loop
 μ-loop i n donor-age patient-age donor-antigens patient-antigens weights₀ age antigens start j₀ weights j =
     n - j
 
-shared-slice-read-age : tie.Need-shared-slice-read-age Inv-loop μ-loop
-shared-slice-read-age c = search needs
-
-mul-antigens : tie.Need-mul-antigens Inv-loop μ-loop
-mul-antigens c = search needs
-
-shared-slice-read-antigens : tie.Need-shared-slice-read-antigens Inv-loop μ-loop
-shared-slice-read-antigens c = search needs
+-- moments, each seen from a later one
+abbrev at-loop : tie.After-weight Inv-loop μ-loop → tie.At-loop Inv-loop μ-loop
+at-loop c = c .before .before .before .before
 
 mul-start : tie.Need-mul-start Inv-loop μ-loop
 mul-start c =
-    let p = c .before .before .before .before .before .before .before .pre .0 in
+    let start = c .before .before .before .before .before .before .before in
+    let p = start .pre .0 in
     omega (arith, row-fits (p .inside), rows-few (p .few))
 
 loop-holds : tie.Need-loop-holds Inv-loop μ-loop
 loop-holds c =
-    let p = c .before .before .before .before .before .before .before .pre in
+    let start = c .before .before .before .before .before .before .before in
+    let p = start .pre in
     (omega arith, p .0, p .1, storing-none _ _ _)
-
-shared-slice-read-weight : tie.Need-shared-slice-read-weight Inv-loop μ-loop
-shared-slice-read-weight c = search needs
-
-mul-weight : tie.Need-mul-weight Inv-loop μ-loop
-mul-weight c = search needs
-
-shared-slice-read-weight-2 : tie.Need-shared-slice-read-weight-2 Inv-loop μ-loop
-shared-slice-read-weight-2 c = search needs
-
-weight-requires : tie.Need-weight-requires Inv-loop μ-loop
-weight-requires c κs = search needs
 
 add-weights : tie.Need-add-weights Inv-loop μ-loop
 add-weights c =
-    let r = c .before .before .before .before .loop .inv .1 in
+    let r = at-loop c .loop .inv .1 in
     omega (arith, row-fits (r .inside), rows-few (r .few))
 
 mul-weights : tie.Need-mul-weights Inv-loop μ-loop
 mul-weights c =
-    let r = c .before .before .before .before .loop .inv .1 in
+    let r = at-loop c .loop .inv .1 in
     omega (arith, row-fits (r .inside), rows-few (r .few))
 
 slice-write-weights : tie.Need-slice-write-weights Inv-loop μ-loop
 slice-write-weights c =
-    let v = c .before .before .before .before .loop .inv in
+    let v = at-loop c .loop .inv in
     omega (arith, row-fits (v .1 .inside), v .1 .fits, v .3 .kept)
-
-add-j : tie.Need-add-j Inv-loop μ-loop
-add-j c = search needs
-
-loop-less : tie.Need-loop-less Inv-loop μ-loop
-loop-less c = search needs
 
 loop-again : tie.Need-loop-again Inv-loop μ-loop
 unfolding weight pairIn
 loop-again c =
-    let l = c .before .before .before .before .loop in
+    let l = at-loop c .loop in
     let v = l .inv in (
       omega arith,
       v .1,
@@ -98,23 +77,6 @@ returns c =
 pub weight-row-spec : {M : Type 1} → statement M
 weight-row-spec =
     tie.close
-    (tie.spec
-    Inv-loop
-    μ-loop
-    shared-slice-read-age
-    mul-antigens
-    shared-slice-read-antigens
-    mul-start
-    loop-holds
-    shared-slice-read-weight
-    mul-weight
-    shared-slice-read-weight-2
-    weight-requires
-    add-weights
-    mul-weights
-    slice-write-weights
-    add-j
-    loop-less
-    loop-again
-    same-length
-    returns)
+    (tie.spec Inv-loop μ-loop (λ c. search needs) (λ c. search needs) (λ c. search needs) mul-start loop-holds (λ c. search needs)
+    (λ c. search needs) (λ c. search needs) (λ c κs. search needs) add-weights mul-weights slice-write-weights (λ c. search needs)
+    (λ c. search needs) loop-again same-length returns)

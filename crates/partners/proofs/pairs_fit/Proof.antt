@@ -21,6 +21,10 @@ abbrev μ-loop : tie.MeasureT-loop
 abbrev lineIn : tie.Start Inv-loop μ-loop → ℕ → List ℕ
 lineIn s = pairLine (s .args .n) (s .args .ids .now) (s .args .donors .now) (s .args .recipients .now)
 
+-- moments, each seen from a later one
+abbrev start : tie.At-loop Inv-loop μ-loop → tie.Start Inv-loop μ-loop
+start c = c .before .before .before .before .before
+
 returns : tie.Need-returns Inv-loop μ-loop
 unfolding pairLines
 returns c =
@@ -34,28 +38,24 @@ loop-holds c =
 
 pair-length-requires : tie.Need-pair-length-requires Inv-loop μ-loop
 pair-length-requires c κs =
-    let s = c .before .before .before .before .before .before in
+    let s = start (c .before) in
     (s .pre, c .loop-test .taken)
 
 returns-2 : tie.Need-returns-2 Inv-loop μ-loop
 unfolding pairLines
 returns-2 c =
-    let l = c .before .before .before .loop in
-    let s = c .before .before .before .before .before .before .before .before in
+    let at-loop = c .before .before .before in
+    let l = at-loop .loop in
+    let s = start at-loop in
     let e = length-texts (lineIn s) (l .i) in
     let f = texts-le (lineIn s) (l .i + 1) (s .args .n) (omega (arith, c .before .before .loop-test .taken)) in
     sym (lt-leb _ (s .args .room) (omega (arith, l .inv .1, c .if2 .taken, c .before .pair-length .ensures)))
 
-add-i : tie.Need-add-i Inv-loop μ-loop
-add-i c = omega arith
-
-loop-less : tie.Need-loop-less Inv-loop μ-loop
-loop-less c = omega arith
-
 loop-again : tie.Need-loop-again Inv-loop μ-loop
 loop-again c =
-    let l = c .before .before .before .loop in
-    let s = c .before .before .before .before .before .before .before .before in
+    let at-loop = c .before .before .before in
+    let l = at-loop .loop in
+    let s = start at-loop in
     let e = length-texts (lineIn s) (l .i) in
     (omega arith, omega (arith, l .inv .1, c .if2 .left, c .before .pair-length .ensures))
 
@@ -63,7 +63,7 @@ returns-3 : tie.Need-returns-3 Inv-loop μ-loop
 unfolding pairLines
 returns-3 c =
     let l = c .before .loop in
-    let s = c .before .before .before .before .before .before in
+    let s = start (c .before) in
     let e : l .i ≡ s .args .n = omega arith in
     let f = ap (λ (i : ℕ). length (flatten (table i (lineIn s)))) e in
     sym (le-leb _ (s .args .room) (omega (arith, l .inv .1)))
@@ -71,14 +71,4 @@ returns-3 c =
 pub pairs-fit-spec : {M : Type 1} → statement M
 pairs-fit-spec =
     tie.close
-    (tie.spec
-    Inv-loop
-    μ-loop
-    returns
-    loop-holds
-    pair-length-requires
-    returns-2
-    add-i
-    loop-less
-    loop-again
-    returns-3)
+    (tie.spec Inv-loop μ-loop returns loop-holds pair-length-requires returns-2 (λ c. omega arith) (λ c. omega arith) loop-again returns-3)

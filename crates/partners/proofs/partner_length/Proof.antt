@@ -13,20 +13,8 @@ returns c =
     let e = ap length (partner-none (s .args .n) (s .args .ids .now) (s .args .who) (omega (arith, c .if1 .taken))) in
     (omega arith, omega arith)
 
-mul-digits : tie.Need-mul-digits
-mul-digits c = search needs
-
-shared-slice-read-digits : tie.Need-shared-slice-read-digits
-shared-slice-read-digits c = search needs
-
 cast-digits : tie.Need-cast-digits
 cast-digits c = omega (arith, c .shared-slice-known2 .given (c .before .before .before .args .who))
-
-digits-requires : tie.Need-digits-requires
-digits-requires c κs = search needs
-
-add-result : tie.Need-add-result
-add-result c = search needs
 
 returns-2 : tie.Need-returns-2
 returns-2 c =
@@ -37,11 +25,4 @@ returns-2 c =
 pub partner-length-spec : {M : Type 1} → statement M
 partner-length-spec =
     tie.close
-    (tie.spec
-    returns
-    mul-digits
-    shared-slice-read-digits
-    cast-digits
-    digits-requires
-    add-result
-    returns-2)
+    (tie.spec returns (λ c. search needs) (λ c. search needs) cast-digits (λ c κs. search needs) (λ c. search needs) returns-2)

@@ -16,12 +16,6 @@ firstOf second = second .before .before .before .before .before
 abbrev secondOf : tie.After-put-partner2 → tie.After-put-partner
 secondOf third = third .before .before .before .before .before
 
-mul-put-number : tie.Need-mul-put-number
-mul-put-number c = search needs
-
-shared-slice-read-put-number : tie.Need-shared-slice-read-put-number
-shared-slice-read-put-number c = search needs
-
 cast-put-number : tie.Need-cast-put-number
 cast-put-number c =
     let s = c .before .before .before .before .before .before in
@@ -33,24 +27,12 @@ put-number-requires c κs =
     let k = length-pair (s .args .n) (s .args .ids .now) (s .args .donors .now) (s .args .recipients .now) (s .args .i) in
     omega (arith, s .pre .1 .1)
 
-mul-put-partner : tie.Need-mul-put-partner
-mul-put-partner c = search needs
-
-shared-slice-read-put-partner : tie.Need-shared-slice-read-put-partner
-shared-slice-read-put-partner c = search needs
-
 put-partner-requires : tie.Need-put-partner-requires
 put-partner-requires c κs =
     let first = c .before .before .before .before in
     let s = start first in
     let k = length-pair (s .args .n) (s .args .ids .now) (s .args .donors .now) (s .args .recipients .now) (s .args .i) in
     (s .pre .0 .ids, omega (arith, s .pre .1 .1, first .put-number .ensures .ends, first .put-number .kept .0))
-
-mul-put-partner-2 : tie.Need-mul-put-partner-2
-mul-put-partner-2 c = search needs
-
-shared-slice-read-put-partner-2 : tie.Need-shared-slice-read-put-partner-2
-shared-slice-read-put-partner-2 c = search needs
 
 put-partner-requires-2 : tie.Need-put-partner-requires-2
 put-partner-requires-2 c κs =
@@ -118,18 +100,5 @@ returns c =
 pub put-pair-spec : {M : Type 1} → statement M
 put-pair-spec =
     tie.close
-    (tie.spec
-    mul-put-number
-    shared-slice-read-put-number
-    cast-put-number
-    put-number-requires
-    mul-put-partner
-    shared-slice-read-put-partner
-    put-partner-requires
-    mul-put-partner-2
-    shared-slice-read-put-partner-2
-    put-partner-requires-2
-    slice-write-out
-    add-result
-    same-length
-    returns)
+    (tie.spec (λ c. search needs) (λ c. search needs) cast-put-number put-number-requires (λ c. search needs) (λ c. search needs)
+    put-partner-requires (λ c. search needs) (λ c. search needs) put-partner-requires-2 slice-write-out add-result same-length returns)

@@ -18,6 +18,10 @@ Inv-loop out₀ at n ids donors recipients end₀ i₀ out end i =
 abbrev μ-loop : tie.MeasureT-loop
 μ-loop out₀ at n ids donors recipients end₀ i₀ out end i = n - i
 
+-- moments, each seen from a later one
+abbrev start : tie.At-loop Inv-loop μ-loop → tie.Start Inv-loop μ-loop
+start c = c .before .before .before .before .before
+
 loop-holds : tie.Need-loop-holds Inv-loop μ-loop
 loop-holds c =
     let s = c .before .before .before .before in
@@ -26,17 +30,12 @@ loop-holds c =
 put-pair-requires : tie.Need-put-pair-requires Inv-loop μ-loop
 unfolding pairLines
 put-pair-requires c κs =
-    let l = c .before .before .loop in
-    let s = c .before .before .before .before .before .before .before in
+    let at-loop = c .before .before in
+    let l = at-loop .loop in
+    let s = start at-loop in
     let line : ℕ → List ℕ = pairLine (s .args .n) (s .args .ids .now) (s .args .donors .now) (s .args .recipients .now) in
     let below = c .before .loop-test .taken in
     (s .pre .0, (below, next-fits line (s .args .at) (s .args .out .now) (l .i) (s .args .n) below (s .pre .1) (l .inv .1) (l .inv .2)))
-
-add-i : tie.Need-add-i Inv-loop μ-loop
-add-i c = omega arith
-
-loop-less : tie.Need-loop-less Inv-loop μ-loop
-loop-less c = omega arith
 
 loop-again : tie.Need-loop-again Inv-loop μ-loop
 unfolding pairLines
@@ -44,7 +43,7 @@ loop-again c =
     let after = c .before .before in
     let turn = after .before .before in
     let l = turn .before .loop in
-    let s = turn .before .before .before .before .before .before in
+    let s = start (turn .before) in
     let line : ℕ → List ℕ = pairLine (s .args .n) (s .args .ids .now) (s .args .donors .now) (s .args .recipients .now) in (
       omega arith,
       after .put-pair .kept .0 ∙ l .inv .1,
@@ -58,20 +57,11 @@ returns : tie.Need-returns Inv-loop μ-loop
 unfolding pairLines
 returns c =
     let l = c .before .loop in
-    let s = c .before .before .before .before .before .before in
+    let s = start (c .before) in
     let line : ℕ → List ℕ = pairLine (s .args .n) (s .args .ids .now) (s .args .donors .now) (s .args .recipients .now) in
     texts-all line (s .args .at) (s .args .out .now) (l .i) (s .args .n) (omega arith) (l .inv .2)
 
 pub put-pairs-spec : {M : Type 1} → statement M
 put-pairs-spec =
     tie.close
-    (tie.spec
-    Inv-loop
-    μ-loop
-    loop-holds
-    put-pair-requires
-    add-i
-    loop-less
-    loop-again
-    same-length
-    returns)
+    (tie.spec Inv-loop μ-loop loop-holds put-pair-requires (λ c. omega arith) (λ c. omega arith) loop-again same-length returns)

@@ -9,47 +9,31 @@ use borrow.Author.Needs.{needs}
 use Rattle.partners.proofs.put_partner.Statement.{statement}
 use Rattle.partners.proofs.put_partner.Tie as tie
 
-mul-put-following : tie.Need-mul-put-following
-mul-put-following c = search needs
-
-shared-slice-read-put-following : tie.Need-shared-slice-read-put-following
-shared-slice-read-put-following c = search needs
+-- moments, each seen from a later one
+abbrev start : tie.After-shared-slice-known2 → tie.Start
+start c = c .before .before .before .before .before
 
 cast-put-following : tie.Need-cast-put-following
-cast-put-following c = omega (arith, c .shared-slice-known2 .given (c .before .before .before .before .before .args .who))
+cast-put-following c = omega (arith, c .shared-slice-known2 .given (start c .args .who))
 
 put-following-requires : tie.Need-put-following-requires
 put-following-requires c κs =
-    let s = c .before .before .before .before .before in
+    let s = start c in
     let e = ap length (partner-id (s .args .n) (s .args .ids .now) (s .args .who) (c .before .before .if1 .taken)) in
     omega (arith, s .pre .1)
 
-same-length : tie.Need-same-length
-same-length c = search needs
-
 returns : tie.Need-returns
 returns c =
-    let s = c .before .before .before .before .before .before .before .before in
-    put-as (ap following (sym (partner-id (s .args .n) (s .args .ids .now) (s .args .who) (c .before .before .before .before .before .if1 .taken))))
+    let after-shared-slice-known2 = c .before .before .before in
+    let s = start after-shared-slice-known2 in
+    put-as (ap following (sym (partner-id (s .args .n) (s .args .ids .now) (s .args .who) (after-shared-slice-known2 .before .before .if1 .taken))))
     (c .before .before .put-following .ensures)
-
-slice-write-out : tie.Need-slice-write-out
-slice-write-out c = search needs
-
-add-out : tie.Need-add-out
-add-out c = search needs
 
 slice-write-out-2 : tie.Need-slice-write-out-2
 slice-write-out-2 c =
     let s = c .before .before .before in
     let e = ap length (partner-none (s .args .n) (s .args .ids .now) (s .args .who) (c .if1 .left)) in
     omega (arith, s .pre .1, length-set (s .args .out .now) (s .args .at) 32)
-
-add-result : tie.Need-add-result
-add-result c = search needs
-
-same-length-2 : tie.Need-same-length-2
-same-length-2 c = search needs
 
 returns-2 : tie.Need-returns-2
 returns-2 c =
@@ -60,16 +44,5 @@ returns-2 c =
 pub put-partner-spec : {M : Type 1} → statement M
 put-partner-spec =
     tie.close
-    (tie.spec
-    mul-put-following
-    shared-slice-read-put-following
-    cast-put-following
-    put-following-requires
-    same-length
-    returns
-    slice-write-out
-    add-out
-    slice-write-out-2
-    add-result
-    same-length-2
-    returns-2)
+    (tie.spec (λ c. search needs) (λ c. search needs) cast-put-following put-following-requires (λ c. search needs) returns
+    (λ c. search needs) (λ c. search needs) slice-write-out-2 (λ c. search needs) (λ c. search needs) returns-2)

@@ -4,68 +4,60 @@ use borrow.Author.Needs.{needs}
 use Rattle.planner.proofs.make.Statement.{statement}
 use Rattle.planner.proofs.make.Tie as tie
 
-count-requires : tie.Need-count-requires
-count-requires c κs = search needs
+-- moments, each seen from a later one
+abbrev start : tie.After-count → tie.Start
+start c = c .before .before .before .before .before .before .before .before
 
-slice-relend-prefix-steps : tie.Need-slice-relend-prefix-steps
-slice-relend-prefix-steps c = search needs
+abbrev after-count : tie.After-steps → tie.After-count
+after-count c = c .before .before .before
+
+abbrev after-steps : tie.After-resolve-arg → tie.After-steps
+after-steps c = c .before .before .before .before .before
 
 slice-aggregate-steps : tie.Need-slice-aggregate-steps
-slice-aggregate-steps c = weights-front _ _ _ _ _ _ _ _ (c .before .before .before .before .before .before .before .before .before .pre) _ (c .before .count .ensures)
-
-slice-relend-prefix-steps-2 : tie.Need-slice-relend-prefix-steps-2
-slice-relend-prefix-steps-2 c = search needs
+slice-aggregate-steps c = weights-front _ _ _ _ _ _ _ _ (start (c .before) .pre) _ (c .before .count .ensures)
 
 slice-aggregate-steps-2 : tie.Need-slice-aggregate-steps-2
-slice-aggregate-steps-2 c = choices-front _ _ _ _ _ _ _ _ (c .before .before .before .before .before .before .before .before .before .before .pre) _ (c .before .before .count .ensures)
+slice-aggregate-steps-2 c =
+    let count = c .before .before in
+    choices-front _ _ _ _ _ _ _ _ (start count .pre) _ (count .count .ensures)
 
 steps-requires : tie.Need-steps-requires
-steps-requires c κs = asks-steps _ _ _ _ _ _ _ _ (c .before .before .before .before .before .before .before .before .before .before .pre) _ (c .before .before .count .ensures)
-
-slice-reshare-prefix-resolve : tie.Need-slice-reshare-prefix-resolve
-slice-reshare-prefix-resolve c = search needs
+steps-requires c κs =
+    let count = c .before .before in
+    asks-steps _ _ _ _ _ _ _ _ (start count .pre) _ (count .count .ensures)
 
 slice-aggregate-resolve : tie.Need-slice-aggregate-resolve
-slice-aggregate-resolve c = choices-part _ _ _ _ _ _ _ _ (c .before .before .before .before .before .before .before .before .before .before .before .before .before .before .before .before .pre) _ (c .before .before .before .before .before .before .before .before .count .ensures) _ _ _ (c .before .before .before .before .before .steps .ensures)
-
-slice-relend-prefix-resolve : tie.Need-slice-relend-prefix-resolve
-slice-relend-prefix-resolve c = search needs
+slice-aggregate-resolve c =
+    let s = start (after-count (after-steps c)) in
+    choices-part _ _ _ _ _ _ _ _ (s .pre) _ (after-count (after-steps c) .count .ensures) _ _ _ (after-steps c .steps .ensures)
 
 slice-aggregate-resolve-2 : tie.Need-slice-aggregate-resolve-2
-slice-aggregate-resolve-2 c = front _ _ (c .before .before .before .before .before .before .before .before .before .before .before .before .before .before .before .before .before .pre .inDonors)
-
-slice-relend-prefix-resolve-2 : tie.Need-slice-relend-prefix-resolve-2
-slice-relend-prefix-resolve-2 c = search needs
+slice-aggregate-resolve-2 c =
+    let s = start (after-count (after-steps (c .before))) in
+    front _ _ (s .pre .inDonors)
 
 slice-aggregate-resolve-3 : tie.Need-slice-aggregate-resolve-3
-slice-aggregate-resolve-3 c = front _ _ (c .before .before .before .before .before .before .before .before .before .before .before .before .before .before .before .before .before .before .pre .inRecipients)
+slice-aggregate-resolve-3 c =
+    let count = after-count (after-steps (c .before .before)) in
+    front _ _ (start count .pre .inRecipients)
 
 resolve-requires : tie.Need-resolve-requires
-resolve-requires c κs = asks-resolve _ _ _ _ _ _ _ _ (c .before .before .before .before .before .before .before .before .before .before .before .before .before .before .before .before .before .before .pre) _ (c .before .before .before .before .before .before .before .before .before .before .count .ensures) _ _ _ (c .before .before .before .before .before .before .before .steps .ensures)
-
-counts-of-requires : tie.Need-counts-of-requires
-counts-of-requires c κs = search needs
-
-same-length : tie.Need-same-length
-same-length c = search needs
-
-same-length-2 : tie.Need-same-length-2
-same-length-2 c = search needs
-
-same-length-3 : tie.Need-same-length-3
-same-length-3 c = search needs
-
-same-length-4 : tie.Need-same-length-4
-same-length-4 c = search needs
+resolve-requires c κs =
+    let after-resolve-arg = c .before .before in
+    let count = after-count (after-steps (after-resolve-arg)) in
+    asks-resolve _ _ _ _ _ _ _ _ (start count .pre) _ (count .count .ensures) _ _ _ (after-steps (after-resolve-arg) .steps .ensures)
 
 returns : tie.Need-returns
 returns c =
     let made = c .before .before .before .before .before .before in
-    let stepped = made .before .before .before .before .before .before .before .before in
-    let all = stepped .before .before .before in
-    let pre = all .before .before .before .before .before .before .before .before .pre in
+    let after-resolve-arg = made .before .before .before in
+    let stepped = after-steps after-resolve-arg in
+    let all = after-count stepped in
+    let pre = start all .pre in
     record {
-      made = plan-is _ _ _ _ _ _ _ _ pre _ (all .count .ensures) _ _ _ (stepped .steps .ensures) (made .resolve .result) _ _ (made .resolve .ensures) _ (c .counts-of .ensures);
+      made = plan-is _ _ _ _ _ _ _ _ pre _ (all .count .ensures) _ _ _ (stepped .steps .ensures) (made .resolve .result) _ _
+          (made .resolve .ensures) _ (c .counts-of .ensures);
       few = cycles-few _ _ _ _ _ _ _ _ pre _ (all .count .ensures) _ _ _ (stepped .steps .ensures) (made .resolve .result) _ _ (made .resolve .ensures);
       leaves = lent-is _ _ _ _ _ _ _ _ pre _ (all .count .ensures) _ _ _ (stepped .steps .ensures) (made .resolve .result) _ _ (made .resolve .ensures);
     }
@@ -73,23 +65,6 @@ returns c =
 pub make-spec : {M : Type 1} → statement M
 make-spec =
     tie.close
-    (tie.spec
-    count-requires
-    slice-relend-prefix-steps
-    slice-aggregate-steps
-    slice-relend-prefix-steps-2
-    slice-aggregate-steps-2
-    steps-requires
-    slice-reshare-prefix-resolve
-    slice-aggregate-resolve
-    slice-relend-prefix-resolve
-    slice-aggregate-resolve-2
-    slice-relend-prefix-resolve-2
-    slice-aggregate-resolve-3
-    resolve-requires
-    counts-of-requires
-    same-length
-    same-length-2
-    same-length-3
-    same-length-4
-    returns)
+    (tie.spec (λ c κs. search needs) (λ c. search needs) slice-aggregate-steps (λ c. search needs) slice-aggregate-steps-2 steps-requires
+    (λ c. search needs) slice-aggregate-resolve (λ c. search needs) slice-aggregate-resolve-2 (λ c. search needs) slice-aggregate-resolve-3
+    resolve-requires (λ c κs. search needs) (λ c. search needs) (λ c. search needs) (λ c. search needs) (λ c. search needs) returns)

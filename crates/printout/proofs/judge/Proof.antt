@@ -52,30 +52,6 @@ returns-3 c =
     let s = c .before .before .before .before .before .before in
     judged-recipients (s .args .room) (given s) (c .before .before .if1 .left) (c .before .if2 .left) (c .if3 .taken)
 
-slice-aggregate-line-length : tie.Need-slice-aggregate-line-length
-slice-aggregate-line-length c = search needs
-
-slice-aggregate-line-length-2 : tie.Need-slice-aggregate-line-length-2
-slice-aggregate-line-length-2 c = search needs
-
-line-length-requires : tie.Need-line-length-requires
-line-length-requires c κs = search needs
-
-slice-aggregate-line-length-3 : tie.Need-slice-aggregate-line-length-3
-slice-aggregate-line-length-3 c = search needs
-
-slice-aggregate-line-length-4 : tie.Need-slice-aggregate-line-length-4
-slice-aggregate-line-length-4 c = search needs
-
-line-length-requires-2 : tie.Need-line-length-requires-2
-line-length-requires-2 c κs = search needs
-
-add-used : tie.Need-add-used
-add-used c = search needs
-
-pairs-fit-requires : tie.Need-pairs-fit-requires
-pairs-fit-requires c κs = search needs
-
 returns-4 : tie.Need-returns-4
 returns-4 c =
     let f = c .before in
@@ -91,17 +67,5 @@ returns-5 c =
 pub judge-spec : {M : Type 1} → statement M
 judge-spec =
     tie.close
-    (tie.spec
-    returns
-    returns-2
-    returns-3
-    slice-aggregate-line-length
-    slice-aggregate-line-length-2
-    line-length-requires
-    slice-aggregate-line-length-3
-    slice-aggregate-line-length-4
-    line-length-requires-2
-    add-used
-    pairs-fit-requires
-    returns-4
-    returns-5)
+    (tie.spec returns returns-2 returns-3 (λ c. search needs) (λ c. search needs) (λ c κs. search needs) (λ c. search needs)
+    (λ c. search needs) (λ c κs. search needs) (λ c. search needs) (λ c κs. search needs) returns-4 returns-5)

@@ -28,15 +28,6 @@ typed j =
       rounds = f .rounds .fits;
     }
 
-judge-requires : tie.Need-judge-requires
-judge-requires c κs = search needs
-
-enum-known-why : tie.Need-enum-known-why
-enum-known-why c = search needs
-
-enum-told : tie.Need-enum-told
-enum-told c = search needs
-
 put-plan-requires : tie.Need-put-plan-requires
 put-plan-requires c κs =
     let told = c .before in
@@ -51,9 +42,6 @@ returns c =
     let e = answered-fault (given s) (s .args .out .now) (j .judge .result) (j .judge .ensures) _ (c .before .why .given .1) in
     (e, prints-plan (given s) (s .args .out .now) (typed j) e)
 
-same-length : tie.Need-same-length
-same-length c = search needs
-
 returns-2 : tie.Need-returns-2
 returns-2 c =
     let w = c .before .before in
@@ -67,11 +55,4 @@ returns-2 c =
 pub print-plan-spec : {M : Type 1} → statement M
 print-plan-spec =
     tie.close
-    (tie.spec
-    judge-requires
-    enum-known-why
-    enum-told
-    put-plan-requires
-    returns
-    same-length
-    returns-2)
+    (tie.spec (λ c κs. search needs) (λ c. search needs) (λ c. search needs) put-plan-requires returns (λ c. search needs) returns-2)

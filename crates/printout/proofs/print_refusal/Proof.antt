@@ -8,18 +8,6 @@ use borrow.Author.Needs.{needs}
 use Rattle.printout.proofs.print_refusal.Statement.{statement}
 use Rattle.printout.proofs.print_refusal.Tie as tie
 
-number-requires : tie.Need-number-requires
-number-requires c κs = search needs
-
-cast-print-refused : tie.Need-cast-print-refused
-cast-print-refused c = search needs
-
-print-refused-requires : tie.Need-print-refused-requires
-print-refused-requires c κs = search needs
-
-same-length : tie.Need-same-length
-same-length c = search needs
-
 returns : tie.Need-returns
 returns c =
     let w = c .before .before in
@@ -30,6 +18,4 @@ returns c =
     (e, prints-refusal _ (s .args .place) (s .args .out .now) (s .fits .place .fits) e (omega (arith, m .number .ensures)))
 
 pub print-refusal-spec : {M : Type 1} → statement M
-print-refusal-spec =
-    tie.close
-    (tie.spec number-requires cast-print-refused print-refused-requires same-length returns)
+print-refusal-spec = tie.close (tie.spec (λ c κs. search needs) (λ c. search needs) (λ c κs. search needs) (λ c. search needs) returns)

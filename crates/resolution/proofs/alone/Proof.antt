@@ -17,17 +17,11 @@ Inv-loop n partners₀ none i₀ partners i = (i ≤ length partners₀) × Fill
 abbrev μ-loop : tie.MeasureT-loop
 μ-loop n partners₀ none i₀ partners i = length partners₀ - i
 
-cast-none : tie.Need-cast-none Inv-loop μ-loop
-cast-none c = search needs
-
 loop-holds : tie.Need-loop-holds Inv-loop μ-loop
 loop-holds c = (omega arith, filling-none _ _)
 
 mul-partners : tie.Need-mul-partners Inv-loop μ-loop
 mul-partners c = record { fits = omega (arith, c .before .loop .inv .1 .kept, c .before .before .pre .1) }
-
-slice-write-partners : tie.Need-slice-write-partners Inv-loop μ-loop
-slice-write-partners c = search needs
 
 add-i : tie.Need-add-i Inv-loop μ-loop
 add-i c = record { fits = omega (arith, c .before .loop .inv .1 .kept, c .before .before .pre .1) }
@@ -36,29 +30,23 @@ loop-less : tie.Need-loop-less Inv-loop μ-loop
 loop-less c = omega (arith, c .before .loop .inv .1 .kept, c .loop-test .taken)
 
 loop-again : tie.Need-loop-again Inv-loop μ-loop
-loop-again c = (omega (arith, c .before .loop .inv .1 .kept, c .loop-test .taken), filling-more _ _ _ _ _ (c .before .loop .inv .1) refl (omega (arith, c .before .loop .inv .1 .kept, c .loop-test .taken)))
+loop-again c = (
+  omega (arith, c .before .loop .inv .1 .kept, c .loop-test .taken),
+  filling-more _ _ _ _ _ (c .before .loop .inv .1) refl
+      (omega (arith, c .before .loop .inv .1 .kept, c .loop-test .taken)),
+)
 
 same-length : tie.Need-same-length Inv-loop μ-loop
 same-length c = c .before .loop .inv .1 .kept
 
 returns : tie.Need-returns Inv-loop μ-loop
 returns c =
-    let old = c .before .before .args .partners .now in
-    let e : c .before .loop .i ≡ length (c .before .before .args .partners .now) = omega (arith, c .before .loop .inv .0, c .before .loop .inv .1 .kept, c .loop-test .left) in
+    let start = c .before .before in
+    let old = start .args .partners .now in
+    let e : c .before .loop .i ≡ length (start .args .partners .now) = omega (arith, c .before .loop .inv .0, c .before .loop .inv .1 .kept, c .loop-test .left) in
     filling-all _ (length old) _ old _ (c .before .loop .inv .1) e ∙ filled-whole _ old (length-table (length old) _)
 
 pub alone-spec : {M : Type 1} → statement M
 alone-spec =
     tie.close
-    (tie.spec
-    Inv-loop
-    μ-loop
-    cast-none
-    loop-holds
-    mul-partners
-    slice-write-partners
-    add-i
-    loop-less
-    loop-again
-    same-length
-    returns)
+    (tie.spec Inv-loop μ-loop (λ c. search needs) loop-holds mul-partners (λ c. search needs) add-i loop-less loop-again same-length returns)

@@ -4,51 +4,34 @@ use borrow.Author.Needs.{needs}
 use Rattle.resolution.proofs.engage.Statement.{statement}
 use Rattle.resolution.proofs.engage.Tie as tie
 
-give-requires : tie.Need-give-requires
-give-requires c κs = search needs
-
-cast-if1 : tie.Need-cast-if1
-cast-if1 c = search needs
-
-give-requires-2 : tie.Need-give-requires-2
-give-requires-2 c κs = search needs
-
-same-length : tie.Need-same-length
-same-length c = search needs
-
-same-length-2 : tie.Need-same-length-2
-same-length-2 c = search needs
+-- moments, each seen from a later one
+abbrev start : tie.After-slice-known4 → tie.Start
+start c = c .before .before .before .before .before .before .before .before .before
 
 returns : tie.Need-returns
-returns c = (given-two _ (c .before .before .before .before .before .before .before .before .before .before .before .before .before .before .before .before .before .args .c) _ _ _ (c .before .before .before .before .before .before .before .if1 .taken) (c .before .before .before .before .before .before .before .before .before .before .before .before .give .ensures .0) (c .before .before .before .before .give2 .ensures .0), received-two _ (c .before .before .before .before .before .before .before .before .before .before .before .before .before .before .before .before .before .args .c) _ _ _ (c .before .before .before .before .before .before .before .if1 .taken) (c .before .before .before .before .before .before .before .before .before .before .before .before .give .ensures .1) (c .before .before .before .before .give2 .ensures .1))
-
-give-requires-3 : tie.Need-give-requires-3
-give-requires-3 c κs = search needs
-
-give-requires-4 : tie.Need-give-requires-4
-give-requires-4 c κs = search needs
-
-same-length-3 : tie.Need-same-length-3
-same-length-3 c = search needs
-
-same-length-4 : tie.Need-same-length-4
-same-length-4 c = search needs
+returns c =
+    let after-give2 = c .before .before .before .before in
+    let then1 = after-give2 .before .before .before in
+    let after-give = then1 .before .before .before .before .before in (
+      given-two _ (start (then1 .before) .args .c) _ _ _ (then1 .if1 .taken) (after-give .give .ensures .0) (after-give2 .give2 .ensures .0),
+      received-two _ (start (then1 .before) .args .c) _ _ _ (then1 .if1 .taken) (after-give .give .ensures .1)
+          (after-give2 .give2 .ensures .1),
+    )
 
 returns-2 : tie.Need-returns-2
-returns-2 c = (given-three _ (c .before .before .before .before .before .before .before .before .before .before .before .before .before .before .before .before .before .before .before .before .before .before .before .before .args .c) _ _ _ _ (c .before .before .before .before .before .before .before .before .before .before .before .before .before .before .if1 .left) (c .before .before .before .before .before .before .before .before .before .before .before .before .before .before .before .before .before .before .before .give .ensures .0) (c .before .before .before .before .before .before .before .before .before .before .before .give3 .ensures .0) (c .before .before .before .before .give4 .ensures .0), received-three _ (c .before .before .before .before .before .before .before .before .before .before .before .before .before .before .before .before .before .before .before .before .before .before .before .before .args .c) _ _ _ _ (c .before .before .before .before .before .before .before .before .before .before .before .before .before .before .if1 .left) (c .before .before .before .before .before .before .before .before .before .before .before .before .before .before .before .before .before .before .before .give .ensures .1) (c .before .before .before .before .before .before .before .before .before .before .before .give3 .ensures .1) (c .before .before .before .before .give4 .ensures .1))
+returns-2 c =
+    let after-give4 = c .before .before .before .before in
+    let after-give3 = after-give4 .before .before .before .before .before .before .before in
+    let else1 = after-give3 .before .before .before in
+    let after-give = else1 .before .before .before .before .before in (
+      given-three _ (start (else1 .before) .args .c) _ _ _ _ (else1 .if1 .left) (after-give .give .ensures .0)
+          (after-give3 .give3 .ensures .0) (after-give4 .give4 .ensures .0),
+      received-three _ (start (else1 .before) .args .c) _ _ _ _
+          (else1 .if1 .left) (after-give .give .ensures .1) (after-give3 .give3 .ensures .1) (after-give4 .give4 .ensures .1),
+    )
 
 pub engage-spec : {M : Type 1} → statement M
 engage-spec =
     tie.close
-    (tie.spec
-    give-requires
-    cast-if1
-    give-requires-2
-    same-length
-    same-length-2
-    returns
-    give-requires-3
-    give-requires-4
-    same-length-3
-    same-length-4
-    returns-2)
+    (tie.spec (λ c κs. search needs) (λ c. search needs) (λ c κs. search needs) (λ c. search needs) (λ c. search needs) returns
+    (λ c κs. search needs) (λ c κs. search needs) (λ c. search needs) (λ c. search needs) returns-2)

@@ -4,11 +4,8 @@ use borrow.Author.Needs.{needs}
 use Rattle.resolution.proofs.none.Statement.{statement}
 use Rattle.resolution.proofs.none.Tie as tie
 
-record-of-requires : tie.Need-record-of-requires
-record-of-requires c κs = search needs
-
 returns : tie.Need-returns
 returns c = empty-yet _ _ (c .record-of .ensures)
 
 pub none-spec : {M : Type 1} → statement M
-none-spec = tie.close (tie.spec record-of-requires returns)
+none-spec = tie.close (tie.spec (λ c κs. search needs) returns)

@@ -25,10 +25,6 @@ digits-digits-requires :
     digits-lts.Need-digits-requires (digits-below t, digits.Post) (digits-at t) digits.Post
 digits-digits-requires t c κs = (omega arith, tt)
 
-digits-add-result :
-    (t : ℕ) → digits-lts.Need-add-result (digits-below t, digits.Post) (digits-at t) digits.Post
-digits-add-result t c = search needs
-
 digits-returns :
     (t : ℕ) → digits-lts.Need-returns (digits-below t, digits.Post) (digits-at t) digits.Post
 digits-returns t c =
@@ -51,6 +47,6 @@ pub +digits-spec : {M : Type 1} → statement M
     (digits-at t)
     digits.Post
     (digits-digits-requires t)
-    (digits-add-result t)
+    (λ c. search needs)
     (digits-returns t)
     (digits-returns-2 t)

@@ -25,14 +25,6 @@ abbrev put-number-below : ℕ → In 1 put-number-kinds.ps
 put-number-below t =
     and 1 put-number-kinds.ps (falls 1 put-number-kinds.ps _<_ μ-put-number t) put-number.Pre
 
-put-number-digit-requires : (t : ℕ) → put-number-lts.Need-digit-requires (
-  digit-reads.Asked,
-  digit-reads.Learnt,
-  put-number-below t,
-  put-number.Post,
-) (put-number-at t) put-number.Post
-put-number-digit-requires t c κs = omega arith
-
 put-number-slice-write-out : (t : ℕ) → put-number-lts.Need-slice-write-out (
   digit-reads.Asked,
   digit-reads.Learnt,
@@ -52,14 +44,6 @@ put-number-add-result : (t : ℕ) → put-number-lts.Need-add-result (
 put-number-add-result t c =
     let s = c .before .before .before in
     omega (arith, s .pre .1, length-small (s .args .x) (omega (arith, c .before .if1 .taken)))
-
-put-number-same-length : (t : ℕ) → put-number-lts.Need-same-length (
-  digit-reads.Asked,
-  digit-reads.Learnt,
-  put-number-below t,
-  put-number.Post,
-) (put-number-at t) put-number.Post
-put-number-same-length t c = search needs
 
 put-number-returns : (t : ℕ) → put-number-lts.Need-returns (
   digit-reads.Asked,
@@ -82,14 +66,6 @@ put-number-put-number-requires t c κs =
     let s = c .before .before .before in
     let l = length-large (s .args .x) (omega (arith, c .before .if1 .left)) in
     (omega (arith, s .pre .0), omega (arith, s .pre .1))
-
-put-number-digit-requires-2 : (t : ℕ) → put-number-lts.Need-digit-requires-2 (
-  digit-reads.Asked,
-  digit-reads.Learnt,
-  put-number-below t,
-  put-number.Post,
-) (put-number-at t) put-number.Post
-put-number-digit-requires-2 t c κs = omega arith
 
 put-number-slice-write-out-2 : (t : ℕ) → put-number-lts.Need-slice-write-out-2 (
   digit-reads.Asked,
@@ -115,14 +91,6 @@ put-number-add-result-2 t c =
     let l = length-large (s .args .x) (omega (arith, p .before .before .if1 .left)) in
     omega (arith, s .pre .1, p .put-number .ensures .ends)
 
-put-number-same-length-2 : (t : ℕ) → put-number-lts.Need-same-length-2 (
-  digit-reads.Asked,
-  digit-reads.Learnt,
-  put-number-below t,
-  put-number.Post,
-) (put-number-at t) put-number.Post
-put-number-same-length-2 t c = search needs
-
 put-number-returns-2 : (t : ℕ) → put-number-lts.Need-returns-2 (
   digit-reads.Asked,
   digit-reads.Learnt,
@@ -144,14 +112,14 @@ pub +put-number-spec : {M : Type 1} → statement M
 )
     (put-number-at t)
     put-number.Post
-    (put-number-digit-requires t)
+    (λ c κs. omega arith)
     (put-number-slice-write-out t)
     (put-number-add-result t)
-    (put-number-same-length t)
+    (λ c. search needs)
     (put-number-returns t)
     (put-number-put-number-requires t)
-    (put-number-digit-requires-2 t)
+    (λ c κs. omega arith)
     (put-number-slice-write-out-2 t)
     (put-number-add-result-2 t)
-    (put-number-same-length-2 t)
+    (λ c. search needs)
     (put-number-returns-2 t)

@@ -22,36 +22,16 @@ loop-holds c =
     let e = length-none (followingAt (s .args .numbers .now)) in
     (omega arith, omega arith, omega (arith, s .pre .0))
 
-mul-digits : tie.Need-mul-digits Inv-loop μ-loop
-mul-digits c = omega arith
-
-shared-slice-read-digits : tie.Need-shared-slice-read-digits Inv-loop μ-loop
-shared-slice-read-digits c = omega arith
-
 digits-requires : tie.Need-digits-requires Inv-loop μ-loop
 digits-requires c κs = tt
 
-add-length : tie.Need-add-length Inv-loop μ-loop
-add-length c = omega arith
-
-add-length-2 : tie.Need-add-length-2 Inv-loop μ-loop
-add-length-2 c = omega arith
-
-add-i : tie.Need-add-i Inv-loop μ-loop
-add-i c = omega arith
-
-loop-less : tie.Need-loop-less Inv-loop μ-loop
-loop-less c = omega arith
-
 loop-again : tie.Need-loop-again Inv-loop μ-loop
 loop-again c =
-    let l = c .before .before .before .loop in
-    let s = c .before .before .before .before .before .before in
+    let at-loop = c .before .before .before in
+    let l = at-loop .loop in
+    let s = at-loop .before .before .before in
     let e = length-texts (followingAt (s .args .numbers .now)) (l .i) in
     (omega arith, omega arith, omega arith)
-
-add-result : tie.Need-add-result Inv-loop μ-loop
-add-result c = omega arith
 
 returns : tie.Need-returns Inv-loop μ-loop
 returns c =
@@ -65,17 +45,5 @@ returns c =
 pub line-length-spec : {M : Type 1} → statement M
 line-length-spec =
     tie.close
-    (tie.spec
-    Inv-loop
-    μ-loop
-    loop-holds
-    mul-digits
-    shared-slice-read-digits
-    digits-requires
-    add-length
-    add-length-2
-    add-i
-    loop-less
-    loop-again
-    add-result
-    returns)
+    (tie.spec Inv-loop μ-loop loop-holds (λ c. omega arith) (λ c. omega arith) digits-requires (λ c. omega arith) (λ c. omega arith)
+    (λ c. omega arith) (λ c. omega arith) loop-again (λ c. omega arith) returns)

@@ -7,14 +7,10 @@ use borrow.Author.Needs.{needs}
 use Rattle.text.proofs.put_following.Statement.{statement}
 use Rattle.text.proofs.put_following.Tie as tie
 
-slice-write-out : tie.Need-slice-write-out
-slice-write-out c = search needs
-
-add-put-number : tie.Need-add-put-number
-add-put-number c = search needs
-
 put-number-requires : tie.Need-put-number-requires
-put-number-requires c κs = omega (arith, length-set (c .before .before .args .out .now) (c .before .before .args .at) 32)
+put-number-requires c κs =
+    let start = c .before .before in
+    omega (arith, length-set (start .args .out .now) (start .args .at) 32)
 
 same-length : tie.Need-same-length
 same-length c =
@@ -27,5 +23,4 @@ returns c =
     put-following (s .args .at) _ (s .args .out .now) (omega (arith, s .pre)) (c .before .before .put-number .ensures)
 
 pub put-following-spec : {M : Type 1} → statement M
-put-following-spec =
-    tie.close (tie.spec slice-write-out add-put-number put-number-requires same-length returns)
+put-following-spec = tie.close (tie.spec (λ c. search needs) (λ c. search needs) put-number-requires same-length returns)

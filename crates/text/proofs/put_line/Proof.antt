@@ -28,12 +28,6 @@ loop-holds c =
     let s = w .before .before .before .before .before in
     (omega arith, refl, texts-none (followingAt (s .args .numbers .now)) (w .put-word .result) (w .put-word .last .0))
 
-mul-put-following : tie.Need-mul-put-following Inv-loop μ-loop
-mul-put-following c = omega arith
-
-shared-slice-read-put-following : tie.Need-shared-slice-read-put-following Inv-loop μ-loop
-shared-slice-read-put-following c = omega arith
-
 put-following-requires : tie.Need-put-following-requires Inv-loop μ-loop
 put-following-requires c κs =
     let turn = c .before .before in
@@ -44,12 +38,6 @@ put-following-requires c κs =
     (turn .loop-test .taken)
     (omega (arith, s .pre, length-line (s .args .word .now) (s .args .numbers .now), w .put-word .ensures .ends, w .put-word .kept .0))
     (l .inv .1) (l .inv .2)
-
-add-i : tie.Need-add-i Inv-loop μ-loop
-add-i c = omega arith
-
-loop-less : tie.Need-loop-less Inv-loop μ-loop
-loop-less c = omega arith
 
 loop-again : tie.Need-loop-again Inv-loop μ-loop
 loop-again c =
@@ -113,18 +101,5 @@ returns c =
 pub put-line-spec : {M : Type 1} → statement M
 put-line-spec =
     tie.close
-    (tie.spec
-    Inv-loop
-    μ-loop
-    put-word-requires
-    loop-holds
-    mul-put-following
-    shared-slice-read-put-following
-    put-following-requires
-    add-i
-    loop-less
-    loop-again
-    slice-write-out
-    add-result
-    same-length
-    returns)
+    (tie.spec Inv-loop μ-loop put-word-requires loop-holds (λ c. omega arith) (λ c. omega arith) put-following-requires (λ c. omega arith)
+    (λ c. omega arith) loop-again slice-write-out add-result same-length returns)

@@ -22,34 +22,23 @@ loop-holds : tie.Need-loop-holds Inv-loop μ-loop
 unfolding anyBelow
 loop-holds c = (omega arith, refl)
 
-compatible-requires : tie.Need-compatible-requires Inv-loop μ-loop
-compatible-requires c κs = search needs
-
 returns : tie.Need-returns Inv-loop μ-loop
-returns c = sym (any-hit _ _ (c .before .before .before .loop .j) (c .before .before .loop-test .taken) (ap (ltb 1) (sym (c .before .compatible .ensures)) ∙ lt-ltb 1 _ (c .if1 .taken)))
-
-add-j : tie.Need-add-j Inv-loop μ-loop
-add-j c = search needs
-
-loop-less : tie.Need-loop-less Inv-loop μ-loop
-loop-less c = search needs
+returns c =
+    sym (any-hit _ _ (c .before .before .before .loop .j) (c .before .before .loop-test .taken)
+    (ap (ltb 1) (sym (c .before .compatible .ensures)) ∙ lt-ltb 1 _ (c .if1 .taken)))
 
 loop-again : tie.Need-loop-again Inv-loop μ-loop
-loop-again c = (omega arith, any-more (c .before .before .before .loop .j) _ (c .before .before .before .loop .inv .1) (ap (ltb 1) (sym (c .before .compatible .ensures)) ∙ le-ltb 1 _ (c .if1 .left)))
+loop-again c =
+    let at-loop = c .before .before .before in
+    (omega arith, any-more (at-loop .loop .j) _ (at-loop .loop .inv .1) (ap (ltb 1) (sym (c .before .compatible .ensures)) ∙ le-ltb 1 _ (c .if1 .left)))
 
 returns-2 : tie.Need-returns-2 Inv-loop μ-loop
-returns-2 c = let at = c .before .before .before .args in let e : at .n ≡ c .before .loop .j = omega arith in sym (ap (λ (k : ℕ). anyBelow k (λ j. ltb 1 (entry (at .m .now) (at .n) (at .i) j))) e ∙ c .before .loop .inv .1)
+returns-2 c =
+    let at = c .before .before .before .args in
+    let e : at .n ≡ c .before .loop .j = omega arith in
+    sym (ap (λ (k : ℕ). anyBelow k (λ j. ltb 1 (entry (at .m .now) (at .n) (at .i) j))) e ∙ c .before .loop .inv .1)
 
 pub above-one-spec : {M : Type 1} → statement M
 above-one-spec =
     tie.close
-    (tie.spec
-    Inv-loop
-    μ-loop
-    loop-holds
-    compatible-requires
-    returns
-    add-j
-    loop-less
-    loop-again
-    returns-2)
+    (tie.spec Inv-loop μ-loop loop-holds (λ c κs. search needs) returns (λ c. search needs) (λ c. search needs) loop-again returns-2)

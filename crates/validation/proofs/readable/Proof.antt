@@ -20,21 +20,21 @@ returns-2 : tie.Need-returns-2
 unfolding faultAt shortToRead
 returns-2 c = first _ _ (short _ _ (c .if2 .taken)) ∙ not-many _ _ (c .before .if1 .left)
 
-mul-if3 : tie.Need-mul-if3
-mul-if3 c = search needs
-
 returns-3 : tie.Need-returns-3
 unfolding faultAt shortToRead
 returns-3 c = second _ _ _ (long _ _ (c .before .if2 .left)) (first _ _ (short _ _ (c .if3 .taken))) ∙ not-many _ _ (c .before .before .if1 .left)
 
 returns-4 : tie.Need-returns-4
 unfolding faultAt shortToRead
-returns-4 c = second _ _ _ (long _ _ (c .before .before .if2 .left)) (second _ _ _ (long _ _ (c .before .if3 .left)) (short _ _ (c .if4 .taken))) ∙ not-many _ _ (c .before .before .before .if1 .left)
+returns-4 c =
+    second _ _ _ (long _ _ (c .before .before .if2 .left)) (second _ _ _ (long _ _ (c .before .if3 .left)) (short _ _ (c .if4 .taken))) ∙
+    not-many _ _ (c .before .before .before .if1 .left)
 
 returns-5 : tie.Need-returns-5
 unfolding faultAt shortToRead
-returns-5 c = second _ _ _ (long _ _ (c .before .before .if2 .left)) (second _ _ _ (long _ _ (c .before .if3 .left)) (long _ _ (c .if4 .left))) ∙ not-many _ _ (c .before .before .before .if1 .left)
+returns-5 c =
+    second _ _ _ (long _ _ (c .before .before .if2 .left)) (second _ _ _ (long _ _ (c .before .if3 .left)) (long _ _ (c .if4 .left))) ∙
+    not-many _ _ (c .before .before .before .if1 .left)
 
 pub readable-spec : {M : Type 1} → statement M
-readable-spec =
-    tie.close (tie.spec returns mul-if2 returns-2 mul-if3 returns-3 returns-4 returns-5)
+readable-spec = tie.close (tie.spec returns mul-if2 returns-2 (λ c. search needs) returns-3 returns-4 returns-5)

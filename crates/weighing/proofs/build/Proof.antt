@@ -4,15 +4,6 @@ use Rattle.weighing.proofs.Promised.{rightly, call-refused, call-builda
 use Rattle.weighing.proofs.build.Statement.{statement}
 use Rattle.weighing.proofs.build.Tie as tie
 
-judge-requires : tie.Need-judge-requires
-judge-requires c κs = search needs
-
-enum-known-why : tie.Need-enum-known-why
-enum-known-why c = search needs
-
-enum-told : tie.Need-enum-told
-enum-told c = search needs
-
 fill-requires : tie.Need-fill-requires
 fill-requires c κs =
     let d = c .before .before in
@@ -25,12 +16,6 @@ returns c =
     let e = call-refused _ _ _ (j .result) (j .ensures) _ (c .before .why .given .1) in
     (e, rightly _ _ _ _ _ e)
 
-same-length : tie.Need-same-length
-same-length c = search needs
-
-same-length-2 : tie.Need-same-length-2
-same-length-2 c = search needs
-
 returns-2 : tie.Need-returns-2
 returns-2 c =
     let f = c .before .before .before .before in
@@ -42,12 +27,5 @@ returns-2 c =
 pub build-spec : {M : Type 1} → statement M
 build-spec =
     tie.close
-    (tie.spec
-    judge-requires
-    enum-known-why
-    enum-told
-    fill-requires
-    returns
-    same-length
-    same-length-2
+    (tie.spec (λ c κs. search needs) (λ c. search needs) (λ c. search needs) fill-requires returns (λ c. search needs) (λ c. search needs)
     returns-2)

@@ -8,28 +8,20 @@ use Rattle.weighing.proofs.Faults.{spaced-fields, judge-fields, passed-
 use Rattle.weighing.proofs.judge.Statement.{statement}
 use Rattle.weighing.proofs.judge.Tie as tie
 
-room-requires : tie.Need-room-requires
-room-requires c κs = search needs
-
 pairs-requires : tie.Need-pairs-requires
 unfolding fieldRoom
 pairs-requires c κs =
-    let s = c .before .before .before .before .before .before .before .before .before .args in
+    let start = c .before .before .before .before .before .before .before .before .before in
+    let s = start .args in
     spaced-fields _
     (fields (s .ids .now) (s .donor-blood .now) (s .patient-blood .now) (s .donor-age .now) (s .patient-age .now) (s .donor-antigens .now)
     (s .patient-antigens .now) (s .patient-antibodies .now)) (c .room .ensures)
-
-enum-known-why : tie.Need-enum-known-why
-enum-known-why c = search needs
 
 returns : tie.Need-returns
 unfolding fieldRoom
 returns c =
     let d = c .before .before .before in
     judge-fields _ (d .before .room .result) _ _ _ (d .before .room .ensures) (d .pairs .result) (d .pairs .ensures _ _ _) _ (c .before .why .given .1)
-
-enum-told : tie.Need-enum-told
-enum-told c = search needs
 
 mul-entries : tie.Need-mul-entries
 mul-entries c =
@@ -40,30 +32,25 @@ returns-2 : tie.Need-returns-2
 unfolding fieldRoom
 returns-2 c =
     let d = c .before .before .before in
-    judge-compatibilities _ (d .before .room .result) _ _ _ (d .before .room .ensures) (d .pairs .result) (d .pairs .ensures _ _ _) (c .before .enum-told .given .1) (c .if1 .taken)
+    judge-compatibilities _ (d .before .room .result) _ _ _ (d .before .room .ensures) (d .pairs .result) (d .pairs .ensures _ _ _)
+    (c .before .enum-told .given .1) (c .if1 .taken)
 
 returns-3 : tie.Need-returns-3
 unfolding fieldRoom
 returns-3 c =
     let d = c .before .before .before .before in
-    judge-weights _ (d .before .room .result) _ _ _ (d .before .room .ensures) (d .pairs .result) (d .pairs .ensures _ _ _) (c .before .before .enum-told .given .1) (c .before .if1 .left) (c .if2 .taken)
+    judge-weights _ (d .before .room .result) _ _ _ (d .before .room .ensures) (d .pairs .result) (d .pairs .ensures _ _ _)
+    (c .before .before .enum-told .given .1) (c .before .if1 .left) (c .if2 .taken)
 
 returns-4 : tie.Need-returns-4
 unfolding fieldRoom
 returns-4 c =
     let d = c .before .before .before .before in
-    judge-sound _ (d .before .room .result) _ _ _ (d .before .room .ensures) (d .pairs .result) (d .pairs .ensures _ _ _) (c .before .before .enum-told .given .1) (c .before .if1 .left) (c .if2 .left)
+    judge-sound _ (d .before .room .result) _ _ _ (d .before .room .ensures) (d .pairs .result) (d .pairs .ensures _ _ _)
+    (c .before .before .enum-told .given .1) (c .before .if1 .left) (c .if2 .left)
 
 pub judge-spec : {M : Type 1} → statement M
 judge-spec =
     tie.close
-    (tie.spec
-    room-requires
-    pairs-requires
-    enum-known-why
-    returns
-    enum-told
-    mul-entries
-    returns-2
-    returns-3
+    (tie.spec (λ c κs. search needs) pairs-requires (λ c. search needs) returns (λ c. search needs) mul-entries returns-2 returns-3
     returns-4)
