@@ -48,6 +48,11 @@ def kind(name):
     return 'library' if re.search(r'^ *(pub )?(extern "C" )?fn ', code, re.M) else 'definitions'
 
 
+# a crate's name in the graph: some of them, as `graph`, are words of its language
+def node(name):
+    return f'c_{name}'
+
+
 SHAPES = {'program': '(["{}"])', 'library': '["{}"]', 'definitions': '[["{}"]]'}
 
 
@@ -56,9 +61,9 @@ def graph():
     lines = ['```mermaid', 'flowchart TD']
     for number, (title, rooms) in enumerate(groups(), 1):
         lines.append(f'    subgraph group{number}["{title}"]')
-        lines += [f'        {name}{SHAPES[kind(name)].format(name)}' for name in rooms]
+        lines += [f'        {node(name)}{SHAPES[kind(name)].format(name)}' for name in rooms]
         lines.append('    end')
-    lines += [f'    {name} --> {" & ".join(arrows(name, house))}' for name in house if arrows(name, house)]
+    lines += [f'    {node(name)} --> {" & ".join(map(node, arrows(name, house)))}' for name in house if arrows(name, house)]
     return '\n'.join(lines + ['```'])
 
 

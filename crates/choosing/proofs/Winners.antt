@@ -143,7 +143,8 @@ module _ (n : ℕ) (ws : List ℕ) (i : ℕ) (p : Places) (t : Tally) (asked : P
         )
           where
             by-case : (z : Bool) → b ≡ cond z (r .best) (l .best)
-                → winner (valueOf (b .weight)) (valueOf (b .number)) (counted u) ≡ winner (cond z (valueOf (r .best .weight)) (valueOf (l .best .weight))) (cond z (valueOf (r .best .number)) (valueOf (l .best .number))) (raise 1 5 (counted (r .tally)))
+                → winner (valueOf (b .weight)) (valueOf (b .number)) (counted u)
+                ≡ winner (cond z (valueOf (r .best .weight)) (valueOf (l .best .weight))) (cond z (valueOf (r .best .number)) (valueOf (l .best .number))) (raise 1 5 (counted (r .tally)))
             by-case true e = ap (λ (x : Best). winner (valueOf (x .weight)) (valueOf (x .number)) (counted u)) e ∙ ap (winner (valueOf (r .best .weight)) (valueOf (r .best .number))) (raised 1 5 (r .tally) u eu)
             by-case false e = ap (λ (x : Best). winner (valueOf (x .weight)) (valueOf (x .number)) (counted u)) e ∙ ap (winner (valueOf (l .best .weight)) (valueOf (l .best .number))) (raised 1 5 (r .tally) u eu)
 

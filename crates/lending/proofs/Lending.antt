@@ -73,7 +73,8 @@ module _ (R : RattleType) (κ κ′ : Lft) (q : Share) (γ : GName) (b o : ℕ) 
     again-out =
         qed W (‵ (MutSlice ℓ κ R .own (at-list γ ys) vs) ∷ ‵ (flft κ q) ∷ []) ∵ updating ! $ fsplit ! $ pureL ! (at-slice R (at-list γ ys) vs) (λ p. fsplit ! $ opens-slice ! tt R ys b o $
         use1 W (‵ (cells (mem R) ys b o)) (whole-in 𝓤 H A W R ys b o) $
-        use1 W (later (some (λ (γ₁ : GName). ‵ (MutSlice ℓ′ κ′ R .own (at-list γ₁ ys) (sliceVal (b, o) (length ys) ∷ [])) ⊛ ‵ (flent κ′ (Held R (length ys) b o γ₁))))) (lends-slice 𝓤 H A W R ℓ′ κ′ ys b o (p .1)) $ await ! tt $ pick ! (λ γ₁. split ! $
+        use1 W (later (some (λ (γ₁ : GName). ‵ (MutSlice ℓ′ κ′ R .own (at-list γ₁ ys) (sliceVal (b, o) (length ys) ∷ [])) ⊛ ‵ (flent κ′ (Held R (length ys) b o γ₁)))))
+        (lends-slice 𝓤 H A W R ℓ′ κ′ ys b o (p .1)) $ await ! tt $ pick ! (λ γ₁. split ! $
         rewrite ! 0 (λ (us : List Val). ‵ (MutSlice ℓ′ κ′ R .own (at-list γ₁ ys) us)) (sym (p .0)) refl $
         -- [the new slice; the lender's part at κ′; the open borrow at κ; obs γ; auth γ]
         at-once ! $ show ! (λ (γ′ : GName). sep 𝓤 (sem 𝓤 H A (MutSlice ℓ′ κ′ R .own (at-list γ′ ys) vs)) (sem 𝓤 H A (LentAgain γ′ ys))) γ₁ $ frame ! $
@@ -96,7 +97,8 @@ module _ (R : RattleType) (κ κ′ : Lft) (q : Share) (γ : GName) (b o : ℕ) 
     shared-out =
         qed W (‵ (MutSlice ℓ κ R .own (at-list γ ys) vs) ∷ ‵ (flft κ q) ∷ []) ∵ updating ! $ fsplit ! $ pureL ! (at-slice R (at-list γ ys) vs) (λ p. fsplit ! $ opens-slice ! tt R ys b o $
         feqI ! ℕ (length ys) (length ys) refl $ fjoin ! $
-        use1 W (later (some (λ (γ₁ : GName). ‵ (ShrSlice ℓ′ κ′ R .own (at-list γ₁ ys) (sliceVal (b, o) (length ys) ∷ [])) ⊛ ‵ (flent κ′ (arr-parts (shares R) (length ys) .part fullShare ys b o))))) (lends-shr-slice 𝓤 H A W R ℓ′ κ′ fullShare ys b o (p .1)) $ await ! tt $ pick ! (λ γ₁. split ! $
+        use1 W (later (some (λ (γ₁ : GName). ‵ (ShrSlice ℓ′ κ′ R .own (at-list γ₁ ys) (sliceVal (b, o) (length ys) ∷ [])) ⊛ ‵ (flent κ′ (arr-parts (shares R) (length ys) .part fullShare ys b o)))))
+        (lends-shr-slice 𝓤 H A W R ℓ′ κ′ fullShare ys b o (p .1)) $ await ! tt $ pick ! (λ γ₁. split ! $
         rewrite ! 0 (λ (us : List Val). ‵ (ShrSlice ℓ′ κ′ R .own (at-list γ₁ ys) us)) (sym (p .0)) refl $
         at-once ! $ show ! (λ (γ′ : GName). sep 𝓤 (sem 𝓤 H A (ShrSlice ℓ′ κ′ R .own (at-list γ′ ys) vs)) (sem 𝓤 H A (LentShared ys))) γ₁ $ frame ! $
         move ! (2 ∷ 3 ∷ []) $ fjoin ! $ move ! (2 ∷ 0 ∷ []) $ fjoin ! $ move ! (1 ∷ 0 ∷ []) $ fjoin ! $ done !))

@@ -27,8 +27,11 @@ pub use contract.Monad.{Fun, fact}
 pub use contract.Lifetimes.{AllOutlive}
 pub use contract.Running.{givenOf, tables}
 unfoldable pub use contract.Running.{tablesOf}
-pub use types.Kit.{Given, ‵, raw, some, later, _⊛_, ⋆, Item, Sq, runs, anyQ, atRet, _$_, _∵_, !, qed, by, move, keep, drop, use1, use2, use3, cut, split, join, pick, rewrite, fsplit, fsplit3, fjoin, fjoin3, feqI, feqL, suffices, frame, await, done}
-pub use types.Run.{look, init, store, forget, stop, hop, fld, from, load, lit, addr, unit-lit, of-opd, bin, and-then, no-more, land, assigns, assigns-last, first, stays, leaves-loop, blocks, exec, Below, again, loops, returns, enter, alloc1, alloc0, params1, pass1, pass0, free1, free0}
+pub use types.Kit.{Given, ‵, raw, some, later, _⊛_, ⋆, Item, Sq, runs, anyQ, atRet, _$_, _∵_, !, qed, by, move, keep, drop, use1, use2, use3, cut}
+pub use types.Kit.{split, join, pick, rewrite, fsplit, fsplit3, fjoin, fjoin3, feqI, feqL, suffices, frame, await, done}
+pub use types.Run.{look, init, store, forget, stop, hop, fld, from, load, lit, addr, unit-lit, of-opd, bin, and-then, no-more, land, assigns}
+pub use types.Run.{assigns-last, first, stays, leaves-loop, blocks, exec, Below, again, loops, returns, enter, alloc1, alloc0, params1, pass1, pass0}
+pub use types.Run.{free1, free0}
 pub use types.Part.{agg, whole, sub, look-in}
 pub use types.SemTy.{Body}
 pub use types.Tokens.{lft-new, lft-end}
@@ -54,6 +57,9 @@ pub use denote.Triple.Statement.{Contract, Triple}
 pub use denote.Triple.Call.{calls-at}
 pub use denote.Triple.Clauses.{ensured, lasts}
 pub use denote.Triple.Table.{entered, cited}
-pub use denote.Triple.Walked.{says, needs, Stays, stay-dropped, stay-ref, stay-slice, walkOf, goes-dropped, goes-ref, goes-slice, Walks, ends-at, walked, walk-meets}
+pub use denote.Triple.Walked.{says, needs, Stays, stay-dropped, stay-ref, stay-slice, walkOf, goes-dropped, goes-ref, goes-slice, Walks, ends-at}
+pub use denote.Triple.Walked.{walked, walk-meets}
 pub use denote.Exit.{yes}
-pub use Rattle.lending.proofs.Lending.{renamed, tyOf, less-fits, local-out, local-back, LentAgain, again-out, again-back, LentShared, shared-out, shared-back, array-out, array-back, Row, rowVal, row-tells, row-makes, row-typed, row-field, place-fits, says-two, says-three}
+pub use Rattle.lending.proofs.Lending.{renamed, tyOf, less-fits, local-out, local-back, LentAgain, again-out, again-back, LentShared}
+pub use Rattle.lending.proofs.Lending.{shared-out, shared-back, array-out, array-back, Row, rowVal, row-tells, row-makes, row-typed, row-field}
+pub use Rattle.lending.proofs.Lending.{place-fits, says-two, says-three}

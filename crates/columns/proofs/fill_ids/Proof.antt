@@ -16,66 +16,35 @@ Inv-loop b n t₀ i₀ t i = (i ≤ n) × Filling i (λ k. bigEndian 4 b (pairPl
 abbrev μ-loop : tie.MeasureT-loop
 μ-loop b n t₀ i₀ t i = n - i
 
+-- moments, each seen from a later one
+abbrev start : tie.At-loop Inv-loop μ-loop → tie.Start Inv-loop μ-loop
+start c = c .before .before .before
+
 loop-holds : tie.Need-loop-holds Inv-loop μ-loop
 loop-holds c = (omega arith, filling-none _ _)
 
-pair-place-requires : tie.Need-pair-place-requires Inv-loop μ-loop
-pair-place-requires c κs = search needs
-
-add-number : tie.Need-add-number Inv-loop μ-loop
-add-number c = search needs
-
-number-requires : tie.Need-number-requires Inv-loop μ-loop
-number-requires c κs = search needs
-
 cast-t : tie.Need-cast-t Inv-loop μ-loop
 cast-t c =
-    let s = c .before .before .before .before .before .before .args in
-    omega (arith, bigEndian-lt (s .b .now) (c .before .pair-place .result + idAt) 4 (λ j. c .before .before .before .before .before .shared-slice-known .given j .fits))
-
-mul-t : tie.Need-mul-t Inv-loop μ-loop
-mul-t c = search needs
-
-slice-write-t : tie.Need-slice-write-t Inv-loop μ-loop
-slice-write-t c = search needs
-
-add-i : tie.Need-add-i Inv-loop μ-loop
-add-i c = search needs
-
-loop-less : tie.Need-loop-less Inv-loop μ-loop
-loop-less c = search needs
+    let at-loop = c .before .before .before in
+    let s = start at-loop .args in
+    omega (arith, bigEndian-lt (s .b .now) (c .before .pair-place .result + idAt) 4 (λ j. at-loop .before .before .shared-slice-known .given j .fits))
 
 loop-again : tie.Need-loop-again Inv-loop μ-loop
 loop-again c =
-    let s = c .before .before .before .before .before .before .args in
-    let l = c .before .before .before .loop in
+    let at-loop = c .before .before .before in
+    let s = start at-loop .args in
+    let l = at-loop .loop in
     let e : c .number .result ≡ bigEndian 4 (s .b .now) (pairPlace (l .i) + idAt) = rw (← c .before .pair-place .ensures) (c .number .ensures) in
     (omega arith, filling-more (l .i) (λ k. bigEndian 4 (s .b .now) (pairPlace k + idAt)) (s .t .now) (l .t) _ (l .inv .1) e (omega arith))
 
-same-length : tie.Need-same-length Inv-loop μ-loop
-same-length c = search needs
-
 returns : tie.Need-returns Inv-loop μ-loop
 returns c =
-    let s = c .before .before .before .before .args in
+    let s = start (c .before) .args in
     let l = c .before .loop in
     filling-all (l .i) (s .n) (λ k. bigEndian 4 (s .b .now) (pairPlace k + idAt)) (s .t .now) (l .t) (l .inv .1) (omega arith)
 
 pub fill-ids-spec : {M : Type 1} → statement M
 fill-ids-spec =
     tie.close
-    (tie.spec
-    Inv-loop
-    μ-loop
-    loop-holds
-    pair-place-requires
-    add-number
-    number-requires
-    cast-t
-    mul-t
-    slice-write-t
-    add-i
-    loop-less
-    loop-again
-    same-length
-    returns)
+    (tie.spec Inv-loop μ-loop loop-holds (λ c κs. search needs) (λ c. search needs) (λ c κs. search needs) cast-t (λ c. search needs)
+    (λ c. search needs) (λ c. search needs) (λ c. search needs) loop-again (λ c. search needs) returns)

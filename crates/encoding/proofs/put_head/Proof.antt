@@ -8,18 +8,6 @@ use Rattle.laws.proofs.Lent.{stored-then}
 use Rattle.encoding.proofs.put_head.Statement.{statement}
 use Rattle.encoding.proofs.put_head.Tie as tie
 
-put-start-requires : tie.Need-put-start-requires
-put-start-requires c κs = search needs
-
-put-requires : tie.Need-put-requires
-put-requires c κs = search needs
-
-put-requires-2 : tie.Need-put-requires-2
-put-requires-2 c κs = search needs
-
-same-length : tie.Need-same-length
-same-length c = search needs
-
 returns : tie.Need-returns
 unfolding headField field bytes
 returns c =
@@ -32,5 +20,4 @@ returns c =
     (third .put2 .ensures)
 
 pub put-head-spec : {M : Type 1} → statement M
-put-head-spec =
-    tie.close (tie.spec put-start-requires put-requires put-requires-2 same-length returns)
+put-head-spec = tie.close (tie.spec (λ c κs. search needs) (λ c κs. search needs) (λ c κs. search needs) (λ c. search needs) returns)

@@ -9,30 +9,6 @@ use Rattle.encoding.specs.PairValue.{groupBytes, tissueBytes}
 use Rattle.encoding.proofs.put_pair.Statement.{statement}
 use Rattle.encoding.proofs.put_pair.Tie as tie
 
-put-start-requires : tie.Need-put-start-requires
-put-start-requires c κs = search needs
-
-add-put : tie.Need-add-put
-add-put c = search needs
-
-put-requires : tie.Need-put-requires
-put-requires c κs = search needs
-
-add-put-groups : tie.Need-add-put-groups
-add-put-groups c = search needs
-
-put-groups-requires : tie.Need-put-groups-requires
-put-groups-requires c κs = search needs
-
-add-put-tissue : tie.Need-add-put-tissue
-add-put-tissue c = search needs
-
-put-tissue-requires : tie.Need-put-tissue-requires
-put-tissue-requires c κs = search needs
-
-same-length : tie.Need-same-length
-same-length c = search needs
-
 returns : tie.Need-returns
 unfolding pairField field groupBytes tissueBytes bytes
 returns c =
@@ -50,13 +26,5 @@ returns c =
 pub put-pair-spec : {M : Type 1} → statement M
 put-pair-spec =
     tie.close
-    (tie.spec
-    put-start-requires
-    add-put
-    put-requires
-    add-put-groups
-    put-groups-requires
-    add-put-tissue
-    put-tissue-requires
-    same-length
-    returns)
+    (tie.spec (λ c κs. search needs) (λ c. search needs) (λ c κs. search needs) (λ c. search needs) (λ c κs. search needs)
+    (λ c. search needs) (λ c κs. search needs) (λ c. search needs) returns)

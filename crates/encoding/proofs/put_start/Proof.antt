@@ -7,18 +7,6 @@ use Rattle.laws.proofs.Lent.{stored-then}
 use Rattle.encoding.proofs.put_start.Statement.{statement}
 use Rattle.encoding.proofs.put_start.Tie as tie
 
-put-requires : tie.Need-put-requires
-put-requires c κs = search needs
-
-add-put : tie.Need-add-put
-add-put c = search needs
-
-put-requires-2 : tie.Need-put-requires-2
-put-requires-2 c κs = search needs
-
-same-length : tie.Need-same-length
-same-length c = search needs
-
 returns : tie.Need-returns
 unfolding bytes
 returns c =
@@ -28,4 +16,4 @@ returns c =
     stored-then (s .args .at) 1 _ _ _ _ _ refl (omega (arith, s .pre)) (first .put .ensures) (second .put2 .ensures)
 
 pub put-start-spec : {M : Type 1} → statement M
-put-start-spec = tie.close (tie.spec put-requires add-put put-requires-2 same-length returns)
+put-start-spec = tie.close (tie.spec (λ c κs. search needs) (λ c. search needs) (λ c κs. search needs) (λ c. search needs) returns)

@@ -8,24 +8,6 @@ use Rattle.encoding.specs.PairValue.{tissueBytes}
 use Rattle.encoding.proofs.put_tissue.Statement.{statement}
 use Rattle.encoding.proofs.put_tissue.Tie as tie
 
-put-requires : tie.Need-put-requires
-put-requires c κs = search needs
-
-add-put : tie.Need-add-put
-add-put c = search needs
-
-put-requires-2 : tie.Need-put-requires-2
-put-requires-2 c κs = search needs
-
-add-put-2 : tie.Need-add-put-2
-add-put-2 c = search needs
-
-put-requires-3 : tie.Need-put-requires-3
-put-requires-3 c κs = search needs
-
-same-length : tie.Need-same-length
-same-length c = search needs
-
 returns : tie.Need-returns
 unfolding tissueBytes bytes
 returns c =
@@ -40,4 +22,5 @@ returns c =
 pub put-tissue-spec : {M : Type 1} → statement M
 put-tissue-spec =
     tie.close
-    (tie.spec put-requires add-put put-requires-2 add-put-2 put-requires-3 same-length returns)
+    (tie.spec (λ c κs. search needs) (λ c. search needs) (λ c κs. search needs) (λ c. search needs) (λ c κs. search needs)
+    (λ c. search needs) returns)

@@ -7,25 +7,13 @@ use Rattle.framing.proofs.Fields.{no-start, other-tag, other-length, no
 use Rattle.framing.proofs.field.Statement.{statement}
 use Rattle.framing.proofs.field.Tie as tie
 
-add-if1 : tie.Need-add-if1
-add-if1 c = search needs
-
 returns : tie.Need-returns
 unfolding faultAt
 returns c = sym (no-start _ _ _ _ (c .if1 .taken))
 
-number-requires : tie.Need-number-requires
-number-requires c κs = search needs
-
 returns-2 : tie.Need-returns-2
 unfolding faultAt
 returns-2 c = sym (other-tag _ _ _ _ (c .before .before .if1 .left) (λ e. c .if2 .taken (c .before .number .ensures ∙ e)))
-
-add-number : tie.Need-add-number
-add-number c = search needs
-
-number-requires-2 : tie.Need-number-requires-2
-number-requires-2 c κs = search needs
 
 returns-3 : tie.Need-returns-3
 unfolding faultAt
@@ -34,12 +22,6 @@ returns-3 c =
     sym
     (other-length _ _ _ _ (d .before .before .if1 .left) (sym (d .before .number .ensures) ∙ d .if2 .left)
     (λ e. c .if3 .taken (c .before .number2 .ensures ∙ e)))
-
-add-if4 : tie.Need-add-if4
-add-if4 c = search needs
-
-add-if4-2 : tie.Need-add-if4-2
-add-if4-2 c = search needs
 
 returns-4 : tie.Need-returns-4
 unfolding faultAt
@@ -66,15 +48,5 @@ returns-5 c =
 pub field-spec : {M : Type 1} → statement M
 field-spec =
     tie.close
-    (tie.spec
-    add-if1
-    returns
-    number-requires
-    returns-2
-    add-number
-    number-requires-2
-    returns-3
-    add-if4
-    add-if4-2
-    returns-4
-    returns-5)
+    (tie.spec (λ c. search needs) returns (λ c κs. search needs) returns-2 (λ c. search needs) (λ c κs. search needs) returns-3
+    (λ c. search needs) (λ c. search needs) returns-4 returns-5)

@@ -22,18 +22,9 @@ passed c = sound-none 0 _ (c .before .before .field .ensures) (c .enum-told .giv
 whole : (c : tie.After-enum-told) → firstPair ≤ length (c .before .before .before .before .args .b .now)
 whole c = field-passed _ _ _ _ (passed c) .whole
 
-field-requires : tie.Need-field-requires
-field-requires c κs = search needs
-
-enum-known-why : tie.Need-enum-known-why
-enum-known-why c = search needs
-
 returns : tie.Need-returns
 unfolding faultAt headFault
 returns c = faulty-then 0 _ _ _ (c .before .before .before .field .ensures) _ (c .before .why .given .1)
-
-enum-told : tie.Need-enum-told
-enum-told c = search needs
 
 number-requires : tie.Need-number-requires
 number-requires c κs = (lit≤ tt, omega (arith, whole c))
@@ -60,13 +51,5 @@ returns-4 c =
 pub head-spec : {M : Type 1} → statement M
 head-spec =
     tie.close
-    (tie.spec
-    field-requires
-    enum-known-why
-    returns
-    enum-told
-    number-requires
-    returns-2
-    number-requires-2
-    returns-3
+    (tie.spec (λ c κs. search needs) (λ c. search needs) returns (λ c. search needs) number-requires returns-2 number-requires-2 returns-3
     returns-4)

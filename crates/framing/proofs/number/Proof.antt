@@ -56,15 +56,6 @@ mul-x c =
     let l = c .before .loop in
     omega (arith, fits (c .before .before .args .k - l .left) (l .x) 0 (omega arith) (l .inv .1 .below) (lit< tt))
 
-sub-x : tie.Need-sub-x Inv-loop μ-loop
-sub-x c = omega arith
-
-add-x : tie.Need-add-x Inv-loop μ-loop
-add-x c = omega arith
-
-shared-slice-read-x : tie.Need-shared-slice-read-x Inv-loop μ-loop
-shared-slice-read-x c = omega arith
-
 cast-x : tie.Need-cast-x Inv-loop μ-loop
 cast-x c = record { fits = byte-fits _ (c .shared-slice-known .given _ .fits) }
 
@@ -72,12 +63,6 @@ add-x-2 : tie.Need-add-x-2 Inv-loop μ-loop
 add-x-2 c =
     let l = c .before .before .loop in
     record { fits = fits (c .before .before .before .args .k - l .left) (l .x) _ (omega arith) (l .inv .1 .below) (c .shared-slice-known .given _ .fits) }
-
-sub-left : tie.Need-sub-left Inv-loop μ-loop
-sub-left c = omega arith
-
-loop-less : tie.Need-loop-less Inv-loop μ-loop
-loop-less c = omega arith
 
 loop-again : tie.Need-loop-again Inv-loop μ-loop
 loop-again c =
@@ -96,4 +81,5 @@ returns c =
 pub number-spec : {M : Type 1} → statement M
 number-spec =
     tie.close
-    (tie.spec Inv-loop μ-loop loop-holds mul-x sub-x add-x shared-slice-read-x cast-x add-x-2 sub-left loop-less loop-again returns)
+    (tie.spec Inv-loop μ-loop loop-holds mul-x (λ c. omega arith) (λ c. omega arith) (λ c. omega arith) cast-x add-x-2 (λ c. omega arith)
+    (λ c. omega arith) loop-again returns)

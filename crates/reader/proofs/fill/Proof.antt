@@ -171,23 +171,6 @@ returns c =
 pub fill-spec : {M : Type 1} → statement M
 fill-spec =
     tie.close
-    (tie.spec
-    fill-ids-requires
-    fill-groups-requires
-    fill-groups-requires-2
-    fill-groups-requires-3
-    fill-groups-requires-4
-    fill-tissue-requires
-    fill-tissue-requires-2
-    fill-tissue-requires-3
-    fill-shuffle-requires
-    same-length
-    same-length-2
-    same-length-3
-    same-length-4
-    same-length-5
-    same-length-6
-    same-length-7
-    same-length-8
-    same-length-9
-    returns)
+    (tie.spec fill-ids-requires fill-groups-requires fill-groups-requires-2 fill-groups-requires-3 fill-groups-requires-4
+    fill-tissue-requires fill-tissue-requires-2 fill-tissue-requires-3 fill-shuffle-requires same-length same-length-2 same-length-3
+    same-length-4 same-length-5 same-length-6 same-length-7 same-length-8 same-length-9 returns)

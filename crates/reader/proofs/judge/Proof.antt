@@ -18,15 +18,6 @@ use Rattle.reader.proofs.judge.Tie as tie
 passed : (c : tie.After-enum-told) → sheetFault (c .before .before .before .before .args .b .now) ≡ none
 passed c = nothing-none _ (c .before .before .check .ensures) (c .enum-told .given .1)
 
-check-requires : tie.Need-check-requires
-check-requires c κs = search needs
-
-enum-known-why : tie.Need-enum-known-why
-enum-known-why c = search needs
-
-enum-told : tie.Need-enum-told
-enum-told c = search needs
-
 number-requires : tie.Need-number-requires
 number-requires c κs = (lit≤ tt, sheet-passed _ (passed c) .head .field .whole)
 
@@ -45,6 +36,4 @@ returns-3 c =
     ap finished (c .before .number .ensures) ∙ answers-pairs _ t (passed (c .before .before)) (omega (arith, c .if1 .left))
 
 pub judge-spec : {M : Type 1} → statement M
-judge-spec =
-    tie.close
-    (tie.spec check-requires enum-known-why enum-told number-requires returns returns-2 returns-3)
+judge-spec = tie.close (tie.spec (λ c κs. search needs) (λ c. search needs) (λ c. search needs) number-requires returns returns-2 returns-3)

@@ -22,6 +22,10 @@ lent s =
     (a .patient-antigens .now) (a .patient-antibodies .now))
     (a .shuffle .now)
 
+-- moments, each seen from a later one
+abbrev after-n : tie.After-fill-arg9 → tie.After-n
+after-n c = c .before .before .before .before .before .before .before .before .before .before
+
 -- what was judged is the answer
 answers : (c : tie.After-judge) → answerOf (c .judge .result) ≡ reading (start c .args .sheet .now) (lent (start c)) .answer
 unfolding room fieldRoom
@@ -33,24 +37,9 @@ answers c =
 abbrev filling : tie.After-slice-known18 → tie.After-fill
 filling c = c .before .before .before .before .before .before .before .before .before .before .before .before .before .before .before .before .before .before
 
-room-requires : tie.Need-room-requires
-room-requires c κs = search needs
-
-lesser-requires : tie.Need-lesser-requires
-lesser-requires c κs = search needs
-
-judge-requires : tie.Need-judge-requires
-judge-requires c κs = search needs
-
-enum-known-why : tie.Need-enum-known-why
-enum-known-why c = search needs
-
-enum-known-n : tie.Need-enum-known-n
-enum-known-n c = search needs
-
 fill-requires : tie.Need-fill-requires
 fill-requires c κs =
-    let n = c .before .before .before .before .before .before .before .before .before .before in
+    let n = after-n c in
     fillable _ _ _ (answers (n .before .before)) _ (n .n .given .1)
 
 returns : tie.Need-returns
@@ -89,7 +78,7 @@ same-length-9 c = filling c .fill .kept .1 .1 .1 .1 .1 .1 .1 .1 .1 .1 .0
 returns-2 : tie.Need-returns-2
 returns-2 c =
     let f = filling c in
-    let n = f .before .before .before .before .before .before .before .before .before .before .before in
+    let n = after-n (f .before) in
     let j = n .before .before in
     let e = n .n .given .1 in (
       rw (f .fill .ensures) (finished-leaves _ (lent (start j)) _ (answers j) _ e),
@@ -99,21 +88,6 @@ returns-2 c =
 pub read-spec : {M : Type 1} → statement M
 read-spec =
     tie.close
-    (tie.spec
-    room-requires
-    lesser-requires
-    judge-requires
-    enum-known-why
-    enum-known-n
-    fill-requires
-    returns
-    same-length
-    same-length-2
-    same-length-3
-    same-length-4
-    same-length-5
-    same-length-6
-    same-length-7
-    same-length-8
-    same-length-9
+    (tie.spec (λ c κs. search needs) (λ c κs. search needs) (λ c κs. search needs) (λ c. search needs) (λ c. search needs) fill-requires
+    returns same-length same-length-2 same-length-3 same-length-4 same-length-5 same-length-6 same-length-7 same-length-8 same-length-9
     returns-2)

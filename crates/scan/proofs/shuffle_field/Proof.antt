@@ -11,46 +11,26 @@ use Rattle.pool.proofs.Pairs.{shuffle-cong}
 use Rattle.scan.proofs.shuffle_field.Statement.{statement}
 use Rattle.scan.proofs.shuffle_field.Tie as tie
 
+-- moments, each seen from a later one
+abbrev start : tie.After-field → tie.Start
+start c = c .before .before .before
+
 -- what was found of the shuffle's field
 found : (c : tie.After-field)
-    → faultAt (pairPlace (c .before .before .before .args .n)) (c .field .result)
-    ≡ fieldFault (c .before .before .before .args .b .now) (pairPlace (c .before .before .before .args .n)) shuffleTag
-    (shuffleLength (c .before .before .before .args .n))
+    → faultAt (pairPlace (start c .args .n)) (c .field .result)
+    ≡ fieldFault (start c .args .b .now) (pairPlace (start c .args .n)) shuffleTag
+    (shuffleLength (start c .args .n))
 found c = rw (← c .before .pair-place .ensures) (c .field .ensures)
-
-pair-place-requires : tie.Need-pair-place-requires
-pair-place-requires c κs = search needs
-
-mul-field : tie.Need-mul-field
-mul-field c = search needs
-
-field-requires : tie.Need-field-requires
-field-requires c κs = search needs
-
-enum-known-why : tie.Need-enum-known-why
-enum-known-why c = search needs
 
 returns : tie.Need-returns
 unfolding faultAt shuffleFieldFault
 returns c = faulty-then _ _ _ _ (found (c .before .before .before)) _ (c .before .why .given .1)
-
-enum-told : tie.Need-enum-told
-enum-told c = search needs
-
-slice-aggregate-fill-shuffle : tie.Need-slice-aggregate-fill-shuffle
-slice-aggregate-fill-shuffle c = search needs
 
 fill-shuffle-requires : tie.Need-fill-shuffle-requires
 fill-shuffle-requires c κs =
     let e = c .before in
     let w = field-passed _ _ _ _ (sound-none _ _ (found (e .before .before)) (e .enum-told .given .1)) in
     (search needs, w .whole, search needs)
-
-slice-aggregate-shuffle : tie.Need-slice-aggregate-shuffle
-slice-aggregate-shuffle c = search needs
-
-shuffle-requires : tie.Need-shuffle-requires
-shuffle-requires c κs = search needs
 
 returns-2 : tie.Need-returns-2
 unfolding shuffleFieldFault
@@ -63,15 +43,5 @@ returns-2 c =
 pub shuffle-field-spec : {M : Type 1} → statement M
 shuffle-field-spec =
     tie.close
-    (tie.spec
-    pair-place-requires
-    mul-field
-    field-requires
-    enum-known-why
-    returns
-    enum-told
-    slice-aggregate-fill-shuffle
-    fill-shuffle-requires
-    slice-aggregate-shuffle
-    shuffle-requires
-    returns-2)
+    (tie.spec (λ c κs. search needs) (λ c. search needs) (λ c κs. search needs) (λ c. search needs) returns (λ c. search needs)
+    (λ c. search needs) fill-shuffle-requires (λ c. search needs) (λ c κs. search needs) returns-2)

@@ -20,20 +20,8 @@ shortest : (c : tie.After-lesser) → c .lesser .result ≡ room (given (start c
 unfolding fieldRoom
 shortest c = shortest-room (given (start c)) (c .before .room .result) (c .lesser .result) (c .before .room .ensures) (c .lesser .ensures)
 
-room-requires : tie.Need-room-requires
-room-requires c κs = search needs
-
-lesser-requires : tie.Need-lesser-requires
-lesser-requires c κs = search needs
-
 pairs-requires : tie.Need-pairs-requires
 pairs-requires c κs = room-spaced (given (start c)) (c .lesser .result) (shortest c)
-
-enum-known-why : tie.Need-enum-known-why
-enum-known-why c = search needs
-
-enum-told : tie.Need-enum-told
-enum-told c = search needs
 
 shuffle-requires : tie.Need-shuffle-requires
 shuffle-requires c κs =
@@ -57,12 +45,5 @@ returns-2 c =
 pub judge-spec : {M : Type 1} → statement M
 judge-spec =
     tie.close
-    (tie.spec
-    room-requires
-    lesser-requires
-    pairs-requires
-    enum-known-why
-    enum-told
-    shuffle-requires
-    returns
+    (tie.spec (λ c κs. search needs) (λ c κs. search needs) pairs-requires (λ c. search needs) (λ c. search needs) shuffle-requires returns
     returns-2)

@@ -5,18 +5,6 @@ use Rattle.writer.proofs.Pieces.{sheet-pieces}
 use Rattle.writer.proofs.put_sheet.Statement.{statement}
 use Rattle.writer.proofs.put_sheet.Tie as tie
 
-put-head-requires : tie.Need-put-head-requires
-put-head-requires c κs = search needs
-
-put-pairs-requires : tie.Need-put-pairs-requires
-put-pairs-requires c κs = search needs
-
-put-shuffle-requires : tie.Need-put-shuffle-requires
-put-shuffle-requires c κs = search needs
-
-same-length : tie.Need-same-length
-same-length c = search needs
-
 abbrev given : tie.Start → Tables
 given s =
     tables
@@ -33,6 +21,4 @@ returns c =
     (third .put-shuffle .ensures)
 
 pub put-sheet-spec : {M : Type 1} → statement M
-put-sheet-spec =
-    tie.close
-    (tie.spec put-head-requires put-pairs-requires put-shuffle-requires same-length returns)
+put-sheet-spec = tie.close (tie.spec (λ c κs. search needs) (λ c κs. search needs) (λ c κs. search needs) (λ c. search needs) returns)

@@ -23,21 +23,12 @@ faultless c =
     let s = start j in
     answered-faultless (s .args .n) (given s) (s .args .out .now) (j .judge .result) (j .judge .ensures) (c .enum-told .given .1)
 
-judge-requires : tie.Need-judge-requires
-judge-requires c κs = search needs
-
-enum-known-why : tie.Need-enum-known-why
-enum-known-why c = search needs
-
 returns : tie.Need-returns
 returns c =
     let j = c .before .before .before in
     let s = start j in
     let e = answered-fault (s .args .n) (given s) (s .args .out .now) (j .judge .result) (j .judge .ensures) _ (c .before .why .given .1) in
     (e, answered-rightly (s .args .n) (given s) (s .args .out .now) _ _ e)
-
-enum-told : tie.Need-enum-told
-enum-told c = search needs
 
 sheet-length-requires : tie.Need-sheet-length-requires
 sheet-length-requires c κs = faultless c .pool .few
@@ -58,9 +49,6 @@ put-sheet-requires c κs =
     let l = c .before .before in
     (faultless (l .before) .hold, omega (arith, l .sheet-length .ensures, c .before .if1 .left))
 
-same-length : tie.Need-same-length
-same-length c = search needs
-
 returns-3 : tie.Need-returns-3
 returns-3 c =
     let w = c .before .before in
@@ -77,13 +65,5 @@ returns-3 c =
 pub write-spec : {M : Type 1} → statement M
 write-spec =
     tie.close
-    (tie.spec
-    judge-requires
-    enum-known-why
-    returns
-    enum-told
-    sheet-length-requires
-    returns-2
-    put-sheet-requires
-    same-length
-    returns-3)
+    (tie.spec (λ c κs. search needs) (λ c. search needs) returns (λ c. search needs) sheet-length-requires returns-2 put-sheet-requires
+    (λ c. search needs) returns-3)
