@@ -1,5 +1,5 @@
-"""The planner in Rust that trial/ has, written from document 01 alone: its own tests; its plans of the pools that the program `pools` plans, which must
-be what crates/pools/stdout has, byte for byte; and the library run beside it on random, damaged and faulty input. Links the archive that tests/c.py
+"""The planner in Rust that trial/ has, written from document 01 alone: its own tests; its plans of the pools that the program `try_pools` plans, which must
+be what crates/try_pools/stdout has, byte for byte; and the library run beside it on random, damaged and faulty input. Links the archive that tests/c.py
 makes, whatever VADIVUZHEN_LIB says."""
 import os
 import pathlib
@@ -24,11 +24,11 @@ for name, result in results:
     check(result == 'ok', f'{name}: {result}')
 
 plans = cargo('trial', 'run', '--release', '--offline', '--quiet', '--example', 'pools')
-expected = (top / 'crates' / 'pools' / 'stdout').read_text()
+expected = (top / 'crates' / 'try_pools' / 'stdout').read_text()
 check(plans.returncode == 0, 'the example pools failed:\n' + plans.stderr[-3000:])
 for got, want in zip(plans.stdout.splitlines(), expected.splitlines()):
-    check(got == want, f'the planner in Rust prints {got[:100]!r}, crates/pools/stdout has {want[:100]!r}')
-check(plans.stdout == expected, 'what the planner in Rust prints is not crates/pools/stdout')
+    check(got == want, f'the planner in Rust prints {got[:100]!r}, crates/try_pools/stdout has {want[:100]!r}')
+check(plans.stdout == expected, 'what the planner in Rust prints is not crates/try_pools/stdout')
 
 beside = cargo('trial/beside', 'run', '--release', '--offline', '--quiet')
 print(beside.stdout.rpartition('\n')[0].rpartition('\n')[0])

@@ -125,7 +125,7 @@ WALKS = [
         'use Rattle.vadivuzhen.proofs.Exported.{kept-plan}',
     ]),
 
-    Walk('pools', 'plan', 22, [
+    Walk('try_pools', 'plan', 22, [
         call(11, 'fresh', []),
         let(9, 11),
         relend(12, 13, 'weights'),
@@ -138,6 +138,6 @@ WALKS = [
         call(0, 'together', [10, 11]),
         give(0),
     ], 'with-records _ (lent (weights .now) (choices .now) (donors .now) (recipients .now)) (lent {weights} {choices} {donors} {recipients}) _ _ _ _ _ e1 e3 e2', [
-        'use Rattle.pools.proofs.Lent.{with-records}',
+        'use Rattle.try_pools.proofs.Lent.{with-records}',
     ]),
 ]

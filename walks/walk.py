@@ -1231,7 +1231,7 @@ module _ {model} where"""]
         asks = filled(fn.requires, {p.name: f'(a {nth(i)} .now)' if p.lent else a[i] for i, p in enumerate(fn.params)}) if fn.requires else None
         walks = f'needs 𝓤 ({asks}) _ ({walks})' if asks else f'via 𝓤 _ (fst∗ 𝓤 _ (emp 𝓤)) ({walks})'
         tells = pairs([p.tells(fn.life.get(p.name)) for p in fn.params])
-        cited = '\n'.join(f'    (cited 𝓤 H ({c.upper()} 𝓤 H (𝓖 .A) (𝓜 .mem) (𝓡 .run)) 𝓜 𝓡 code.env #{c} {c}-def.routine code.calls-{f.crate}·{dashed(f.name)} ({c}-thm.met 𝓤 H 𝓜 𝓖 𝓡))'
+        cited = '\n'.join(f'    (cited 𝓤 H ({c.upper()} 𝓤 H (𝓖 .A) (𝓜 .mem) (𝓡 .run)) 𝓜 𝓡 code.env #{c} {c}-def.routine code.calls-{dashed(f.crate)}·{dashed(f.name)} ({c}-thm.met 𝓤 H 𝓜 𝓖 𝓡))'
                           for c, f in self.callees.values())
         spec = f'{dashed(fn.name)}-spec'
         out += [f"""  walks : (𝓣 : Tables 𝓤 H) → {known} → Walks 𝓤 H A me.ended stayed (WpFn 𝓤 H (𝓣 .C) (𝓣 .Λ) code.function) (me.clauses 𝓤 H A at-mem run)

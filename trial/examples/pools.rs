@@ -1,5 +1,5 @@
 //! Prints document 01's pools k1 to k12, a pool of 36 and one of 200, with the
-//! plans that this planner makes of them, in the words of the program `pools`
+//! plans that this planner makes of them, in the words of the program `try_pools`
 //! of the proved library: what the two print is compared.
 
 use reference::{plan, Room};

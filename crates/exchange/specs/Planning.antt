@@ -9,7 +9,7 @@ use Rattle.laws.specs.Lent.{filled}
 use Rattle.refusal.specs.Fault.{Fault, refuse, _then_}
 use Rattle.refusal.specs.Answer.{Outcome, unless}
 use Rattle.pool.specs.Faults.{shuffleFault, roomFault}
-use Rattle.records.specs.declared.Cycle.{Cycle}
+use Rattle.cycle.specs.declared.Cycle.{Cycle}
 use Rattle.greedy.specs.Tally.{Tally, tally}
 use Rattle.greedy.specs.Rounds.{Left, rounds}
 use Rattle.exchange.specs.Subsets.{Scope, order, subsetCount, entry, subsetWeights, evaluationTally}

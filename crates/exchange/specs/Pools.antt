@@ -7,7 +7,7 @@ use lib.Dec.{eqb}
 use lib.ListN.{replicate}
 use Rattle.laws.specs.Below.{table}
 use Rattle.refusal.specs.Answer.{Answer, finished, refused, Outcome, outcome}
-use Rattle.records.specs.declared.Cycle.{Cycle}
+use Rattle.cycle.specs.declared.Cycle.{Cycle}
 use Rattle.greedy.specs.Tally.{Tally, tally}
 use Rattle.exchange.specs.Subsets.{upToThree, subsetCount}
 use Rattle.exchange.specs.Input.{Input, inputOf, request}

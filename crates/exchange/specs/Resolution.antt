@@ -5,7 +5,7 @@ use mathlib.Core.List.{List, [], _∷_, flatMap}
 use lib.Dec.{eqb, ltb}
 use lib.ListN.{length, getD}
 use Rattle.laws.specs.Below.{table}
-use Rattle.records.specs.declared.Cycle.{Cycle}
+use Rattle.cycle.specs.declared.Cycle.{Cycle}
 use Rattle.exchange.specs.Subsets.{Edge, edges, weigh, pairsAt, bestCycle}
 
 -- the chosen cycles "in order of choice", each as its pairs "in giving order from the lowest place"; the choice n is none

@@ -12,7 +12,7 @@ use Rattle.refusal.specs.declared.Refusal.{Refusal}
 use Rattle.refusal.specs.declared.Verdict.{Verdict}
 use Rattle.refusal.specs.declared.Verdict.the-variants.{Sound, Faulty}
 use Rattle.refusal.proofs.Faults.{unless-none, unless-fault, sound-none, faulty-fault}
-use Rattle.records.specs.declared.Cycle.{Cycle}
+use Rattle.cycle.specs.declared.Cycle.{Cycle}
 use Rattle.exchange.specs.Input.{Request, request}
 use Rattle.exchange.specs.Planning.{Lent, lent, lengths, lengthsOf, Plan, planFault, planning}
 use Rattle.exchange.specs.Faultless.{FaultlessInput}

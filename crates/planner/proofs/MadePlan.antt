@@ -9,7 +9,7 @@ use Rattle.laws.specs.Lent.{filled}
 use Rattle.laws.proofs.Below.{length-table}
 use Rattle.laws.proofs.Lent.{take-filled}
 use Rattle.refusal.specs.Answer.{finished}
-use Rattle.records.specs.declared.Cycle.{Cycle}
+use Rattle.cycle.specs.declared.Cycle.{Cycle}
 use Rattle.greedy.specs.Tally as Tallies
 use Rattle.greedy.specs.Rounds.{Left, left}
 use Rattle.greedy.proofs.Tallied.{rounds-length}

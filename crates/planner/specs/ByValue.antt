@@ -5,7 +5,7 @@ use mathlib.Core.List.{List}
 use lib.ListN.{length, take}
 use Rattle.laws.specs.Lent.{filled}
 use Rattle.refusal.specs.Answer.{finished, outcome}
-use Rattle.records.specs.declared.Cycle.{Cycle}
+use Rattle.cycle.specs.declared.Cycle.{Cycle}
 use Rattle.exchange.specs.Input.{Request, inputOf}
 use Rattle.exchange.specs.Planning.{Lent, roundCount, planFrom, filledLent}
 use Rattle.exchange.specs.Promises.{PlansRightly}

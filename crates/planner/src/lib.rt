@@ -1,7 +1,7 @@
 // The planning call.
+use cycle::Cycle;
 use gates::Counts;
 use gates::Tally;
-use records::Cycle;
 use refusal::Refusal;
 use refusal::Verdict;
 ghost use mathlib.Core.Path.{_≡_};

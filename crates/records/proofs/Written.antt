@@ -8,7 +8,7 @@ use lib.ListN.{length, set, take, length-take}
 use lib.Seq.{take-suc}
 use Rattle.laws.specs.Lent.{filled}
 use Rattle.laws.proofs.Lent.{length-filled, filled-next}
-use Rattle.records.specs.declared.Cycle.{Cycle}
+use Rattle.cycle.specs.declared.Cycle.{Cycle}
 use Rattle.records.specs.Copying.{recordAt, Puttable, Writable}
 
 -- a loop that writes the records: k of them are written

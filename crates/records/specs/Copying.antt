@@ -2,7 +2,7 @@
 use Prim.Native.Nat.{ℕ, _<_, _≤_}
 use mathlib.Core.List.{List}
 use lib.ListN.{length, getD}
-use Rattle.records.specs.declared.Cycle.{Cycle}
+use Rattle.cycle.specs.declared.Cycle.{Cycle}
 
 -- record k; past the last, three zeros
 abbrev pub recordAt : List Cycle → ℕ → Cycle

@@ -1,17 +1,10 @@
 // The records of a plan, in an array by value and in a table that the caller lends.
+use cycle::Cycle;
 ghost use mathlib.Core.Path.{_≡_};
 ghost use Prim.Native.Nat.{_<_};
 ghost use lib.ListN.{length, set, take};
 ghost use Rattle.laws.specs.Lent.{filled};
 ghost use Rattle.records.specs.Copying.{recordAt, Puttable, Writable};
-
-// "three pair numbers in giving order from the lowest place, the third N for a two"
-#[repr(C)]
-pub struct Cycle {
-    pub first: u16,
-    pub second: u16,
-    pub third: u16,
-}
 
 // One of the records.
 pub fn record_at(records: [Cycle; 100], k: usize) -> Cycle

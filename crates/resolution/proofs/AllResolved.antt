@@ -12,7 +12,7 @@ use Rattle.laws.specs.Below.{table}
 use Rattle.laws.specs.Lent.{stored, filled}
 use Rattle.laws.proofs.Below.{length-table}
 use Rattle.laws.proofs.Lent.{length-filled, stored-none, stored-one, stored-filled, stored-then}
-use Rattle.records.specs.declared.Cycle.{Cycle}
+use Rattle.cycle.specs.declared.Cycle.{Cycle}
 use Rattle.exchange.specs.Subsets.{upToThree, order, subsetCount, Edge, entry, edges, weigh, pairsAt, bestCycle, subsetWeight}
 use Rattle.exchange.specs.Resolution.{recordOf, pairsOf, resolved, total, recipientTable, donorTable}
 use Rattle.cursor.specs.Cursor.{OnSubset, placesAt, subsetAt}

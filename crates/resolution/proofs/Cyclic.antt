@@ -7,7 +7,7 @@ use native.Mathlib.Omega.{arith}
 use borrow.Author.Tests.{eq-eqb, ne-eqb, lt-ltb, le-ltb}
 use lib.Dec.{ltb}
 use lib.ListN.{length, getD}
-use Rattle.records.specs.declared.Cycle.{Cycle}
+use Rattle.cycle.specs.declared.Cycle.{Cycle}
 use Rattle.exchange.specs.Subsets.{upToThree, order, subsetCount, entry, weigh, heaviest, pairsAt, bestCycle}
 use Rattle.exchange.specs.Resolution.{resolved, recordOf, pairsOf, total}
 use Rattle.cursor.specs.Cursor.{OnSubset, subsetAt}

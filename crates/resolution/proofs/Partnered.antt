@@ -11,7 +11,7 @@ use lib.Seq.{getD-set-same, getD-set-other}
 use Rattle.laws.specs.Below.{table}
 use Rattle.laws.proofs.Below.{length-table, getD-table, table-cong, table-getD}
 use Rattle.laws.proofs.Lists.{flatMap-append}
-use Rattle.records.specs.declared.Cycle.{Cycle}
+use Rattle.cycle.specs.declared.Cycle.{Cycle}
 use Rattle.exchange.specs.Subsets.{Edge, along, edges}
 use Rattle.exchange.specs.Resolution.{pairsOf, recipientBy, donorBy, recipientTable, donorTable}
 use Rattle.resolution.specs.Records.{given, received}

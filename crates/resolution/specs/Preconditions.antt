@@ -3,7 +3,7 @@ use Prim.Native.Nat.{ℕ, _+_, _*_, _^_, _≤_, _<_}
 use mathlib.Core.Path.{_≡_}
 use mathlib.Core.List.{List}
 use lib.ListN.{length}
-use Rattle.records.specs.declared.Cycle.{Cycle}
+use Rattle.cycle.specs.declared.Cycle.{Cycle}
 use Rattle.entries.specs.Preconditions.{Readable, Shuffled}
 use Rattle.resolution.specs.declared.Giving.{Giving}
 use Rattle.resolution.specs.declared.Resolved.{Resolved}

@@ -4,7 +4,7 @@ use mathlib.Core.List.{List, [], _∷_, map, flatMap}
 use mathlib.Core.Path.{_≡_}
 use lib.ListN.{length, set, replicate}
 use Rattle.laws.specs.Lent.{stored, filled}
-use Rattle.records.specs.declared.Cycle.{Cycle}
+use Rattle.cycle.specs.declared.Cycle.{Cycle}
 use Rattle.exchange.specs.Subsets.{Scope, order, Edge, edges, entry, pairsAt, bestCycle}
 use Rattle.exchange.specs.Resolution.{recordOf, resolved, total}
 use Rattle.resolution.specs.declared.Giving.{Giving}

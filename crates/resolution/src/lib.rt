@@ -1,6 +1,6 @@
 // Resolution: the chosen cycles as records and as partners, with their weight. It is not tallied, and may look at a choice.
 use cursor::Places;
-use records::Cycle;
+use cycle::Cycle;
 ghost use mathlib.Core.Path.{_≡_};
 ghost use mathlib.Core.List.{[], _∷_};
 ghost use Prim.Native.Nat.{_^_, _≤_, _<_};

@@ -1,10 +1,10 @@
 // The library's calls with a C boundary (include/vadivuzhen.h). Each hands its arguments on, and answers in numbers (crate `numbers`).
+use cycle::Cycle;
 use numbers::BuildAnswer;
 use numbers::PlanAnswer;
 use numbers::PrintAnswer;
 use numbers::ReadAnswer;
 use numbers::WriteAnswer;
-use records::Cycle;
 ghost use mathlib.Core.Path.{_≡_};
 ghost use lib.ListN.{length};
 ghost use Rattle.pool.specs.Lent.{lentFields, lentTables};

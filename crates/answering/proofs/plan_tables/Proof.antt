@@ -5,32 +5,18 @@ use mathlib.Core.Path.{refl}
 use native.Mathlib.Omega.{arith}
 use lib.Dec.{lit≤}
 use lib.ListN.{replicate, length-replicate}
-use Rattle.records.specs.declared.Cycle.{Cycle}
+use Rattle.cycle.specs.declared.Cycle.{Cycle}
 use Rattle.exchange.specs.Planning.{Lent, lent}
 use Rattle.answering.proofs.Plans.{Roomy, never-refused, partnered}
 use Rattle.answering.proofs.plan_tables.Statement.{statement}
 use Rattle.answering.proofs.plan_tables.Tie as tie
 
-slice-aggregate-plan-by-value : tie.Need-slice-aggregate-plan-by-value
-slice-aggregate-plan-by-value c = search needs
+-- moments, each seen from a later one
+abbrev after-plan-by-value : tie.After-slice-known4 → tie.After-plan-by-value
+after-plan-by-value c = c .before .before .before .before .before .before
 
-slice-aggregate-plan-by-value-2 : tie.Need-slice-aggregate-plan-by-value-2
-slice-aggregate-plan-by-value-2 c = search needs
-
-plan-by-value-requires : tie.Need-plan-by-value-requires
-plan-by-value-requires c κs = search needs
-
-enum-known-planning : tie.Need-enum-known-planning
-enum-known-planning c = search needs
-
-enum-told : tie.Need-enum-told
-enum-told c = search needs
-
-same-length : tie.Need-same-length
-same-length c = search needs
-
-same-length-2 : tie.Need-same-length-2
-same-length-2 c = search needs
+abbrev start : tie.After-slice-known4 → tie.Start
+start c = after-plan-by-value c .before .before .before .before .before .before .before .before .before .before
 
 -- a table of 20 records, which the program does not keep
 abbrev blank : List Cycle
@@ -52,34 +38,20 @@ roomy s =
 
 returns : tie.Need-returns
 returns c =
-    let p = c .before .before .before .before .before .before .before .before .before .plan-by-value in
-    let s = c .before .before .before .before .before .before .before .before .before .before .before .before .before .before .before .before .before .before .before in
+    let after-slice-known4 = c .before .before .before in
+    let p = after-plan-by-value after-slice-known4 .plan-by-value in
+    let s = start after-slice-known4 in
     partnered (s .args .n) _ _ _ (s .pre .0) (lentTo s) (roomy s) (p .result .planning) _ (p .ensures .plans blank refl) _ (c .before .planning .given .1)
-
-same-length-3 : tie.Need-same-length-3
-same-length-3 c = search needs
-
-same-length-4 : tie.Need-same-length-4
-same-length-4 c = search needs
 
 returns-2 : tie.Need-returns-2
 returns-2 c =
-    let p = c .before .before .before .before .before .before .before .before .plan-by-value in
-    let s = c .before .before .before .before .before .before .before .before .before .before .before .before .before .before .before .before .before .before in
+    let after-slice-known4 = c .before .before in
+    let p = after-plan-by-value (after-slice-known4) .plan-by-value in
+    let s = start (after-slice-known4) in
     never-refused (s .args .n) _ _ _ (s .pre .0) (lentTo s) (roomy s) (p .result .planning) _ (p .ensures .plans blank refl) _ (c .enum-told .given .1)
 
 pub plan-tables-spec : {M : Type 1} → statement M
 plan-tables-spec =
     tie.close
-    (tie.spec
-    slice-aggregate-plan-by-value
-    slice-aggregate-plan-by-value-2
-    plan-by-value-requires
-    enum-known-planning
-    enum-told
-    same-length
-    same-length-2
-    returns
-    same-length-3
-    same-length-4
-    returns-2)
+    (tie.spec (λ c. search needs) (λ c. search needs) (λ c κs. search needs) (λ c. search needs) (λ c. search needs) (λ c. search needs)
+    (λ c. search needs) returns (λ c. search needs) (λ c. search needs) returns-2)

@@ -26,71 +26,54 @@ empty = graph (replicate 1600 0) (replicate 1600 0)
 roomy : (1600 ≤ length (empty .compatibilities)) × (1600 ≤ length (empty .weights))
 roomy = (lit≤ tt, lit≤ tt)
 
-slice-aggregate-build : tie.Need-slice-aggregate-build
-slice-aggregate-build c = search needs
+-- moments, each seen from a later one
+abbrev start : tie.After-w2 → tie.Start
+start c = c .before .before .before .before .before .before .before .before .before .before .before .before .before .before
 
-slice-aggregate-build-2 : tie.Need-slice-aggregate-build-2
-slice-aggregate-build-2 c = search needs
-
-build-requires : tie.Need-build-requires
-build-requires c κs = search needs
-
-enum-told : tie.Need-enum-told
-enum-told c = search needs
+abbrev after-build : tie.After-m3 → tie.After-build
+after-build c = c .before .before .before .before .before .before
 
 slice-aggregate-print-planned : tie.Need-slice-aggregate-print-planned
 slice-aggregate-print-planned c =
-    let s = c .before .before .before .before .before .before .before .before .before .before .before .before .before .before .before .before .before in
+    let after-w2 = c .before .before .before in
+    let s = start after-w2 in
     sym (length-take-le (s .args .n) (s .args .ids .now) (s .pre .faultless .hold .fields .ids))
-
-slice-aggregate-print-planned-2 : tie.Need-slice-aggregate-print-planned-2
-slice-aggregate-print-planned-2 c = search needs
-
-slice-aggregate-print-planned-3 : tie.Need-slice-aggregate-print-planned-3
-slice-aggregate-print-planned-3 c = search needs
 
 slice-aggregate-print-planned-4 : tie.Need-slice-aggregate-print-planned-4
 slice-aggregate-print-planned-4 c =
-    let s = c .before .before .before .before .before .before .before .before .before .before .before .before .before .before .before .before .before .before .before .before in
+    let after-w2 = c .before .before .before .before .before .before in
+    let s = start after-w2 in
     sym (length-take-le (s .args .n) (s .args .shuffle .now) (s .pre .faultless .hold .shuffle))
 
 print-planned-requires : tie.Need-print-planned-requires
 print-planned-requires c κs =
-    let s = c .before .before .before .before .before .before .before .before .before .before .before .before .before .before .before .before .before .before .before .before .before in
-    let b = c .before .before .before .before .before .before .before .before .before .build in (
+    let after-m3 = c .before .before .before in
+    let after-w2 = after-m3 .before .before .before .before in
+    let s = start after-w2 in
+    let b = after-build after-m3 .build in (
       plannable (s .args .n) (pool s) (s .pre) empty roomy (b .result) _ (b .ensures .1)
           (omega (arith, b .kept .1 .1 .1 .1 .1 .1 .1 .1 .1 .0), omega (arith, b .kept .1 .1 .1 .1 .1 .1 .1 .1 .1 .1 .0)),
       omega (arith, length-take-le (s .args .n) (s .args .ids .now) (s .pre .faultless .hold .fields .ids)),
     )
 
-enum-told-2 : tie.Need-enum-told-2
-enum-told-2 c = search needs
-
 returns : tie.Need-returns
 returns c =
-    let s = c .before .before .before .before .before .before .before .before .before .before .before .before .before .before .before .before .before .before .before .before .before .before in
-    let b = c .before .before .before .before .before .before .before .before .before .before .build in
-    c .print-planned .ensures ∙ ap (λ (x : PrintedPlan). putting (planText x) (s .args .out .now)) (plan-is (s .args .n) (pool s) (s .pre) empty roomy (b .result) _ (b .ensures .1))
+    let after-m3 = c .before .before .before .before in
+    let after-w2 = after-m3 .before .before .before .before in
+    let s = start after-w2 in
+    let b = after-build after-m3 .build in
+    c .print-planned .ensures ∙ ap (λ (x : PrintedPlan). putting (planText x) (s .args .out .now))
+    (plan-is (s .args .n) (pool s) (s .pre) empty roomy (b .result) _ (b .ensures .1))
 
 returns-2 : tie.Need-returns-2
 returns-2 c =
-    let s = c .before .before .before .before .before .before .before .before .before .before .before .before .before .before .before .before in
-    let b = c .before .before .before .before .build in
+    let build = c .before .before .before .before in
+    let s = start (c .before .before) in
+    let b = build .build in
     never-unbuilt (s .args .n) (pool s) (s .pre) empty roomy (b .result) _ (b .ensures .1) _ (c .enum-told2 .given .1)
 
 pub print-pool-spec : {M : Type 1} → statement M
 print-pool-spec =
     tie.close
-    (tie.spec
-    slice-aggregate-build
-    slice-aggregate-build-2
-    build-requires
-    enum-told
-    slice-aggregate-print-planned
-    slice-aggregate-print-planned-2
-    slice-aggregate-print-planned-3
-    slice-aggregate-print-planned-4
-    print-planned-requires
-    enum-told-2
-    returns
-    returns-2)
+    (tie.spec (λ c. search needs) (λ c. search needs) (λ c κs. search needs) (λ c. search needs) slice-aggregate-print-planned
+    (λ c. search needs) (λ c. search needs) slice-aggregate-print-planned-4 print-planned-requires (λ c. search needs) returns returns-2)

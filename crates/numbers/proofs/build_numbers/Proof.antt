@@ -4,15 +4,6 @@ use borrow.Author.Needs.{needs}
 use Rattle.numbers.proofs.build_numbers.Statement.{statement}
 use Rattle.numbers.proofs.build_numbers.Tie as tie
 
-enum-known-answer : tie.Need-enum-known-answer
-enum-known-answer c = search needs
-
-number-of-requires : tie.Need-number-of-requires
-number-of-requires c κs = search needs
-
-enum-told : tie.Need-enum-told
-enum-told c = search needs
-
 returns : tie.Need-returns
 returns c =
     build-refused _ _ (c .before .before .answer .given .1) _ (c .number-of .ensures)
@@ -22,6 +13,4 @@ returns-2 c =
     build-finished _ (c .enum-told .given .1)
 
 pub build-numbers-spec : {M : Type 1} → statement M
-build-numbers-spec =
-    tie.close
-    (tie.spec enum-known-answer number-of-requires enum-told returns returns-2)
+build-numbers-spec = tie.close (tie.spec (λ c. search needs) (λ c κs. search needs) (λ c. search needs) returns returns-2)

@@ -4,15 +4,6 @@ use borrow.Author.Needs.{needs}
 use Rattle.numbers.proofs.plan_numbers.Statement.{statement}
 use Rattle.numbers.proofs.plan_numbers.Tie as tie
 
-enum-known-answer : tie.Need-enum-known-answer
-enum-known-answer c = search needs
-
-number-of-requires : tie.Need-number-of-requires
-number-of-requires c κs = search needs
-
-enum-known-answer-2 : tie.Need-enum-known-answer-2
-enum-known-answer-2 c = search needs
-
 returns : tie.Need-returns
 returns c =
     plan-refused _ _ (c .before .before .answer .given .1) _ (c .number-of .ensures)
@@ -22,6 +13,4 @@ returns-2 c =
     plan-made _ _ (c .before .before .answer2 .given .1)
 
 pub plan-numbers-spec : {M : Type 1} → statement M
-plan-numbers-spec =
-    tie.close
-    (tie.spec enum-known-answer number-of-requires enum-known-answer-2 returns returns-2)
+plan-numbers-spec = tie.close (tie.spec (λ c. search needs) (λ c κs. search needs) (λ c. search needs) returns returns-2)

@@ -12,9 +12,9 @@ use Rattle.records.specs.Copying.{Writable}
 use Rattle.laws.specs.Lent.{filled}
 use lib.ListN.{take}
 use Rattle.planner.proofs.Recorded.{recorded}
-use Rattle.records.specs.declared.Cycle.{Cycle}
-use Rattle.records.proofs.Cycle as Cycle-row
-use Rattle.records.proofs.Cycle.Laws as Cycle-laws
+use Rattle.cycle.specs.declared.Cycle.{Cycle}
+use Rattle.cycle.proofs.Cycle as Cycle-row
+use Rattle.cycle.proofs.Cycle.Laws as Cycle-laws
 use Rattle.planner.specs.declared.Planning.{Planning}
 use Rattle.planner.proofs.Planning as Planning-row
 use Rattle.planner.proofs.Planning.Laws as Planning-laws

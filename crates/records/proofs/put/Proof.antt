@@ -2,9 +2,9 @@
 use Rattle.lending.proofs.Walking.{_≡_, refl, sym, ap, subst, [], _∷_, List, ℕ, _<_, _^_, length, getD, set, length-set, URA, fullShare, named, tyPtr, w64, Val, vunit, vint, vptr, SProp, ent, id⊢, Lft, Share, ftrue, fat, flft, Memory, Routine, Heap, Calls, Loops, WpFn, Tables, Atoms, Fun, fact, AllOutlive, givenOf, tables, tablesOf, Given, ‵, raw, some, later, _⊛_, ⋆, Item, _$_, _∵_, !, qed, by, move, keep, drop, use1, cut, split, join, pick, rewrite, fsplit, fjoin, feqI, suffices, frame, await, done, look, init, store, forget, stop, hop, fld, from, load, lit, unit-lit, of-opd, bin, and-then, no-more, land, assigns, returns, enter, alloc1, alloc0, params1, pass1, pass0, free1, free0, whole, sub, look-in, FmC, fmOf, WpFn-mono, RattleType, owns, Is, shows, mem, cellAt, uint-vals, uint-tells, uint-makes, usize, RefT, sliceVal, MutSlice, Room, at-slice, slice-vals, mut-slice-tells, pureI, array-vals, place, place-is, elem-out, elem-put, opens-slice, closes-slice, plain, arrayOf, only, owned, facts, heard, nothing, onEntry, Meets, tripleOf, Contract, Triple, calls-at, ensured, lasts, entered, cited, says, needs, Stays, stay-dropped, stay-slice, walkOf, goes-dropped, goes-slice, Walks, ends-at, walked, walk-meets, yes, renamed, Row, rowVal, row-tells, row-makes, row-typed, place-fits}
 use denote.Struct.Laws as LL
 use Rattle.records.specs.Copying.{Puttable, recordAt}
-use Rattle.records.specs.declared.Cycle.{Cycle}
-use Rattle.records.proofs.Cycle as Cycle-row
-use Rattle.records.proofs.Cycle.Laws as Cycle-laws
+use Rattle.cycle.specs.declared.Cycle.{Cycle}
+use Rattle.cycle.proofs.Cycle as Cycle-row
+use Rattle.cycle.proofs.Cycle.Laws as Cycle-laws
 use Rattle.records.proofs.record_at as f1
 use Rattle.records.proofs.record_at.Symbol as f1-def
 use Rattle.records.proofs.record_at.Symbol.{name as #f1}

@@ -5,9 +5,9 @@ use Rattle.records.specs.Copying.{Writable, Puttable, recordAt}
 use Rattle.laws.specs.Lent.{filled}
 use lib.ListN.{take}
 use Rattle.records.proofs.Written.{Written, written-none, written-long, written-asks, written-next, written-all}
-use Rattle.records.specs.declared.Cycle.{Cycle}
-use Rattle.records.proofs.Cycle as Cycle-row
-use Rattle.records.proofs.Cycle.Laws as Cycle-laws
+use Rattle.cycle.specs.declared.Cycle.{Cycle}
+use Rattle.cycle.proofs.Cycle as Cycle-row
+use Rattle.cycle.proofs.Cycle.Laws as Cycle-laws
 use Rattle.records.proofs.put as f1
 use Rattle.records.proofs.put.Symbol as f1-def
 use Rattle.records.proofs.put.Symbol.{name as #f1}

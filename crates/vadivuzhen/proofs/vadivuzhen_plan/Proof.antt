@@ -11,9 +11,9 @@ use Rattle.refusal.specs.Answer.{outcome}
 use Rattle.planner.specs.Answers.{answerOf, answerOf as Planner·answerOf}
 use Rattle.numbers.proofs.Own.{plan-numbered}
 use Rattle.vadivuzhen.proofs.Exported.{kept-plan}
-use Rattle.records.specs.declared.Cycle.{Cycle}
-use Rattle.records.proofs.Cycle as Cycle-row
-use Rattle.records.proofs.Cycle.Laws as Cycle-laws
+use Rattle.cycle.specs.declared.Cycle.{Cycle}
+use Rattle.cycle.proofs.Cycle as Cycle-row
+use Rattle.cycle.proofs.Cycle.Laws as Cycle-laws
 use Rattle.numbers.specs.declared.PlanAnswer.{PlanAnswer}
 use Rattle.numbers.proofs.PlanAnswer as PlanAnswer-row
 use Rattle.numbers.proofs.PlanAnswer.Laws as PlanAnswer-laws

@@ -8,20 +8,10 @@ use borrow.Author.Needs.{needs}
 use Rattle.vadivuzhen.proofs.vadivuzhen_print_plan.Statement.{statement}
 use Rattle.vadivuzhen.proofs.vadivuzhen_print_plan.Tie as tie
 
-print-plan-requires : tie.Need-print-plan-requires
-print-plan-requires c κs = search needs
-
-print-numbers-requires : tie.Need-print-numbers-requires
-print-numbers-requires c κs = search needs
-
-same-length : tie.Need-same-length
-same-length c = search needs
-
 returns : tie.Need-returns
 returns c =
     let w = c .before .before .before .print-plan in
     kept printNumbers NumberedAt0 (PrintsPlan _ _) (c .print-numbers .ensures) (print-numbered (w .result)) (w .ensures .0) (w .ensures .1)
 
 pub vadivuzhen-print-plan-spec : {M : Type 1} → statement M
-vadivuzhen-print-plan-spec =
-    tie.close (tie.spec print-plan-requires print-numbers-requires same-length returns)
+vadivuzhen-print-plan-spec = tie.close (tie.spec (λ c κs. search needs) (λ c κs. search needs) (λ c. search needs) returns)

@@ -8,20 +8,10 @@ use borrow.Author.Needs.{needs}
 use Rattle.vadivuzhen.proofs.vadivuzhen_write.Statement.{statement}
 use Rattle.vadivuzhen.proofs.vadivuzhen_write.Tie as tie
 
-write-requires : tie.Need-write-requires
-write-requires c κs = search needs
-
-write-numbers-requires : tie.Need-write-numbers-requires
-write-numbers-requires c κs = search needs
-
-same-length : tie.Need-same-length
-same-length c = search needs
-
 returns : tie.Need-returns
 returns c =
     let w = c .before .before .before .write in
     kept writeNumbers NumberedAt0 (WritesRightly _ _ _) (c .write-numbers .ensures) (write-numbered (w .result)) (w .ensures .0) (w .ensures .1)
 
 pub vadivuzhen-write-spec : {M : Type 1} → statement M
-vadivuzhen-write-spec =
-    tie.close (tie.spec write-requires write-numbers-requires same-length returns)
+vadivuzhen-write-spec = tie.close (tie.spec (λ c κs. search needs) (λ c κs. search needs) (λ c. search needs) returns)
