@@ -20,6 +20,8 @@
  *
  * Pairs are numbered from 0. N is the number of pairs, 200 at most.
  *
+ * docs/FORMAT.md has the sheet's bytes, what suits and what it weighs, the refusals with their places, and the printed plan.
+ *
  * The archive is for x86-64 Linux, where size_t has 64 bits; of the C library it needs memcpy and memset. */
 #ifndef VADIVUZHEN_H
 #define VADIVUZHEN_H
@@ -32,6 +34,13 @@ static_assert(sizeof(size_t) == 8, "the library is built for a size_t of 64 bits
 extern "C" {
 #else
 _Static_assert(sizeof(size_t) == 8, "the library is built for a size_t of 64 bits");
+#endif
+
+/* an answer that is not looked at is a mistake: a compiler that can, warns of it */
+#if defined(__GNUC__) || defined(__clang__)
+#define VADIVUZHEN_ANSWERS __attribute__((warn_unused_result))
+#else
+#define VADIVUZHEN_ANSWERS
 #endif
 
 /* ---- Refusals, by whom they are caused ---- */
@@ -90,7 +99,7 @@ struct vadivuzhen_read_answer {
  * Refuses 1 to 8, the first fault of the sheet going forward; then 9, where a table has fewer than N entries.
  * Proved: a sheet is accepted if and only if it has none of the faults and the tables can hold it; the tables then hold the pool that it says. An accepted
  * sheet read and written again is the same sheet, byte for byte. */
-struct vadivuzhen_read_answer vadivuzhen_read(
+VADIVUZHEN_ANSWERS struct vadivuzhen_read_answer vadivuzhen_read(
     const uint8_t *sheet, size_t sheet_length,
     uint32_t *ids, size_t ids_length,
     uint8_t *donor_blood, size_t donor_blood_length,
@@ -111,7 +120,7 @@ struct vadivuzhen_write_answer {
  * Fills VADIVUZHEN_SHEET(n) bytes, which is the answer's length.
  * Refuses 4; 9, where a table has fewer than n entries; 6 and 7, pair by pair; 8; 9, where `out` is shorter than the sheet.
  * Proved: a pool is accepted if and only if it has none of these faults; what is written reads back as that pool. */
-struct vadivuzhen_write_answer vadivuzhen_write(
+VADIVUZHEN_ANSWERS struct vadivuzhen_write_answer vadivuzhen_write(
     size_t n,
     const uint32_t *ids, size_t ids_length,
     const uint8_t *donor_blood, size_t donor_blood_length,
@@ -136,7 +145,7 @@ struct vadivuzhen_build_answer {
  * Refuses 4; 9, where a table of the fields has fewer than n entries; 6 and 7, pair by pair; 9, where M or W is shorter than n rows of n.
  * Proved: the fields are accepted if and only if they have none of these faults; every entry is then the published one, and M is 0 or 1, and 0 for a
  * pair's own, as vadivuzhen_plan asks. */
-struct vadivuzhen_build_answer vadivuzhen_build(
+VADIVUZHEN_ANSWERS struct vadivuzhen_build_answer vadivuzhen_build(
     size_t n,
     const uint32_t *ids, size_t ids_length,
     const uint8_t *donor_blood, size_t donor_blood_length,
@@ -174,12 +183,11 @@ struct vadivuzhen_plan_answer {
  * in order of choice.
  * Refuses 4; 9, where m or w is shorter than n rows of n, the shuffle than n, weights, choices, donors or recipients than what is filled, or the records
  * than VADIVUZHEN_RECORDS(n); 8; 10.
- * Proved of every plan made: its donors and recipients are those of Algorithm 1 of arXiv 2302.13880; all its cycles can be carried out; no pair is in two
- * of them; no other set of exchanges of two or three pairs that can all be carried out, with no pair in two of them, weighs more than three times as much;
- * and the tally depends on n
- * alone: with T triples and P twos among n pairs and R = n / 2 rounds, comparisons are T + R (T + P), and products 2P + 7T + R (5 (T + P) - 1)
- * + (R - 1) (2P + 3T), or 0 where R is 0. */
-struct vadivuzhen_plan_answer vadivuzhen_plan(
+ * Proved: a plan is made if and only if there are none of these faults. Of every plan made: its donors and recipients are those of Algorithm 1 of arXiv
+ * 2302.13880; all its cycles can be carried out; no pair is in two of them; no other set of exchanges of two or three pairs that can all be carried out,
+ * with no pair in two of them, weighs more than three times as much; and the tally depends on n alone: with T triples and P twos among n pairs and
+ * R = n / 2 rounds, comparisons are T + R (T + P), and products 2P + 7T + R (5 (T + P) - 1) + (R - 1) (2P + 3T), or 0 where R is 0. */
+VADIVUZHEN_ANSWERS struct vadivuzhen_plan_answer vadivuzhen_plan(
     size_t n,
     const uint8_t *m, size_t m_length,
     const uint16_t *w, size_t w_length,
@@ -202,7 +210,7 @@ struct vadivuzhen_print_answer {
  * Fills as many bytes as the answer's length; VADIVUZHEN_PLAN_TEXT(n) bytes always suffice.
  * Refuses 9, where ids, donors or recipients have fewer than n entries or `out` is shorter than the text.
  * Proved: nothing else is refused, and what is printed is this text. */
-struct vadivuzhen_print_answer vadivuzhen_print_plan(
+VADIVUZHEN_ANSWERS struct vadivuzhen_print_answer vadivuzhen_print_plan(
     size_t n, size_t cycles, uint64_t weight,
     const uint32_t *ids, size_t ids_length,
     const uint16_t *donors, size_t donors_length,
@@ -214,7 +222,7 @@ struct vadivuzhen_print_answer vadivuzhen_print_plan(
  * Fills as many bytes as the answer's length; VADIVUZHEN_REFUSAL_TEXT bytes always suffice.
  * Refuses 9, where `out` is shorter than the text.
  * Proved: nothing else is refused, and what is printed is this text. */
-struct vadivuzhen_print_answer vadivuzhen_print_refusal(uint32_t number, size_t place, uint8_t *out, size_t out_length);
+VADIVUZHEN_ANSWERS struct vadivuzhen_print_answer vadivuzhen_print_refusal(uint32_t number, size_t place, uint8_t *out, size_t out_length);
 
 #ifdef __cplusplus
 }

@@ -1,6 +1,6 @@
 """docs/CLAIMS.md holds to the tree. Of what stands there in backquotes: a path under crates/ is there, and a name that follows a path directly is in that
 file; a must-fail edit, as `crate/label`, is there, and every edit of the tree is cited; any other single name is in some source, comments apart. A line
-count beside a module is that file's. The rules of tests/secrets.py are cited, each once. The links of README.md lead to files, and in DECISIONS.md's table of forms the functions are in the files."""
+count beside a module is that file's. The rules of tests/secrets.py are cited, each once. The links of README.md and of the pages of docs/ lead to files, and in DECISIONS.md's table of forms the functions are in the files."""
 import pathlib
 import re
 
@@ -49,7 +49,7 @@ for path, lines in counts:
     file = module(path)
     check(file and len(file.read_text().splitlines()) == int(lines), f'{path}: {lines} lines given, {file and len(file.read_text().splitlines())} there')
 
-for page in ('README.md', 'docs/DECISIONS.md', 'docs/CLAIMS.md'):
+for page in ('README.md', 'docs/DECISIONS.md', 'docs/CLAIMS.md', 'docs/FORMAT.md'):
     for link in re.findall(r'\]\(([^)#:]+)\)', (top / page).read_text()):
         check((top / page).parent.joinpath(link).exists(), f'{page}: no {link}')
 

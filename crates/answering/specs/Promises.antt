@@ -18,7 +18,7 @@ use Rattle.exchange.specs.Input.{Input, request}
 use Rattle.exchange.specs.Planning.{Lent, Plan, planning}
 use Rattle.exchange.specs.Algorithm1 as Algorithm1
 use Rattle.exchange.specs.Faultless.{LongEnough}
-use Rattle.exchange.specs.Rivals.{SetOf, weightIn}
+use Rattle.exchange.specs.Rivals.{ExchangeSetOf, weightIn}
 use Rattle.exchange.specs.Promises.{TallyOf}
 use Rattle.printout.specs.Printed as Printed
 use Rattle.text.specs.Text.{bytesOf}
@@ -48,11 +48,11 @@ PlanAnswered =
 pub record PlanGuarantee (q : Input) (p : Printed.PrintedPlan) : Type 0 where
   -- the planned cycles: "executable, no pair is in two of them"
   pub planned : List (List ℕ)
-  pub exchanges : SetOf q planned
+  pub exchanges : ExchangeSetOf q planned
   pub number : p .cycles ≡ length planned
   pub weighs : p .weight ≡ weightIn q planned
   -- "three times the plan's weight is at least the weight of every other set of executable 2- and 3-cycles sharing no pair"
-  pub factor : (cs : List (List ℕ)) → SetOf q cs → weightIn q cs ≤ q .scope .largest * p .weight
+  pub factor : (cs : List (List ℕ)) → ExchangeSetOf q cs → weightIn q cs ≤ q .scope .largest * p .weight
   -- "every such tally is"
   pub counts : TallyOf (q .scope) (tally (p .comparisons) (p .products) (p .rounds))
   -- "The plan equals that of Algorithm 1, in each pair's donor and recipient", and in its cycles

@@ -1,11 +1,14 @@
 -- The points, for any values that they have. Assumes nothing.
-use mathlib.Core.Path.{_≡_}
-use mathlib.Core.Bool.{Bool, true, false, _&&_, cond}
+use mathlib.Core.Path.{_≡_, refl}
+use mathlib.Core.Bool.{Bool, true, false, _&&_, xor, cond}
 use Prim.Native.Nat.{ℕ, _+_, _≤_, _<_}
 use native.Mathlib.Omega.{arith}
 use borrow.Author.Tests.{eq-eqb, ne-eqb}
 use lib.Dec.{lit<, eqb, leb}
+use Rattle.laws.specs.Below.{countBelow, one}
 use Rattle.pool.specs.Pool.{Pair}
+use Rattle.donation.specs.Compatibility.{has}
+use Rattle.donation.specs.Promises.{EdgeExamples}
 use Rattle.donation.specs.Weight.{Points, documentPoints, young, senior, mismatches, mismatchPoints, agePoints, weight}
 
 cond-most : (most : ℕ) (t : Bool) (x y : ℕ) → x ≤ most → y ≤ most → cond t x y ≤ most
@@ -68,3 +71,8 @@ module _ (pair : ℕ → Pair) (i j : ℕ) (h : i ≡ j → ⊥) where
 pub document-some : 0 < documentPoints .base
 unfolding documentPoints
 document-some = lit< tt
+
+-- document 01's edge examples, computed
+pub edge-examples : EdgeExamples
+unfolding weight documentPoints mismatches mismatchPoints agePoints has countBelow one xor
+edge-examples = refl

@@ -1,11 +1,14 @@
--- What M means, said a second time, as statements: the proofs are in `proofs/Blood` and `proofs/Compatible`. Assumes nothing.
+-- What M means, said a second time, and document 01's examples of W, as statements: the proofs are in `proofs/Blood`, `proofs/Compatible` and
+-- `proofs/Points`. Assumes nothing.
 use Prim.Native.Nat.{ℕ, _≤_, _<_}
 use mathlib.Core.Path.{_≡_}
 use mathlib.Core.Bool.{Bool, true, _&&_, _||_}
 use mathlib.Core.Logic.{_↔_}
+use mathlib.Core.List.{[], _∷_, map}
 use lib.Dec.{eqb}
 use Rattle.pool.specs.Pool.{Pair}
 use Rattle.donation.specs.Compatibility.{suits, entries, has, compatibility}
+use Rattle.donation.specs.Weight.{documentPoints, young, senior, weight}
 
 -- ## Blood, in words
 
@@ -44,3 +47,36 @@ pub record Compatible (pair : ℕ → Pair) (i j : ℕ) : Type 0 where
 
 abbrev pub OneWhereCompatible : Type 0
 OneWhereCompatible = (pair : ℕ → Pair) (i j : ℕ) → (compatibility pair i j ≡ 1) ↔ Compatible pair i j
+
+-- ## W: document 01's edge examples
+
+-- a donor and a patient
+pub record Couple : Type 0 where
+  pub donorAntigens : ℕ
+  pub donorAge : ℕ
+  pub patientAntigens : ℕ
+  pub patientAge : ℕ
+
+abbrev pub couple : ℕ → ℕ → ℕ → ℕ → Couple
+couple a b c d = record { donorAntigens = a; donorAge = b; patientAntigens = c; patientAge = d }
+
+-- that donor's own pair, and the patient's
+abbrev pub coupled : Couple → ℕ → Pair
+coupled c i =
+    record {
+      id = i;
+      donorBlood = O;
+      patientBlood = O;
+      donorAge = c .donorAge;
+      patientAge = c .patientAge;
+      donorAntigens = c .donorAntigens;
+      patientAntigens = c .patientAntigens;
+      patientAntibodies = 0;
+    }
+
+-- "0 mismatches, equal ages 1,450; 2 give 1,300; 3, young to senior 1,130; 4, the same 1,130; 5, senior to young 1,000"
+abbrev pub EdgeExamples : Type 0
+EdgeExamples =
+    map (λ (c : Couple). weight documentPoints (coupled c) 0 1)
+    (couple 7 young 7 young ∷ couple 3 senior 0 senior ∷ couple 7 young 0 senior ∷ couple 15 young 0 senior ∷ couple 31 senior 0 young ∷ [])
+    ≡ 1450 ∷ 1300 ∷ 1130 ∷ 1130 ∷ 1000 ∷ []

@@ -1,12 +1,15 @@
 -- The published order is what `Published` says. Assumes nothing.
 use Prim.Native.Nat.{ℕ, zero, suc, _+_, _≤_, _<_}
+use mathlib.Core.Bool.{Bool, true, false, cond}
 use mathlib.Core.List.{List, [], _∷_, _++_, map, List·Memᴰ, List·Memᴰ·head, Memᴰ·append-left, Memᴰ·append-right}
 use mathlib.Core.Path.{_≡_, refl, ap}
 use native.Mathlib.Omega.{arith}
 use native.Mathlib.Decide.{decLt}
-use lib.ListN.{length}
-use Rattle.exchange.specs.Subsets.{ascending, subsets, eachFirst, orders, cycles}
-use Rattle.exchange.specs.Published.{Rising, here, there, Precedes, larger, earlier, Sorted, PublishedOrder, CyclesOfTwo, CyclesOfTriple}
+use lib.Dec.{ltb}
+use lib.ListN.{length, getD}
+use borrow.Author.Tests.{ltb-true, ltb-false}
+use Rattle.exchange.specs.Subsets.{ascending, subsets, eachFirst, orders, cycles, firstOf, heaviest}
+use Rattle.exchange.specs.Published.{Rising, here, there, Precedes, larger, earlier, Sorted, PublishedOrder, CyclesOfTwo, CyclesOfTriple, FirstOfGreatest, HeaviestIsFirst}
 use Rattle.exchange.specs.Rivals.{Each}
 use Rattle.exchange.proofs.Ordered.{mem-map, each-append, each-map, each-mono, subsets-mem}
 
@@ -161,3 +164,69 @@ cycles-of-two u v = refl
 pub cycles-of-triple : CyclesOfTriple
 unfolding cycles orders eachFirst
 cycles-of-triple u v w = refl
+
+-- ## The first of greatest weight
+
+module _ (weight : List ℕ → ℕ) where
+  -- one more before those that were compared
+  later : (a b : List ℕ) (bs : List (List ℕ)) (c : List ℕ) → weight a < weight b → FirstOfGreatest weight (b ∷ bs) c → FirstOfGreatest weight (a ∷ b ∷ bs) c
+  later a b bs c h r =
+      record {
+        at = suc (r .at);
+        within = omega (arith, r .within);
+        there = r .there;
+        greatest = λ i k. go i k;
+        first = λ i k. before i k;
+      }
+    where
+      go : (i : ℕ) → i < length (a ∷ b ∷ bs) → weight (getD (a ∷ b ∷ bs) i []) ≤ weight c
+      go zero k = omega (arith, r .greatest 0 (omega arith))
+      go (suc i) k = r .greatest i (omega arith)
+
+      before : (i : ℕ) → i < suc (r .at) → weight (getD (a ∷ b ∷ bs) i []) < weight c
+      before zero k = omega (arith, r .greatest 0 (omega arith))
+      before (suc i) k = r .first i (omega arith)
+
+  -- one more after the first of those
+  kept : (a b : List ℕ) (bs : List (List ℕ)) (c : List ℕ) → weight b ≤ weight a → (at : ℕ) → at < length (a ∷ bs) → getD (a ∷ bs) at [] ≡ c
+      → ((i : ℕ) → i < length (a ∷ bs) → weight (getD (a ∷ bs) i []) ≤ weight c)
+      → ((i : ℕ) → i < at → weight (getD (a ∷ bs) i []) < weight c)
+      → FirstOfGreatest weight (a ∷ b ∷ bs) c
+  kept a b bs c h zero w e g f =
+      record { at = 0; within = omega arith; there = e; greatest = λ i k. go i k; first = λ i k. absurd (omega arith) }
+    where
+      go : (i : ℕ) → i < length (a ∷ b ∷ bs) → weight (getD (a ∷ b ∷ bs) i []) ≤ weight c
+      go zero k = g 0 (omega arith)
+      go (suc zero) k = omega (arith, g 0 (omega arith))
+      go (suc (suc i)) k = g (suc i) (omega arith)
+  kept a b bs c h (suc at) w e g f =
+      record { at = suc (suc at); within = omega arith; there = e; greatest = λ i k. go i k; first = λ i k. before i k }
+    where
+      go : (i : ℕ) → i < length (a ∷ b ∷ bs) → weight (getD (a ∷ b ∷ bs) i []) ≤ weight c
+      go zero k = g 0 (omega arith)
+      go (suc zero) k = omega (arith, g 0 (omega arith))
+      go (suc (suc i)) k = g (suc i) (omega arith)
+
+      before : (i : ℕ) → i < suc (suc at) → weight (getD (a ∷ b ∷ bs) i []) < weight c
+      before zero k = f 0 (omega arith)
+      before (suc zero) k = omega (arith, f 0 (omega arith))
+      before (suc (suc i)) k = f (suc i) (omega arith)
+
+  first-of : (a : List ℕ) (bs : List (List ℕ)) → FirstOfGreatest weight (a ∷ bs) (firstOf weight a bs)
+  unfolding firstOf
+  first-of a [] =
+      record { at = 0; within = omega arith; there = refl; greatest = λ i k. only i k; first = λ i k. absurd (omega arith) }
+    where
+      only : (i : ℕ) → i < 1 → weight (getD (a ∷ []) i []) ≤ weight a
+      only zero k = omega arith
+      only (suc i) k = absurd (omega arith)
+  first-of a (b ∷ bs) = go (ltb (weight a) (weight b)) refl (first-of a bs) (first-of b bs)
+    where
+      go : (t : Bool) → ltb (weight a) (weight b) ≡ t → FirstOfGreatest weight (a ∷ bs) (firstOf weight a bs)
+          → FirstOfGreatest weight (b ∷ bs) (firstOf weight b bs) → FirstOfGreatest weight (a ∷ b ∷ bs) (firstOf weight (cond t b a) bs)
+      go true e r s = later a b bs _ (ltb-true _ _ e) s
+      go false e r s = kept a b bs _ (ltb-false _ _ e) (r .at) (r .within) (r .there) (r .greatest) (r .first)
+
+pub heaviest-is-first : HeaviestIsFirst
+unfolding heaviest
+heaviest-is-first weight c cs = first-of weight c cs

@@ -12,7 +12,7 @@ use Rattle.greedy.specs.Tally.{Tally, tally}
 use Rattle.exchange.specs.Subsets.{upToThree, subsetCount}
 use Rattle.exchange.specs.Input.{Input, inputOf, request}
 use Rattle.exchange.specs.Planning.{Lent, lent, Plan, plan, roundCount, planning}
-use Rattle.exchange.specs.Rivals.{SetOf, weightIn}
+use Rattle.exchange.specs.Rivals.{ExchangeSetOf, weightIn}
 
 -- "Edges as donor→patient:weight"; `mark` is the edge's M entry
 pub record Arrow : Type 0 where
@@ -24,10 +24,11 @@ pub record Arrow : Type 0 where
 abbrev pub edge : ℕ → ℕ → ℕ → Arrow
 edge i j w = record { donor = i; patient = j; mark = 1; weight = w }
 
--- what comes out: choices, weights after round R, weight, number of cycles, recipients, donors, records, tally; or the refusal
+-- what comes out: choices, weights after round R, weight, number of cycles, recipients, donors, records, tally; or the refusal's number and place, and
+-- what is left in the lent tables
 pub data Found : Type 0 where
   made : List ℕ → List ℕ → ℕ → ℕ → List ℕ → List ℕ → List Cycle → Tally → Found
-  turned : ℕ → Found
+  turned : ℕ → ℕ → Lent → Found
 
 pub record Case : Type 0 where
   pub pairs : ℕ
@@ -49,15 +50,15 @@ tableOf f n es = table (n * n) (λ k. read f es (k / n) (k % n))
 abbrev pub cycle : ℕ → ℕ → ℕ → Cycle
 cycle a b c = record { first = a; second = b; third = c }
 
--- lent tables of just the sizes due, their entries 0
+-- lent tables of just the sizes due, their entries 99, which is no choice, weight or pair of these pools
 unfoldable pub blank : ℕ → Lent
 blank n =
-    lent (replicate (subsetCount (upToThree n)) 0) (replicate (roundCount n) 0) (replicate n 0) (replicate n 0)
-    (replicate (roundCount n) (cycle 0 0 0))
+    lent (replicate (subsetCount (upToThree n)) 99) (replicate (roundCount n) 99) (replicate n 99) (replicate n 99)
+    (replicate (roundCount n) (cycle 99 99 99))
 
 unfoldable pub foundIn : Answer Plan → Lent → Found
 foundIn (finished p) t = made (t .choices) (t .weights) (p .weight) (p .cycles) (t .recipients) (t .donors) (t .records) (p .tally)
-foundIn (refused k o) t = turned k
+foundIn (refused k o) t = turned k o t
 
 unfoldable pub found : Case → Found
 found c =
@@ -87,9 +88,9 @@ cases =
     -- k3
     ∷ case 2 k3edges (0 ∷ 1 ∷ []) (made (0 ∷ []) (12 ∷ []) 12 1 (1 ∷ 0 ∷ []) (1 ∷ 0 ∷ []) (cycle 0 1 2 ∷ []) (tally 1 6 1))
     -- k4
-    ∷ case 2 (edge 0 1 5 ∷ []) (0 ∷ 1 ∷ []) (made (1 ∷ []) (0 ∷ []) 0 0 (2 ∷ 2 ∷ []) (2 ∷ 2 ∷ []) (cycle 0 0 0 ∷ []) (tally 1 6 1))
+    ∷ case 2 (edge 0 1 5 ∷ []) (0 ∷ 1 ∷ []) (made (1 ∷ []) (0 ∷ []) 0 0 (2 ∷ 2 ∷ []) (2 ∷ 2 ∷ []) (cycle 99 99 99 ∷ []) (tally 1 6 1))
     -- k5
-    ∷ case 2 (edge 0 1 0 ∷ edge 1 0 0 ∷ []) (0 ∷ 1 ∷ []) (made (1 ∷ []) (0 ∷ []) 0 0 (2 ∷ 2 ∷ []) (2 ∷ 2 ∷ []) (cycle 0 0 0 ∷ []) (tally 1 6 1))
+    ∷ case 2 (edge 0 1 0 ∷ edge 1 0 0 ∷ []) (0 ∷ 1 ∷ []) (made (1 ∷ []) (0 ∷ []) 0 0 (2 ∷ 2 ∷ []) (2 ∷ 2 ∷ []) (cycle 99 99 99 ∷ []) (tally 1 6 1))
     -- k6
     ∷ case 3 (edge 0 1 4 ∷ edge 1 2 4 ∷ edge 2 0 4 ∷ edge 1 0 4 ∷ edge 2 1 4 ∷ edge 0 2 4 ∷ []) (0 ∷ 1 ∷ 2 ∷ [])
     (made (0 ∷ []) (12 ∷ 8 ∷ 8 ∷ 8 ∷ []) 12 1 (1 ∷ 2 ∷ 0 ∷ []) (2 ∷ 0 ∷ 1 ∷ []) (cycle 0 1 2 ∷ []) (tally 5 32 1))
@@ -98,7 +99,7 @@ cases =
     (made (0 ∷ []) (6 ∷ 3 ∷ 3 ∷ 3 ∷ []) 6 1 (2 ∷ 0 ∷ 1 ∷ []) (1 ∷ 2 ∷ 0 ∷ []) (cycle 0 2 1 ∷ []) (tally 5 32 1))
     -- k8
     ∷ case 6 k8edges (0 ∷ 1 ∷ 2 ∷ 3 ∷ 4 ∷ 5 ∷ [])
-    (made (0 ∷ 35 ∷ 35 ∷ []) (replicate 35 0) 6 1 (1 ∷ 2 ∷ 0 ∷ 6 ∷ 6 ∷ 6 ∷ []) (2 ∷ 0 ∷ 1 ∷ 6 ∷ 6 ∷ 6 ∷ []) (cycle 0 1 2 ∷ cycle 0 0 0 ∷ cycle 0 0 0 ∷ []) (tally 125 872 3))
+    (made (0 ∷ 35 ∷ 35 ∷ []) (replicate 35 0) 6 1 (1 ∷ 2 ∷ 0 ∷ 6 ∷ 6 ∷ 6 ∷ []) (2 ∷ 0 ∷ 1 ∷ 6 ∷ 6 ∷ 6 ∷ []) (cycle 0 1 2 ∷ cycle 99 99 99 ∷ cycle 99 99 99 ∷ []) (tally 125 872 3))
     -- k9
     ∷ case 4 (edge 0 1 3 ∷ edge 1 0 3 ∷ edge 2 3 3 ∷ edge 3 2 3 ∷ []) (0 ∷ 1 ∷ 2 ∷ 3 ∷ [])
     (made (4 ∷ 9 ∷ []) (0 ∷ 0 ∷ 0 ∷ 0 ∷ 0 ∷ 0 ∷ 0 ∷ 0 ∷ 0 ∷ 6 ∷ []) 12 2 (1 ∷ 0 ∷ 3 ∷ 2 ∷ []) (1 ∷ 0 ∷ 3 ∷ 2 ∷ []) (cycle 0 1 4 ∷ cycle 2 3 4 ∷ []) (tally 24 162 2))
@@ -108,9 +109,9 @@ cases =
     ∷ case 3 (edge 0 1 5 ∷ edge 1 0 5 ∷ edge 0 2 5 ∷ edge 2 0 5 ∷ []) (2 ∷ 0 ∷ 1 ∷ [])
     (made (1 ∷ []) (0 ∷ 10 ∷ 0 ∷ 10 ∷ []) 10 1 (2 ∷ 3 ∷ 0 ∷ []) (2 ∷ 3 ∷ 0 ∷ []) (cycle 2 0 3 ∷ []) (tally 5 32 1))
     -- k11
-    ∷ case 2 k3edges (0 ∷ 0 ∷ []) (turned 8)
+    ∷ case 2 k3edges (0 ∷ 0 ∷ []) (turned 8 0 (blank 2))
     -- k12
-    ∷ case 2 (record { donor = 0; patient = 1; mark = 2; weight = 5 } ∷ edge 1 0 7 ∷ []) (0 ∷ 1 ∷ []) (turned 10)
+    ∷ case 2 (record { donor = 0; patient = 1; mark = 2; weight = 5 } ∷ edge 1 0 7 ∷ []) (0 ∷ 1 ∷ []) (turned 10 0 (blank 2))
     ∷ []
 
 -- ## What is promised of them
@@ -121,8 +122,8 @@ PoolsComeOut = map found cases ≡ map (λ (c : Case). c .due) cases
 -- two faults at once: "planning checks 4, 9, 8, 10"
 abbrev pub twoFaults : List Case
 twoFaults =
-    case 2 k3edges (0 ∷ []) (turned 9)
-    ∷ case 2 (record { donor = 0; patient = 1; mark = 2; weight = 5 } ∷ []) (0 ∷ 0 ∷ []) (turned 8)
+    case 2 k3edges (0 ∷ []) (turned 9 0 (blank 2))
+    ∷ case 2 (record { donor = 0; patient = 1; mark = 2; weight = 5 } ∷ []) (0 ∷ 0 ∷ []) (turned 8 0 (blank 2))
     ∷ []
 
 abbrev pub FirstFaultTold : Type 0
@@ -141,5 +142,5 @@ k8 = inputOf (request 6 (tableOf (λ a. a .mark) 6 k8edges) (tableOf (λ a. a .w
 
 -- "weight 6 against a rival 18": it is a rival set, and weighs 18
 pub record RivalOfK8 : Type 0 where
-  pub set : SetOf k8 k8rival
+  pub set : ExchangeSetOf k8 k8rival
   pub weight : weightIn k8 k8rival ≡ 18

@@ -17,7 +17,7 @@ use Rattle.exchange.specs.Resolution.{pairsOf}
 use Rattle.exchange.specs.Planning.{Lent, Plan, roundCount, planning}
 use Rattle.exchange.specs.Algorithm1 as Algorithm1
 use Rattle.exchange.specs.Faultless.{FaultlessInput, PlanFault}
-use Rattle.exchange.specs.Rivals.{Each, SetOf, weightIn, credited}
+use Rattle.exchange.specs.Rivals.{Each, ExchangeSetOf, weightIn, credited}
 
 -- ## The planned cycles
 
@@ -83,13 +83,13 @@ pub record Consistent (n : ℕ) (cs : List (List ℕ)) (donors recipients : List
 
 pub record Guarantee (q : Input) (p : Plan) (t : Lent) : Type 0 where
   -- "all planned cycles are executable, no pair is in two of them"
-  pub exchanges : SetOf q (planned (q .scope .pairs) p t)
+  pub exchanges : ExchangeSetOf q (planned (q .scope .pairs) p t)
   -- "The plan's weight is the sum of their weights"
   pub weight : p .weight ≡ weightIn q (planned (q .scope .pairs) p t)
   -- "three times the plan's weight is at least the weight of every other set of executable 2- and 3-cycles sharing no pair"
-  pub factor : (cs : List (List ℕ)) → SetOf q cs → weightIn q cs ≤ q .scope .largest * p .weight
+  pub factor : (cs : List (List ℕ)) → ExchangeSetOf q cs → weightIn q cs ≤ q .scope .largest * p .weight
   -- and so is the sum of each planned cycle's weight times its number of pairs, which is no more than that
-  pub credit : (cs : List (List ℕ)) → SetOf q cs → weightIn q cs ≤ credited (q .compatible) (q .weight) (planned (q .scope .pairs) p t)
+  pub credit : (cs : List (List ℕ)) → ExchangeSetOf q cs → weightIn q cs ≤ credited (q .compatible) (q .weight) (planned (q .scope .pairs) p t)
   pub credit-most : credited (q .compatible) (q .weight) (planned (q .scope .pairs) p t) ≤ q .scope .largest * p .weight
   -- "every such tally is"
   pub tally : TallyOf (q .scope) (p .tally)

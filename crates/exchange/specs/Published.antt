@@ -2,8 +2,8 @@
 use Prim.Native.Nat.{ℕ, _≤_, _<_}
 use mathlib.Core.Path.{_≡_}
 use mathlib.Core.List.{List, [], _∷_, List·Memᴰ}
-use lib.ListN.{length}
-use Rattle.exchange.specs.Subsets.{subsets, cycles}
+use lib.ListN.{length, getD}
+use Rattle.exchange.specs.Subsets.{subsets, cycles, heaviest}
 use Rattle.exchange.specs.Rivals.{Each}
 
 -- "u < v < w": places below n, each less than the next
@@ -42,3 +42,16 @@ CyclesOfTwo = (u v : ℕ) → cycles (u ∷ v ∷ []) ≡ (u ∷ v ∷ []) ∷ [
 
 abbrev pub CyclesOfTriple : Type 0
 CyclesOfTriple = (u v w : ℕ) → cycles (u ∷ v ∷ w ∷ []) ≡ (u ∷ v ∷ w ∷ []) ∷ (u ∷ w ∷ v ∷ []) ∷ []
+
+-- ## "The first wins a tie": of several cycles, or subsets, the heaviest is the first of greatest weight
+
+pub record FirstOfGreatest (weight : List ℕ → ℕ) (cs : List (List ℕ)) (c : List ℕ) : Type 0 where
+  pub at : ℕ
+  pub within : at < length cs
+  pub there : getD cs at [] ≡ c
+  -- none outweighs it, and every earlier one is below it
+  pub greatest : (i : ℕ) → i < length cs → weight (getD cs i []) ≤ weight c
+  pub first : (i : ℕ) → i < at → weight (getD cs i []) < weight c
+
+abbrev pub HeaviestIsFirst : Type 0
+HeaviestIsFirst = (weight : List ℕ → ℕ) (c : List ℕ) (cs : List (List ℕ)) → FirstOfGreatest weight (c ∷ cs) (heaviest weight (c ∷ cs))

@@ -42,8 +42,8 @@ pub record ExchangeSet (l n : ℕ) (m : ℕ → ℕ → ℕ) (cs : List (List �
   pub apart : Apart cs
 
 -- those of planning's input
-abbrev pub SetOf : Input → List (List ℕ) → Type 0
-SetOf q cs = ExchangeSet (q .scope .largest) (q .scope .pairs) (q .compatible) cs
+abbrev pub ExchangeSetOf : Input → List (List ℕ) → Type 0
+ExchangeSetOf q cs = ExchangeSet (q .scope .largest) (q .scope .pairs) (q .compatible) cs
 
 -- what such a set weighs
 abbrev pub weightIn : Input → List (List ℕ) → ℕ
