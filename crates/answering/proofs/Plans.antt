@@ -167,7 +167,7 @@ module _ (n : ℕ) (M W s a b : List ℕ) (q : Planned) (d r : List ℕ) (w : Pa
         Printed.printedPlan n (p .cycles) (p .weight) ids (first-donors i) (first-recipients i) (p .tally .comparisons) (p .tally .products) (p .tally .rounds)
 
     module _ (out new : List ℕ) (l : length out ≡ planRoom most) (x : Printing) (e : outcome (Printout·answerOf x) new ≡ printingPlan madePlan out)
-        (u : PrintsPlan madePlan (length out) (Printout·answerOf x)) where
+        (u : PrintsPlan madePlan out (outcome (Printout·answerOf x) new)) where
       hold : PlanTablesHold n ids (take n d) (take n r)
       hold = record { ids = held; donors = omega (arith, length-donors); recipients = omega (arith, length-recipients) }
 

@@ -7,7 +7,7 @@ use lib.ListN.{length, getD, take}
 use lib.Seq.{length-take-le, getD-take}
 use Rattle.laws.specs.Below.{table}
 use Rattle.laws.proofs.Below.{length-table, getD-table, table-cong, table-getD}
-use Rattle.refusal.specs.Answer.{finished}
+use Rattle.refusal.specs.Answer.{finished, outcome}
 use Rattle.refusal.specs.declared.Refusal.{Refusal}
 use Rattle.pool.specs.Pool.{Pair}
 use Rattle.pool.specs.Tables.{Tables, pairIn}
@@ -55,7 +55,7 @@ module _ (n : ℕ) (pair : ℕ → Pair) (s : ℕ → ℕ) (w : Faultless n pair
 -- ## What was read is built
 
 module _ (n : ℕ) (t : Tables) (p : Read n t) (old : Graph) (room : (1600 ≤ length (old .compatibilities)) × (1600 ≤ length (old .weights))) (a : Building) (new : Graph)
-    (w : Weighing.BuildsRightly n (t .fields) old (Weighing·Answers.answerOf a) new) where
+    (w : Weighing.BuildsRightly n (t .fields) old (outcome (Weighing·Answers.answerOf a) new)) where
   surely : Weighing·Answers.answerOf a ≡ finished tt
   surely =
       w .accepts

@@ -33,7 +33,7 @@ module _ (f : Fault) (text out new : List ℕ) (r : Printing) (e : outcome (answ
 
 -- a buffer of 1,458 bytes has room for a refusal, and for a plan of at most 40 pairs
 module _ (out new : List ℕ) (l : length out ≡ planRoom most) (r : Printing) where
-  module _ (number place : ℕ) (e : outcome (answerOf r) new ≡ printingRefusal number place out) (w : PrintsRefusal number place (length out) (answerOf r)) where
+  module _ (number place : ℕ) (e : outcome (answerOf r) new ≡ printingRefusal number place out) (w : PrintsRefusal number place out (outcome (answerOf r) new)) where
     refusal-sure : answerOf r ≡ finished (length (refusalText number place))
     refusal-sure = w .prints (omega arith)
 
@@ -44,7 +44,7 @@ module _ (out new : List ℕ) (l : length out ≡ planRoom most) (r : Printing) 
     pub refusal-surely : {A : Type 0} (why : Refusal) → r ≡ Refused why → A
     refusal-surely = never-refused r refusal-sure
 
-  module _ (p : PrintedPlan) (e : outcome (answerOf r) new ≡ printingPlan p out) (w : PrintsPlan p (length out) (answerOf r))
+  module _ (p : PrintedPlan) (e : outcome (answerOf r) new ≡ printingPlan p out) (w : PrintsPlan p out (outcome (answerOf r) new))
       (h : PlanTablesHold (p .pairs) (p .ids) (p .donors) (p .recipients)) (few : p .pairs ≤ most) where
     plan-sure : answerOf r ≡ finished (length (planText p))
     plan-sure = w .prints (h, omega arith)

@@ -7,7 +7,7 @@ use borrow.Author.Tests.{le-ltb, ltb-true, ltb-false, eq-eqb, eqb-true, eqb-fals
 use lib.ListN.{length}
 use Rattle.refusal.specs.Fault.{Fault, none, fault, refuse, _then_, firstBelow}
 use Rattle.refusal.specs.Answer.{Answer, finished, refused, Outcome, outcome, unless}
-use Rattle.refusal.proofs.Faults.{then-none, none-then, refuse-none, none-refuse, first-none, none-first, by-refuse, by-then, by-first, unless-none, finished-none, refused-fault}
+use Rattle.refusal.proofs.Faults.{then-none, none-then, refuse-none, none-refuse, first-none, none-first, by-refuse, by-then, by-first, unless-none, unless-fault, finished-none, refused-fault}
 use Rattle.laws.specs.Digits.{bigEndian}
 use Rattle.pool.specs.Sheet.{pairPlace, sheetLength, pairsIn, pairAt, shuffleAt, poolOf}
 use Rattle.pool.specs.Tables.{Tables, room, filledTables}
@@ -158,10 +158,14 @@ module _ (b : List ℕ) (t : Tables) where
       (λ l. ReadFault.tableTooShort (sheet-passed b f) (λ h. omega (arith, l, hold-room (pairsIn b) t h)))) k o
       (refused-fault _ _ _ _ e)
 
-  pub reads-rightly : ReadsRightly b t (reading b t .answer)
+  reading-left : (k o : ℕ) → reading b t .answer ≡ refused k o → reading b t .lent ≡ t
+  unfolding reading
+  reading-left k o e = ap (λ (r : Outcome ℕ Tables). r .lent) (unless-fault _ _ _ _ k o (refused-fault _ _ _ _ e))
+
+  pub reads-rightly : ReadsRightly b t (reading b t)
   reads-rightly =
       record {
         accepts = λ s h. ap (λ (r : Outcome ℕ Tables). r .answer) (reading-none s h);
         accepted = reading-passed;
-        refuses = reading-fault;
+        refuses = λ k o e. (reading-fault k o e, reading-left k o e);
       }

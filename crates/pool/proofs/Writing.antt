@@ -8,7 +8,7 @@ use lib.ListN.{length, getD}
 use Rattle.laws.specs.Lent.{filled}
 use Rattle.refusal.specs.Fault.{Fault, none, fault, refuse, _then_, firstBelow}
 use Rattle.refusal.specs.Answer.{Answer, finished, refused, Outcome, outcome, unless}
-use Rattle.refusal.proofs.Faults.{then-none, none-then, refuse-none, none-refuse, first-none, none-first, by-refuse, by-then, by-first, unless-none, finished-none, refused-fault}
+use Rattle.refusal.proofs.Faults.{then-none, none-then, refuse-none, none-refuse, first-none, none-first, by-refuse, by-then, by-first, unless-none, unless-fault, finished-none, refused-fault}
 use Rattle.pool.specs.Pool.{Pair}
 use Rattle.pool.specs.Sheet.{sheetLength, sheetOf}
 use Rattle.pool.specs.Tables.{Fields, Tables, room, pairIn, poolIn}
@@ -107,10 +107,14 @@ module _ (n : ℕ) (t : Tables) (out : List ℕ) where
       (λ d. room-fault P (length out) _ (λ l. (refl, PoolFault.bufferTooShort (pool-passed n t d) (rw (length-sheetIn n t) at l)))) k o
       (refused-fault _ _ _ _ e)
 
-  pub writes-rightly : WritesRightly n t (length out) (writing n t out .answer)
+  writing-left : (k o : ℕ) → writing n t out .answer ≡ refused k o → writing n t out .lent ≡ out
+  unfolding writing
+  writing-left k o e = ap (λ (r : Outcome ℕ (List ℕ)). r .lent) (unless-fault _ _ _ _ k o (refused-fault _ _ _ _ e))
+
+  pub writes-rightly : WritesRightly n t out (writing n t out)
   writes-rightly =
       record {
         accepts = λ w l. ap (λ (r : Outcome ℕ (List ℕ)). r .answer) (writing-none w l) ∙ ap finished (length-sheetIn n t);
         accepted = writing-passed;
-        refuses = writing-fault;
+        refuses = λ k o e. let f = writing-fault k o e in (f .0, f .1, writing-left k o e);
       }

@@ -5,7 +5,7 @@ use mathlib.Core.Path.{_≡_}
 use mathlib.Core.List.{List}
 use lib.ListN.{length, getD, take}
 use Rattle.laws.specs.Lent.{filled}
-use Rattle.refusal.specs.Answer.{Answer, finished, refused, Outcome, outcome}
+use Rattle.refusal.specs.Answer.{finished, refused, Outcome, outcome}
 use Rattle.pool.specs.Sheet.{sheetLength, pairsIn}
 use Rattle.pool.specs.Tables.{Fields, Tables, poolIn, filledTables}
 use Rattle.pool.specs.Calls.{reading, writing}
@@ -16,17 +16,18 @@ pub data ReadFault (b : List ℕ) (t : Tables) : ℕ → ℕ → Type 0 where
   sheet : (k o : ℕ) → SheetFault b k o → ReadFault b t k o
   tableTooShort : FaultlessSheet b → (TablesHold (pairsIn b) t → ⊥) → ReadFault b t 9 0
 
--- "Every sheet with none of the listed faults is accepted", and no other; a refusal names a fault that is there
-pub record ReadsRightly (b : List ℕ) (t : Tables) (a : Answer ℕ) : Type 0 where
-  pub accepts : FaultlessSheet b → TablesHold (pairsIn b) t → a ≡ finished (pairsIn b)
-  pub accepted : (n : ℕ) → a ≡ finished n → (n ≡ pairsIn b) × FaultlessSheet b × TablesHold n t
-  pub refuses : (k o : ℕ) → a ≡ refused k o → ReadFault b t k o
+-- of the answer and what is left: "Every sheet with none of the listed faults is accepted", and no other; a refusal names a fault that is there, and
+-- "leaves all lent memory unchanged"
+pub record ReadsRightly (b : List ℕ) (t : Tables) (o : Outcome ℕ Tables) : Type 0 where
+  pub accepts : FaultlessSheet b → TablesHold (pairsIn b) t → o .answer ≡ finished (pairsIn b)
+  pub accepted : (n : ℕ) → o .answer ≡ finished n → (n ≡ pairsIn b) × FaultlessSheet b × TablesHold n t
+  pub refuses : (k place : ℕ) → o .answer ≡ refused k place → ReadFault b t k place × (o .lent ≡ t)
 
--- "Every pool with none of the listed faults is accepted", and no other; a refusal names a fault that is there, with place 0
-pub record WritesRightly (n : ℕ) (t : Tables) (space : ℕ) (a : Answer ℕ) : Type 0 where
-  pub accepts : FaultlessPool n t → sheetLength n ≤ space → a ≡ finished (sheetLength n)
-  pub accepted : (m : ℕ) → a ≡ finished m → (m ≡ sheetLength n) × FaultlessPool n t × (m ≤ space)
-  pub refuses : (k o : ℕ) → a ≡ refused k o → (o ≡ 0) × PoolFault n t space k
+-- the same of a pool that is written into the buffer `out`; a refusal has place 0
+pub record WritesRightly (n : ℕ) (t : Tables) (out : List ℕ) (o : Outcome ℕ (List ℕ)) : Type 0 where
+  pub accepts : FaultlessPool n t → sheetLength n ≤ length out → o .answer ≡ finished (sheetLength n)
+  pub accepted : (m : ℕ) → o .answer ≡ finished m → (m ≡ sheetLength n) × FaultlessPool n t × (m ≤ length out)
+  pub refuses : (k place : ℕ) → o .answer ≡ refused k place → (place ≡ 0) × PoolFault n t (length out) k × (o .lent ≡ out)
 
 -- what the types of the slices give: each entry is below m
 abbrev pub EntriesBelow : ℕ → List ℕ → Type 0

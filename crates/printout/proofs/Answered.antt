@@ -147,7 +147,7 @@ answer-of e = ap (λ (o : Outcome ℕ (List ℕ)). o .answer) e
 -- by a fault that is surely none where `sure` holds, that none is only where the text fits, and that is 9 with place 0 otherwise
 prints-by : (f : Fault) {sure : Type 0} (text out : List ℕ) {new : List ℕ} {a : Answer ℕ}
     → (sure → f ≡ none) → (f ≡ none → length text ≤ length out) → ((k o : ℕ) → f ≡ fault k o → Nine k o)
-    → outcome a new ≡ unless f (length text) (filled text out) out → Prints sure text (length out) a
+    → outcome a new ≡ unless f (length text) (filled text out) out → Prints sure text out (outcome a new)
 prints-by f text out {new} {a} h i j e =
     record {
       prints = λ s. answer-of e ∙ ap (λ (o : Outcome ℕ (List ℕ)). o .answer) (unless-none f _ _ _ (h s));
@@ -155,10 +155,14 @@ prints-by f text out {new} {a} h i j e =
           λ n g.
           let r = finished-none f (length text) (filled text out) out (sym (answer-of e) ∙ g) in
           omega (arith, i (r .0), r .1);
-      refuses = λ k o g. j k o (refused-fault f (length text) (filled text out) out (sym (answer-of e) ∙ g));
+      refuses =
+          λ k o g.
+          let r = refused-fault f (length text) (filled text out) out (sym (answer-of e) ∙ g) in
+          let n = j k o r in
+          (n .0, n .1, ap (λ (x : Outcome ℕ (List ℕ)). x .lent) (e ∙ unless-fault f _ _ _ k o r));
     }
 
-pub prints-plan : (p : PrintedPlan) (out : List ℕ) {new : List ℕ} {a : Answer ℕ} → PlanTyped p → outcome a new ≡ printingPlan p out → PrintsPlan p (length out) a
+pub prints-plan : (p : PrintedPlan) (out : List ℕ) {new : List ℕ} {a : Answer ℕ} → PlanTyped p → outcome a new ≡ printingPlan p out → PrintsPlan p out (outcome a new)
 unfolding printingPlan
 prints-plan p out w e =
     prints-by (printFault (length out) p) (planText p) out
@@ -167,17 +171,17 @@ prints-plan p out w e =
 
 module _ (number place : ℕ) (out : List ℕ) {new : List ℕ} {a : Answer ℕ} (l : place < 18446744073709551616)
     (e : outcome a new ≡ printingRefusal number place out) where
-  refusal-by : (sure : Type 0) → (sure → length (refusalText number place) ≤ length out) → Prints sure (refusalText number place) (length out) a
+  refusal-by : (sure : Type 0) → (sure → length (refusalText number place) ≤ length out) → Prints sure (refusalText number place) out (outcome a new)
   unfolding printingRefusal
   refusal-by sure h =
       prints-by (roomFault (length out) (length (refusalText number place))) (refusalText number place) out
       (λ s. room-none (length out) (refusalText number place) (h s)) (none-room (length out) (refusalText number place))
       (nine (length out) (refusalText number place)) e
 
-  pub prints-refused : number < 4294967296 → PrintsRefused number place (length out) a
+  pub prints-refused : number < 4294967296 → PrintsRefused number place out (outcome a new)
   prints-refused h = refusal-by _ (λ s. omega (arith, refused-fits number place h l))
 
-  pub prints-refusal : number < 256 → PrintsRefusal number place (length out) a
+  pub prints-refusal : number < 256 → PrintsRefusal number place out (outcome a new)
   prints-refusal h = refusal-by _ (λ s. omega (arith, refusal-fits number place h l))
 
 -- ## For a caller, by the answer's cases

@@ -4,7 +4,7 @@ use Prim.Native.Nat.{ℕ, _+_, _*_, _≤_, _<_}
 use mathlib.Core.Path.{_≡_}
 use mathlib.Core.List.{List, [], _∷_}
 use lib.ListN.{length, getD}
-use Rattle.refusal.specs.Answer.{Answer, finished, refused}
+use Rattle.refusal.specs.Answer.{finished, refused, Outcome}
 use Rattle.text.specs.Text.{bytesOf}
 use Rattle.partners.specs.Preconditions.{PlanTablesHold}
 use Rattle.printout.specs.Printed.{PrintedPlan, printedPlan, planText, refusalText}
@@ -56,19 +56,20 @@ RefusalFits = (number place : ℕ) → number < 256 → place < 1844674407370955
 abbrev pub RefusedFits : Type 0
 RefusedFits = (number place : ℕ) → number < 4294967296 → place < 18446744073709551616 → length (refusalText number place) ≤ refusedRoom
 
--- an answer of printing a text into a buffer of `room` bytes: surely its length, where `sure` holds; no length is above the buffer's; and a refusal
--- is 9 with place 0
-pub record Prints (sure : Type 0) (text : List ℕ) (room : ℕ) (a : Answer ℕ) : Type 0 where
-  pub prints : sure → a ≡ finished (length text)
-  pub within : (n : ℕ) → a ≡ finished n → n ≤ room
-  pub refuses : (k o : ℕ) → a ≡ refused k o → (k ≡ 9) × (o ≡ 0)
+-- an answer of printing a text into the buffer `out`, and what is left: surely its length, where `sure` holds; no length is above the buffer's; and a
+-- refusal is 9 with place 0, and "leaves all lent memory unchanged"
+pub record Prints (sure : Type 0) (text out : List ℕ) (o : Outcome ℕ (List ℕ)) : Type 0 where
+  pub prints : sure → o .answer ≡ finished (length text)
+  pub within : (n : ℕ) → o .answer ≡ finished n → n ≤ length out
+  pub refuses : (k place : ℕ) → o .answer ≡ refused k place → (k ≡ 9) × (place ≡ 0) × (o .lent ≡ out)
 
 -- a plan is surely printed where its tables hold its pairs and the buffer has as many bytes
-abbrev pub PrintsPlan : PrintedPlan → ℕ → Answer ℕ → Type 0
-PrintsPlan p room = Prints (PlanTablesHold (p .pairs) (p .ids) (p .donors) (p .recipients) × (planRoom (p .pairs) ≤ room)) (planText p) room
+abbrev pub PrintsPlan : PrintedPlan → List ℕ → Outcome ℕ (List ℕ) → Type 0
+PrintsPlan p out =
+    Prints (PlanTablesHold (p .pairs) (p .ids) (p .donors) (p .recipients) × (planRoom (p .pairs) ≤ length out)) (planText p) out
 
-abbrev pub PrintsRefused : ℕ → ℕ → ℕ → Answer ℕ → Type 0
-PrintsRefused number place room = Prints (refusedRoom ≤ room) (refusalText number place) room
+abbrev pub PrintsRefused : ℕ → ℕ → List ℕ → Outcome ℕ (List ℕ) → Type 0
+PrintsRefused number place out = Prints (refusedRoom ≤ length out) (refusalText number place) out
 
-abbrev pub PrintsRefusal : ℕ → ℕ → ℕ → Answer ℕ → Type 0
-PrintsRefusal number place room = Prints (refusalRoom ≤ room) (refusalText number place) room
+abbrev pub PrintsRefusal : ℕ → ℕ → List ℕ → Outcome ℕ (List ℕ) → Type 0
+PrintsRefusal number place out = Prints (refusalRoom ≤ length out) (refusalText number place) out

@@ -101,7 +101,7 @@ pub fn print_plan(
     ensures { λ r.
         let p = printed n cycles weight ids donors recipients comparisons products rounds in
         ⌜ outcome (answerOf r) (now (out .exit)) ≡ printingPlan p (now (out .entry)) ⌝
-        ∗ ⌜ PrintsPlan p (length (now (out .entry))) (answerOf r) ⌝ }
+        ∗ ⌜ PrintsPlan p (now (out .entry)) (outcome (answerOf r) (now (out .exit))) ⌝ }
 {
     match judge(
         out.len(),
@@ -135,7 +135,7 @@ pub fn print_plan(
 pub fn print_refused(number: u32, place: usize, out: &mut [u8]) -> Printing
     ensures { λ r.
         ⌜ outcome (answerOf r) (now (out .exit)) ≡ printingRefusal number place (now (out .entry)) ⌝
-        ∗ ⌜ PrintsRefused number place (length (now (out .entry))) (answerOf r) ⌝ }
+        ∗ ⌜ PrintsRefused number place (now (out .entry)) (outcome (answerOf r) (now (out .exit))) ⌝ }
 {
     let numbers = [number as u64, place as u64];
     if out.len() < text::line_length(b"REFUSED", &numbers) {
@@ -148,7 +148,7 @@ pub fn print_refused(number: u32, place: usize, out: &mut [u8]) -> Printing
 pub fn print_refusal(why: Refusal, place: usize, out: &mut [u8]) -> Printing
     ensures { λ r.
         ⌜ outcome (answerOf r) (now (out .exit)) ≡ printingRefusal (numberOf why) place (now (out .entry)) ⌝
-        ∗ ⌜ PrintsRefusal (numberOf why) place (length (now (out .entry))) (answerOf r) ⌝ }
+        ∗ ⌜ PrintsRefusal (numberOf why) place (now (out .entry)) (outcome (answerOf r) (now (out .exit))) ⌝ }
 {
     print_refused(refusal::number(why) as u32, place, out)
 }

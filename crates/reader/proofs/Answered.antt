@@ -1,5 +1,5 @@
 -- What reading answers and leaves, by what was found. Assumes nothing.
-use mathlib.Core.Path.{_≡_, sym, ap, _∙_}
+use mathlib.Core.Path.{_≡_, sym, ap, subst, _∙_}
 use mathlib.Core.List.{List}
 use Prim.Native.Nat.{ℕ, _≤_, _<_}
 use native.Mathlib.Omega.{arith}
@@ -63,5 +63,6 @@ module _ (b : List ℕ) (t : Tables) (r : Reading) (a : answerOf r ≡ reading b
         held = hold-room n t (p .2);
       }
 
-  pub rightly : {s : Reading} → r ≡ s → ReadsRightly b t (answerOf s)
-  rightly e = rw (sym (ap answerOf e) ∙ a) (reads-rightly b t)
+-- an answer and tables that are reading's keep its promise
+pub rightly : (b : List ℕ) (t : Tables) {o : Outcome ℕ Tables} → o ≡ reading b t → ReadsRightly b t o
+rightly b t e = subst (λ (o : Outcome ℕ Tables). ReadsRightly b t o) (sym e) (reads-rightly b t)

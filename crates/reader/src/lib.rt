@@ -84,7 +84,8 @@ pub fn read(
     ensures { λ r.
         let t = lentTables ids «donor_blood» «patient_blood» «donor_age» «patient_age»
         «donor_antigens» «patient_antigens» «patient_antibodies» shuffle in
-        ⌜ outcome (answerOf r) (t .exit) ≡ reading (now (sheet .entry)) (t .entry) ⌝ ∗ ⌜ ReadsRightly (now (sheet .entry)) (t .entry) (answerOf r) ⌝ }
+        ⌜ outcome (answerOf r) (t .exit) ≡ reading (now (sheet .entry)) (t .entry) ⌝
+        ∗ ⌜ ReadsRightly (now (sheet .entry)) (t .entry) (outcome (answerOf r) (t .exit)) ⌝ }
 {
     let held = checks::room(
         ids.len(),

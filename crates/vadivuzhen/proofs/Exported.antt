@@ -15,16 +15,16 @@ use Rattle.numbers.specs.declared.BuildAnswer.{BuildAnswer}
 use Rattle.numbers.specs.declared.PlanAnswer.{PlanAnswer}
 
 -- what an exported call ensures, for the numbers r and what is left of all that was lent, where `due` is due
-abbrev Ensures : {Given Result Left : Type 0} → (Answer Result → Given) → (Answer Result → Type 0) → (Answer Result → Type 0) → Given → Left → Outcome Result Left → Type 0
+abbrev Ensures : {Given Result Left : Type 0} → (Answer Result → Given) → (Answer Result → Type 0) → (Outcome Result Left → Type 0) → Given → Left → Outcome Result Left → Type 0
 Ensures numbers Are Promised r left due =
-    ((r ≡ numbers (due .answer)) × Are (due .answer)) × ((left ≡ due .lent) × Promised (due .answer))
+    ((r ≡ numbers (due .answer)) × Are (due .answer)) × ((left ≡ due .lent) × Promised due)
 
-pub kept : {Given Result Left : Type 0} (numbers : Answer Result → Given) (Are Promised : Answer Result → Type 0)
+pub kept : {Given Result Left : Type 0} (numbers : Answer Result → Given) (Are : Answer Result → Type 0) (Promised : Outcome Result Left → Type 0)
     {a : Answer Result} {r : Given} {left : Left} {due : Outcome Result Left}
     → r ≡ numbers a
     → Are a
     → outcome a left ≡ due
-    → Promised a
+    → Promised (outcome a left)
     → Ensures numbers Are Promised r left due
 kept numbers Are Promised e are w p = rw (← w) ((e, are), (refl, p))
 
@@ -32,13 +32,13 @@ pub kept-built : {n : ℕ} {f : Fields} {old new : Graph} {a : Answer (Unit {0})
     → r ≡ buildNumbers a
     → NumberedAt0 a
     → outcome a new ≡ due
-    → BuildsRightly n f old a new
-    → Ensures buildNumbers NumberedAt0 (λ x. BuildsRightly n f old x new) r new due
-kept-built {n} {f} {old} {new} = kept buildNumbers NumberedAt0 (λ x. BuildsRightly n f old x new)
+    → BuildsRightly n f old (outcome a new)
+    → Ensures buildNumbers NumberedAt0 (BuildsRightly n f old) r new due
+kept-built {n} {f} {old} = kept buildNumbers NumberedAt0 (BuildsRightly n f old)
 
 pub kept-plan : {q : Request} {t left : Lent} {a : Answer Plan} {r : PlanAnswer}
     → r ≡ planNumbers a
     → NumberedAt0 a
     → PlansRightly q t (outcome a left)
-    → Ensures planNumbers NumberedAt0 (λ x. PlansRightly q t (planning q t)) r left (planning q t)
-kept-plan {q} {t} e are w = rw (← (w .equal)) ((e, are), (refl, w))
+    → Ensures planNumbers NumberedAt0 (PlansRightly q t) r left (planning q t)
+kept-plan {q} {t} e are w = kept planNumbers NumberedAt0 (PlansRightly q t) e are (w .equal) w

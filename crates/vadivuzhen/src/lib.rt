@@ -6,7 +6,6 @@ use numbers::PrintAnswer;
 use numbers::ReadAnswer;
 use numbers::WriteAnswer;
 ghost use mathlib.Core.Path.{_≡_};
-ghost use lib.ListN.{length};
 ghost use Rattle.pool.specs.Lent.{lentFields, lentTables};
 ghost use Rattle.pool.specs.Calls.{reading, writing};
 ghost use Rattle.pool.specs.Promises.{ReadsRightly, WritesRightly};
@@ -47,7 +46,7 @@ pub extern "C" fn vadivuzhen_read(
         let due = reading (now (sheet .entry)) (t .entry) in
         ⌜ (r ≡ readNumbers (due .answer)) × Numbered (due .answer) ⌝
         ∗ ⌜ t .exit ≡ due .lent ⌝
-        ∗ ⌜ ReadsRightly (now (sheet .entry)) (t .entry) (due .answer) ⌝ }
+        ∗ ⌜ ReadsRightly (now (sheet .entry)) (t .entry) due ⌝ }
 {
     let answer = reader::read(
         sheet,
@@ -85,7 +84,7 @@ pub extern "C" fn vadivuzhen_write(
         let due = writing n (t .entry) (now (out .entry)) in
         ⌜ (r ≡ writeNumbers (due .answer)) × NumberedAt0 (due .answer) ⌝
         ∗ ⌜ now (out .exit) ≡ due .lent ⌝
-        ∗ ⌜ WritesRightly n (t .entry) (length (now (out .entry))) (due .answer) ⌝ }
+        ∗ ⌜ WritesRightly n (t .entry) (now (out .entry)) due ⌝ }
 {
     let answer = writer::write(
         n,
@@ -126,7 +125,7 @@ pub extern "C" fn vadivuzhen_build(
         let due = building documentPoints n (f .entry) lent in
         ⌜ (r ≡ buildNumbers (due .answer)) × NumberedAt0 (due .answer) ⌝
         ∗ ⌜ left ≡ due .lent ⌝
-        ∗ ⌜ BuildsRightly n (f .entry) lent (due .answer) left ⌝ }
+        ∗ ⌜ BuildsRightly n (f .entry) lent due ⌝ }
 {
     let answer = weighing::build(
         n,
@@ -198,7 +197,7 @@ pub extern "C" fn vadivuzhen_print_plan(
         let due = printingPlan p (now (out .entry)) in
         ⌜ (r ≡ printNumbers (due .answer)) × NumberedAt0 (due .answer) ⌝
         ∗ ⌜ now (out .exit) ≡ due .lent ⌝
-        ∗ ⌜ PrintsPlan p (length (now (out .entry))) (due .answer) ⌝ }
+        ∗ ⌜ PrintsPlan p (now (out .entry)) due ⌝ }
 {
     let answer = printout::print_plan(
         n,
@@ -222,7 +221,7 @@ pub extern "C" fn vadivuzhen_print_refusal(number: u32, place: usize, out: &mut 
         let due = printingRefusal number place (now (out .entry)) in
         ⌜ (r ≡ printNumbers (due .answer)) × NumberedAt0 (due .answer) ⌝
         ∗ ⌜ now (out .exit) ≡ due .lent ⌝
-        ∗ ⌜ PrintsRefused number place (length (now (out .entry))) (due .answer) ⌝ }
+        ∗ ⌜ PrintsRefused number place (now (out .entry)) due ⌝ }
 {
     numbers::print_numbers(printout::print_refused(number, place, out))
 }

@@ -54,7 +54,7 @@ module _ (n : ℕ) (f : Fields) (old : Graph) where
   unfolding building
   built-lent e = ap (λ (o : Outcome (Unit {0}) Graph). o .lent) (unless-none _ _ _ _ (finished-none _ _ _ _ e .0))
 
-  builds-rightly : BuildsRightly n f old (building documentPoints n f old .answer) (building documentPoints n f old .lent)
+  builds-rightly : BuildsRightly n f old (building documentPoints n f old)
   unfolding building
   builds-rightly =
       let there : building documentPoints n f old .answer ≡ finished tt → Entries n f (building documentPoints n f old .lent) =
@@ -62,14 +62,18 @@ module _ (n : ℕ) (f : Fields) (old : Graph) where
       record {
         accepts = λ w h. ap (λ (o : Outcome (Unit {0}) Graph). o .answer) (unless-none _ _ _ _ (build-none n f old w h));
         accepted = λ e. build-passed n f old (finished-none _ _ _ _ e .0);
-        refuses = λ k o e. build-fault n f old k o (refused-fault _ _ _ _ e);
+        refuses =
+            λ k o e.
+            let g = refused-fault _ _ _ _ e in
+            let d = build-fault n f old k o g in
+            (d .0, d .1, ap (λ (x : Outcome (Unit {0}) Graph). x .lent) (unless-fault _ _ _ _ k o g));
         built = there;
         plannable = λ e. entries-plannable _ (there e);
       }
 
   -- an answer and tables that are building's have its promise
-  pub rightly : (a : Answer (Unit {0})) (new : Graph) → outcome a new ≡ building documentPoints n f old → BuildsRightly n f old a new
-  rightly a new e = subst (λ (o : Outcome (Unit {0}) Graph). BuildsRightly n f old (o .answer) (o .lent)) (sym e) builds-rightly
+  pub rightly : (a : Answer (Unit {0})) (new : Graph) → outcome a new ≡ building documentPoints n f old → BuildsRightly n f old (outcome a new)
+  rightly a new e = subst (λ (o : Outcome (Unit {0}) Graph). BuildsRightly n f old o) (sym e) builds-rightly
 
 -- ## The call, by what `judge` found
 

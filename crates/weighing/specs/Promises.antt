@@ -3,7 +3,7 @@ use Prim.Native.Nat.{ℕ, _+_, _*_, _≤_, _<_}
 use mathlib.Core.Path.{_≡_}
 use mathlib.Core.List.{List}
 use lib.ListN.{length, getD}
-use Rattle.refusal.specs.Answer.{Answer, finished, refused}
+use Rattle.refusal.specs.Answer.{finished, refused, Outcome}
 use Rattle.pool.specs.Tables.{Fields, pairIn}
 use Rattle.pool.specs.Faultless.{InRange, Unlike, FieldsHold, PairsFault}
 use Rattle.donation.specs.Compatibility.{compatibility}
@@ -49,11 +49,11 @@ pub record Plannable (n : ℕ) (g : Graph) : Type 0 where
   pub most : (i j : ℕ) → i < n → j < n → (i ≡ j → ⊥) → entryAt (g .weights) n i j ≤ documentPoints .base + documentPoints .noMismatch + documentPoints .equalAges
   pub noneWeightless : (i j : ℕ) → i < n → j < n → entryAt (g .compatibilities) n i j ≡ 1 → 0 < entryAt (g .weights) n i j
 
--- "Every .. pool with none of the listed faults is accepted", and no other; a refusal names a fault that is there, with place 0; what is built has
--- document 01's entries and can be planned
-pub record BuildsRightly (n : ℕ) (f : Fields) (old : Graph) (a : Answer (Unit {0})) (new : Graph) : Type 0 where
-  pub accepts : FaultlessFields n f → Fit n old → a ≡ finished tt
-  pub accepted : a ≡ finished tt → FaultlessFields n f × Fit n old
-  pub refuses : (k o : ℕ) → a ≡ refused k o → (o ≡ 0) × BuildFault n f old k
-  pub built : a ≡ finished tt → Entries n f new
-  pub plannable : a ≡ finished tt → Plannable n new
+-- of the answer and what is left: "Every .. pool with none of the listed faults is accepted", and no other; a refusal names a fault that is there, with
+-- place 0, and "leaves all lent memory unchanged"; what is built has document 01's entries and can be planned
+pub record BuildsRightly (n : ℕ) (f : Fields) (old : Graph) (o : Outcome (Unit {0}) Graph) : Type 0 where
+  pub accepts : FaultlessFields n f → Fit n old → o .answer ≡ finished tt
+  pub accepted : o .answer ≡ finished tt → FaultlessFields n f × Fit n old
+  pub refuses : (k place : ℕ) → o .answer ≡ refused k place → (place ≡ 0) × BuildFault n f old k × (o .lent ≡ old)
+  pub built : o .answer ≡ finished tt → Entries n f (o .lent)
+  pub plannable : o .answer ≡ finished tt → Plannable n (o .lent)

@@ -89,7 +89,7 @@ pub fn build(
         let f = lentFields ids «donor_blood» «patient_blood» «donor_age» «patient_age» «donor_antigens» «patient_antigens» «patient_antibodies» in
         let g = lentGraph compatibilities weights in
         ⌜ outcome (answerOf r) (g .exit) ≡ building documentPoints n (f .entry) (g .entry) ⌝
-        ∗ ⌜ BuildsRightly n (f .entry) (g .entry) (answerOf r) (g .exit) ⌝ }
+        ∗ ⌜ BuildsRightly n (f .entry) (g .entry) (outcome (answerOf r) (g .exit)) ⌝ }
 {
     match judge(
         n,

@@ -1,5 +1,5 @@
 -- What writing answers and leaves, by what was found of the pool and by the buffer's length. Assumes nothing.
-use mathlib.Core.Path.{_≡_, sym, ap, ap₂, _∙_}
+use mathlib.Core.Path.{_≡_, sym, ap₂, subst, _∙_}
 use mathlib.Core.List.{List}
 use Prim.Native.Nat.{ℕ, _≤_, _<_}
 use native.Mathlib.Omega.{arith}
@@ -49,7 +49,6 @@ module _ (n : ℕ) (t : Tables) (out : List ℕ) (found : Verdict) (e : faultAt 
           ∙ sym (writing-none n t out answered-faultless (omega arith))
 
 -- what is answered as the definition says keeps the promise
-pub answered-rightly : (n : ℕ) (t : Tables) (out new : List ℕ) (r : Writing) → outcome (answerOf r) new ≡ writing n t out → WritesRightly n t (length out) (answerOf r)
-answered-rightly n t out new r e =
-    let a : answerOf r ≡ writing n t out .answer = ap (λ (o : Outcome ℕ (List ℕ)). o .answer) e in
-    rw a (writes-rightly n t out)
+pub answered-rightly : (n : ℕ) (t : Tables) (out new : List ℕ) (r : Writing) → outcome (answerOf r) new ≡ writing n t out
+    → WritesRightly n t out (outcome (answerOf r) new)
+answered-rightly n t out new r e = subst (λ (o : Outcome ℕ (List ℕ)). WritesRightly n t out o) (sym e) (writes-rightly n t out)

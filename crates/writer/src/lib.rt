@@ -165,7 +165,7 @@ pub fn write(
         let t = lentTables ids «donor_blood» «patient_blood» «donor_age» «patient_age»
         «donor_antigens» «patient_antigens» «patient_antibodies» shuffle in
         ⌜ outcome (answerOf r) (now (out .exit)) ≡ writing n (t .entry) (now (out .entry)) ⌝
-        ∗ ⌜ WritesRightly n (t .entry) (length (now (out .entry))) (answerOf r) ⌝ }
+        ∗ ⌜ WritesRightly n (t .entry) (now (out .entry)) (outcome (answerOf r) (now (out .exit))) ⌝ }
 {
     match judge(
         n,

@@ -46,7 +46,8 @@ returns : tie.Need-returns
 returns c =
     let j = c .before .before .before in
     let e = c .before .why .given .1 in
-    (refused-leaves _ (lent (start j)) _ (answers j) _ _ e, rightly _ (lent (start j)) _ (answers j) e)
+    let w = refused-leaves _ (lent (start j)) _ (answers j) _ _ e in
+    (w, rightly _ (lent (start j)) w)
 
 same-length : tie.Need-same-length
 same-length c = filling c .fill .kept .1 .1 .0
@@ -82,7 +83,7 @@ returns-2 c =
     let j = n .before .before in
     let e = n .n .given .1 in (
       rw (f .fill .ensures) (finished-leaves _ (lent (start j)) _ (answers j) _ e),
-      rightly _ (lent (start j)) _ (answers j) e,
+      rightly _ (lent (start j)) (rw (f .fill .ensures) (finished-leaves _ (lent (start j)) _ (answers j) _ e)),
     )
 
 pub read-spec : {M : Type 1} → statement M
