@@ -14,7 +14,7 @@ use Rattle.greedy.proofs.Counts.{times, NoneTwice, AllBelow, Alike, one-same, s
 use Rattle.greedy.proofs.Bound.{places, value, credit, Family, charge, charge-append, charge-once, charge-alike, subset-charge, credit-most, chosen-apart}
 use Rattle.exchange.specs.Subsets.{subsets, cycles, edges, productOf, sumOf, weigh, heaviest, pairsAt, bestCycle, subsetWeight, evaluationTally}
 use Rattle.exchange.specs.Resolution.{resolved, total}
-use Rattle.exchange.specs.Input.{given}
+use Rattle.exchange.specs.Input.{inputWith}
 use Rattle.exchange.specs.Planning.{roundCount, leftBy, plannedBy}
 use Rattle.exchange.specs.Rivals.{Each, credited}
 use Rattle.exchange.proofs.Ordered.{Subset, subsets-all, each-at, each-mono, arrange, arrange-alike, subset-at, mem-map}
@@ -129,11 +129,11 @@ module _ (l n : ℕ) (m w : ℕ → ℕ → ℕ) (s : List ℕ) (sh : Invertible
 module _ (f l n : ℕ) (m w : ℕ → ℕ → ℕ) (s : List ℕ) (sh : Invertible n s) where
   -- what the chosen subsets bear for the pairs of c
   bears : List ℕ → ℕ
-  bears c = charge (subsets l n) (weightsOf l n m w s) (leftBy (given f l n m w s) .choices) (seats s c)
+  bears c = charge (subsets l n) (weightsOf l n m w s) (leftBy (inputWith f l n m w s) .choices) (seats s c)
 
   bears-append : (c d : List ℕ) → bears (c ++ d) ≡ bears c + bears d
   unfolding bears
-  bears-append c d = rw map-append (charge-append (subsets l n) (weightsOf l n m w s) (leftBy (given f l n m w s) .choices) (seats s c) (seats s d))
+  bears-append c d = rw map-append (charge-append (subsets l n) (weightsOf l n m w s) (leftBy (inputWith f l n m w s) .choices) (seats s c) (seats s d))
 
   cycle-bears : (c : List ℕ) → NoneTwice c → Rival f l n m w c → weigh m w c ≤ bears c
   unfolding bears leftBy
@@ -144,7 +144,7 @@ module _ (f l n : ℕ) (m w : ℕ → ℕ → ℕ) (s : List ℕ) (sh : Invertib
       go (inl z) at = omega arith
       go (inr z) (i, like, k) = omega (
         arith,
-        charge-alike (subsets l n) (weightsOf l n m w s) (leftBy (given f l n m w s) .choices) (seats s c) (getD (subsets l n) i []) like,
+        charge-alike (subsets l n) (weightsOf l n m w s) (leftBy (inputWith f l n m w s) .choices) (seats s c) (getD (subsets l n) i []) like,
         subset-charge f n (roundCount n) (subsets l n) (weightsOf l n m w s) (evaluationTally (subsets l n) (tally 0 0 0)) (family l n m w s) (omega arith) i (omega arith),
       )
 
@@ -163,14 +163,14 @@ module _ (f l n : ℕ) (m w : ℕ → ℕ → ℕ) (s : List ℕ) (sh : Invertib
 
   -- the chosen subsets' weights, each times its number of places, are at least the weight of any rival set
   pub rivals-credit : (cs : List (List ℕ)) → Each (Rival f l n m w) cs → NoneTwice (joined cs)
-      → total m w cs ≤ credit (subsets l n) (weightsOf l n m w s) (leftBy (given f l n m w s) .choices)
+      → total m w cs ≤ credit (subsets l n) (weightsOf l n m w s) (leftBy (inputWith f l n m w s) .choices)
   unfolding bears
   rivals-credit cs h o =
       let b : AllBelow n (joined cs) = joined-below cs h in
       omega (
         arith,
         total-bears cs h o,
-        charge-once (subsets l n) (weightsOf l n m w s) (leftBy (given f l n m w s) .choices) (seats s (joined cs))
+        charge-once (subsets l n) (weightsOf l n m w s) (leftBy (inputWith f l n m w s) .choices) (seats s (joined cs))
             (λ p. omega (arith, seats-times n s sh (joined cs) b p, o (getD s p 0))),
       )
 
@@ -238,18 +238,18 @@ module _ (l n : ℕ) (m w : ℕ → ℕ → ℕ) (s : List ℕ) where
 
 module _ (f l n : ℕ) (m w : ℕ → ℕ → ℕ) (s : List ℕ) (sh : Invertible n s) where
   -- no pair is in two planned cycles, or twice in one
-  pub planned-apart : NoneTwice (joined (plannedBy (given f l n m w s)))
+  pub planned-apart : NoneTwice (joined (plannedBy (inputWith f l n m w s)))
   unfolding plannedBy leftBy
-  planned-apart a = le-trans (resolve-times l n m w s sh (leftBy (given f l n m w s) .choices) a)
+  planned-apart a = le-trans (resolve-times l n m w s sh (leftBy (inputWith f l n m w s) .choices) a)
       (chosen-apart f n (roundCount n) (subsets l n) (weightsOf l n m w s) (evaluationTally (subsets l n) (tally 0 0 0)) (family l n m w s) (firstAt a s))
 
   -- each planned cycle's weight times its number of pairs, added up, is at least the weight of any rival set
-  pub planned-credit : (cs : List (List ℕ)) → Each (Rival f l n m w) cs → NoneTwice (joined cs) → total m w cs ≤ credited m w (plannedBy (given f l n m w s))
+  pub planned-credit : (cs : List (List ℕ)) → Each (Rival f l n m w) cs → NoneTwice (joined cs) → total m w cs ≤ credited m w (plannedBy (inputWith f l n m w s))
   unfolding plannedBy
   planned-credit cs h o = rw resolve-credited (rivals-credit f l n m w s sh cs h o)
 
   -- and l times the plan's weight is
-  pub planned-factor : (cs : List (List ℕ)) → Each (Rival f l n m w) cs → NoneTwice (joined cs) → total m w cs ≤ l * total m w (plannedBy (given f l n m w s))
+  pub planned-factor : (cs : List (List ℕ)) → Each (Rival f l n m w) cs → NoneTwice (joined cs) → total m w cs ≤ l * total m w (plannedBy (inputWith f l n m w s))
   unfolding plannedBy
   planned-factor cs h o = rw resolve-total (le-trans (rivals-credit f l n m w s sh cs h o)
-      (credit-most l (subsets l n) (weightsOf l n m w s) (leftBy (given f l n m w s) .choices) (size-most l n)))
+      (credit-most l (subsets l n) (weightsOf l n m w s) (leftBy (inputWith f l n m w s) .choices) (size-most l n)))

@@ -15,7 +15,7 @@ use Rattle.greedy.specs.Rounds.{Left, rounds}
 use Rattle.greedy.proofs.Counts.{times, NoneTwice, AllBelow, Alike, one-same, one-eq, times-append, times-cons, alike-length}
 use Rattle.exchange.specs.Subsets.{Scope, subsets, cycles, Edge, along, edges, entry, productOf, sumOf, weigh, firstOf, heaviest, pairsAt, bestCycle, subsetWeight, evaluationTally}
 use Rattle.exchange.specs.Resolution.{resolved, recordOf, recipientTable, donorTable, total}
-use Rattle.exchange.specs.Input.{Request, given}
+use Rattle.exchange.specs.Input.{Request, inputWith}
 use Rattle.exchange.specs.Planning.{Lent, lent, Plan, plan, roundCount, lengthsOf, planFault, shortToRead, leftBy, plannedBy, planFrom, filledLent, planning}
 use Rattle.exchange.specs.Rivals.{Each, Exchange}
 use Rattle.exchange.specs.Promises.{DiagonalUnread}
@@ -128,16 +128,16 @@ module _ (n : ℕ) (m k w v : ℕ → ℕ → ℕ) (alike : (i j : ℕ) → i < 
     resolved-agree (c ∷ cs) =
         ap₂ (λ (b : List ℕ) (r : List (List ℕ)). cond (ltb c (length (subsets l n))) (pairsAt s b ∷ r) r) (best-at c) (resolved-agree cs)
 
-    pub left-agree : leftBy (given f l n m w s) ≡ leftBy (given f l n k v s)
+    pub left-agree : leftBy (inputWith f l n m w s) ≡ leftBy (inputWith f l n k v s)
     unfolding leftBy
     left-agree =
         ap (λ (ws : List ℕ). rounds f (roundCount n) (subsets l n) ws (evaluationTally (subsets l n) (tally 0 0 0)))
         (weights-agree (subsets l n) (subsets-all l n))
 
-    pub planned-agree : plannedBy (given f l n m w s) ≡ plannedBy (given f l n k v s)
+    pub planned-agree : plannedBy (inputWith f l n m w s) ≡ plannedBy (inputWith f l n k v s)
     unfolding plannedBy
     planned-agree =
-        resolved-agree (leftBy (given f l n m w s) .choices) ∙ ap (λ (r : Left). resolved k v s (subsets l n) (r .choices)) left-agree
+        resolved-agree (leftBy (inputWith f l n m w s) .choices) ∙ ap (λ (r : Left). resolved k v s (subsets l n) (r .choices)) left-agree
 
 -- ---- the same answer
 
@@ -176,12 +176,12 @@ module _ (q : Scope) (f : ℕ) (M W W′ s : List ℕ) (t : Lent) (e : length W 
   same-answer : planning (lends W) t ≡ planning (lends W′) t
   unfolding planning planFrom filledLent unless
   same-answer =
-      ap (λ (g : Fault). ends g (total m w (plannedBy (given f l n m w s))) (plannedBy (given f l n m w s)) (leftBy (given f l n m w s))) fault-agree
+      ap (λ (g : Fault). ends g (total m w (plannedBy (inputWith f l n m w s))) (plannedBy (inputWith f l n m w s)) (leftBy (inputWith f l n m w s))) fault-agree
       ∙ go (planFault (lends W′) (lengthsOf t)) refl
     where
       go : (g : Fault) → planFault (lends W′) (lengthsOf t) ≡ g
-          → ends g (total m w (plannedBy (given f l n m w s))) (plannedBy (given f l n m w s)) (leftBy (given f l n m w s))
-          ≡ ends g (total m v (plannedBy (given f l n m v s))) (plannedBy (given f l n m v s)) (leftBy (given f l n m v s))
+          → ends g (total m w (plannedBy (inputWith f l n m w s))) (plannedBy (inputWith f l n m w s)) (leftBy (inputWith f l n m w s))
+          ≡ ends g (total m v (plannedBy (inputWith f l n m v s))) (plannedBy (inputWith f l n m v s)) (leftBy (inputWith f l n m v s))
       go (fault k o) z = refl
       go none z =
           let k = checked (lends W′) t z in
@@ -189,8 +189,8 @@ module _ (q : Scope) (f : ℕ) (M W W′ s : List ℕ) (t : Lent) (e : length W 
           let set = planned-set f l n m v s sh (k .compatible .zeroOrOne) in
           ap₂ (λ (cs : List (List ℕ)) (r : Left). ends none (total m w cs) cs r)
           (planned-agree n m m w v (λ i j a b d. refl) agree f l s sh) (left-agree n m m w v (λ i j a b d. refl) agree f l s sh)
-          ∙ ap (λ (x : ℕ). ends none x (plannedBy (given f l n m v s)) (leftBy (given f l n m v s)))
-          (total-agree n m m w v (λ i j a b d. refl) agree l (plannedBy (given f l n m v s)) (set .exchanges))
+          ∙ ap (λ (x : ℕ). ends none x (plannedBy (inputWith f l n m v s)) (leftBy (inputWith f l n m v s)))
+          (total-agree n m m w v (λ i j a b d. refl) agree l (plannedBy (inputWith f l n m v s)) (set .exchanges))
 
 pub diagonal-unread : DiagonalUnread
 diagonal-unread = same-answer

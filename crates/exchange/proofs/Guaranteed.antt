@@ -23,7 +23,7 @@ use Rattle.greedy.proofs.Bound.{places, subset-met}
 use Rattle.greedy.proofs.Tallied.{rounds-length}
 use Rattle.exchange.specs.Subsets.{subsets, order, subsetCount, edges, entry, pairsAt, bestCycle, subsetWeight, evaluationTally}
 use Rattle.exchange.specs.Resolution.{resolved, recordOf, pairsOf, recipientBy, donorBy, recipientTable, donorTable, total}
-use Rattle.exchange.specs.Input.{Input, Request, given, inputOf, request}
+use Rattle.exchange.specs.Input.{Input, Request, inputWith, inputOf, request}
 use Rattle.exchange.specs.Planning.{Lent, Plan, roundCount, lengthsOf, planFault, leftBy, plannedBy, planFrom, filledLent, planning}
 use Rattle.exchange.specs.Algorithm1 as Algorithm1
 use Rattle.exchange.specs.Rivals.{Each, Exchange, ExchangeSet}
@@ -109,14 +109,14 @@ met-at ss t (c ∷ cs) h = elim (eq-zero-or-pos (shared (getD ss c []) t)) [
 module _ (f l n : ℕ) (m w : ℕ → ℕ → ℕ) (s : List ℕ) where
   -- ---- the cycles of Algorithm 1 have places below n
 
-  chosen-below : Each (AllBelow n) (Algorithm1.looped (given f l n m w s) .chosen)
+  chosen-below : Each (AllBelow n) (Algorithm1.looped (inputWith f l n m w s) .chosen)
   unfolding Algorithm1.looped times
   chosen-below = each-loop (AllBelow n) (λ p h. refl) (length (subsets l n)) f (Algorithm1.subsetWeight s m w) (subsets l n)
       (each-mono (Subset l n) (AllBelow n) (λ t h. h .below) (subsets l n) (subsets-all l n))
 
-  pub cycles-below : Each (AllBelow n) (Algorithm1.chosenCycles (given f l n m w s))
+  pub cycles-below : Each (AllBelow n) (Algorithm1.chosenCycles (inputWith f l n m w s))
   unfolding Algorithm1.chosenCycles
-  cycles-below = go (Algorithm1.looped (given f l n m w s) .chosen) chosen-below
+  cycles-below = go (Algorithm1.looped (inputWith f l n m w s) .chosen) chosen-below
     where
       one : (t : List ℕ) → AllBelow n t → AllBelow n (Algorithm1.subsetMap (Algorithm1.shuffled s m) (Algorithm1.shuffled s w) t)
       one t h = rw (map-is m w s t) (λ p k. omega (arith, bestCycle-alike m w s t p, h p k))
@@ -128,28 +128,28 @@ module _ (f l n : ℕ) (m w : ℕ → ℕ → ℕ) (s : List ℕ) where
 
   -- ---- as many weights as subsets, as many choices as rounds, and no more cycles
 
-  choices-long : length (leftBy (given f l n m w s) .choices) ≡ roundCount n
+  choices-long : length (leftBy (inputWith f l n m w s) .choices) ≡ roundCount n
   unfolding leftBy
   choices-long = rounds-length f (roundCount n) (subsets l n) (weightsOf l n m w s) (evaluationTally (subsets l n) (tally 0 0 0)) .1
 
-  weights-long : length (leftBy (given f l n m w s) .weights) ≡ length (subsets l n)
+  weights-long : length (leftBy (inputWith f l n m w s) .weights) ≡ length (subsets l n)
   unfolding leftBy
   weights-long =
       rounds-length f (roundCount n) (subsets l n) (weightsOf l n m w s) (evaluationTally (subsets l n) (tally 0 0 0)) .0
       ∙ length-map (subsets l n) (subsetWeight m w s)
 
-  cycles-few : length (plannedBy (given f l n m w s)) ≤ roundCount n
+  cycles-few : length (plannedBy (inputWith f l n m w s)) ≤ roundCount n
   unfolding plannedBy
-  cycles-few = omega (arith, choices-long, resolved-few m w s (subsets l n) (leftBy (given f l n m w s) .choices))
+  cycles-few = omega (arith, choices-long, resolved-few m w s (subsets l n) (leftBy (inputWith f l n m w s) .choices))
 
   -- ---- so no lent table grows or shrinks
 
   module _ (t : Lent) (weights : length (subsets l n) ≤ length (t .weights)) (choices : roundCount n ≤ length (t .choices))
       (donors : n ≤ length (t .donors)) (recipients : n ≤ length (t .recipients)) (records : roundCount n ≤ length (t .records)) where
-    filled-lengths : SameLengths t (filledLent (given f l n m w s) t)
+    filled-lengths : SameLengths t (filledLent (inputWith f l n m w s) t)
     unfolding filledLent donorTable recipientTable
     filled-lengths =
-        let q : Input = given f l n m w s in
+        let q : Input = inputWith f l n m w s in
         let cs : List (List ℕ) = plannedBy q in
         record {
           weights = filled-length (leftBy q .weights) (t .weights) (omega (arith, weights-long));

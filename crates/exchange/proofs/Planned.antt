@@ -14,7 +14,7 @@ use Rattle.greedy.proofs.Counts.{times, NoneTwice, one-same}
 use Rattle.greedy.proofs.Bound.{chosen-above}
 use Rattle.exchange.specs.Subsets.{subsets, weigh, pairsAt, bestCycle, evaluationTally}
 use Rattle.exchange.specs.Resolution.{resolved, total}
-use Rattle.exchange.specs.Input.{given}
+use Rattle.exchange.specs.Input.{inputWith}
 use Rattle.exchange.specs.Planning.{roundCount, leftBy, plannedBy}
 use Rattle.exchange.specs.Rivals.{Each, Different, Exchange, ExchangeSet, credited}
 use Rattle.exchange.proofs.Ordered.{each-mono}
@@ -61,13 +61,13 @@ module _ (f l n : ℕ) (m w : ℕ → ℕ → ℕ) (s : List ℕ) (sh : Invertib
         | no k ↦ let q : length (subsets l n) ≤ c = omega arith in rw (le-ltb c (length (subsets l n)) q) ih
       ]
 
-  planned-above : Each Above (plannedBy (given f l n m w s))
+  planned-above : Each Above (plannedBy (inputWith f l n m w s))
   unfolding plannedBy leftBy
-  planned-above = resolve-each (leftBy (given f l n m w s) .choices)
+  planned-above = resolve-each (leftBy (inputWith f l n m w s) .choices)
       (chosen-above f n (roundCount n) (subsets l n) (weightsOf l n m w s) (evaluationTally (subsets l n) (tally 0 0 0)) (family l n m w s))
 
   -- "all planned cycles are executable, no pair is in two of them"
-  pub planned-set : ((i j : ℕ) → i < n → j < n → m i j ≤ 1) → ExchangeSet l n m (plannedBy (given f l n m w s))
+  pub planned-set : ((i j : ℕ) → i < n → j < n → m i j ≤ 1) → ExchangeSet l n m (plannedBy (inputWith f l n m w s))
   planned-set bits = record {
     exchanges = each-both Above NoneTwice (Exchange l n m)
         (λ c h o. record {
@@ -77,8 +77,8 @@ module _ (f l n : ℕ) (m w : ℕ → ℕ → ℕ) (s : List ℕ) (sh : Invertib
           different = once-different c o;
           executable = weigh-executable n m bits w c (below-pool n c (h .0 .below)) (omega arith);
         })
-        (plannedBy (given f l n m w s)) planned-above (once-each (plannedBy (given f l n m w s)) (planned-apart f l n m w s sh));
-    apart = once-apart (plannedBy (given f l n m w s)) (planned-apart f l n m w s sh);
+        (plannedBy (inputWith f l n m w s)) planned-above (once-each (plannedBy (inputWith f l n m w s)) (planned-apart f l n m w s sh));
+    apart = once-apart (plannedBy (inputWith f l n m w s)) (planned-apart f l n m w s sh);
   }
 
   module _ (cs : List (List ℕ)) (set : ExchangeSet l n m cs) (heavy : Each (Counts f m w) cs) where
@@ -90,11 +90,11 @@ module _ (f l n : ℕ) (m w : ℕ → ℕ → ℕ) (s : List ℕ) (sh : Invertib
     once = apart-once cs (each-mono (Exchange l n m) Different (λ c h. h .different) cs (set .exchanges)) (set .apart)
 
     -- each planned cycle's weight times its number of pairs, added up, is at least the weight of every such set
-    pub rival-credit : total m w cs ≤ credited m w (plannedBy (given f l n m w s))
+    pub rival-credit : total m w cs ≤ credited m w (plannedBy (inputWith f l n m w s))
     rival-credit = planned-credit f l n m w s sh cs rivals once
 
     -- and so is l times the plan's weight
-    pub rival-factor : total m w cs ≤ l * total m w (plannedBy (given f l n m w s))
+    pub rival-factor : total m w cs ≤ l * total m w (plannedBy (inputWith f l n m w s))
     rival-factor = planned-factor f l n m w s sh cs rivals once
 
 -- with floor 0 every cycle counts

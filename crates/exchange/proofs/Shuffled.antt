@@ -14,7 +14,7 @@ use Rattle.greedy.specs.Promises.{greatest, cleared}
 use Rattle.greedy.proofs.Bound.{rounds-picks, cleared-quiet}
 use Rattle.exchange.specs.Subsets.{subsets, order, subsetCount, cycles, Edge, along, edges, productOf, sumOf, weigh, heaviest, pairsAt, bestCycle, subsetWeight, evaluationTally}
 use Rattle.exchange.specs.Resolution.{resolved}
-use Rattle.exchange.specs.Input.{given}
+use Rattle.exchange.specs.Input.{inputWith}
 use Rattle.exchange.specs.Planning.{roundCount, leftBy, plannedBy}
 use Rattle.exchange.specs.Algorithm1 as Algorithm1
 use Rattle.exchange.specs.Promises.{LoopEnds}
@@ -102,15 +102,15 @@ loop-over q =
     loop-ends (subsetCount (q .scope)) (q .floor) (Algorithm1.subsetWeight (q .shuffle) (q .compatible) (q .weight)) (order (q .scope)) (omega arith)
     (meeting (q .scope .largest) (q .scope .pairs))
 
-pub same-cycles : (f l n : ℕ) (m w : ℕ → ℕ → ℕ) (s : List ℕ) → plannedBy (given f l n m w s) ≡ map (pairsAt s) (Algorithm1.chosenCycles (given f l n m w s))
+pub same-cycles : (f l n : ℕ) (m w : ℕ → ℕ → ℕ) (s : List ℕ) → plannedBy (inputWith f l n m w s) ≡ map (pairsAt s) (Algorithm1.chosenCycles (inputWith f l n m w s))
 unfolding plannedBy leftBy Algorithm1.chosenCycles Algorithm1.looped
 same-cycles f l n m w s =
     let ss : List (List ℕ) = subsets l n in
     let ws : List ℕ = weightsOf l n m w s in
     let t = evaluationTally ss (tally 0 0 0) in
     let quiet : greatest (cleared f (roundCount n) ss ws) ≤ f = greatest-most f (cleared f (roundCount n) ss ws) (cleared-quiet f n (roundCount n) ss ws t (family l n m w s) (omega arith)) in
-    resolved-chosen m w s ss (leftBy (given f l n m w s) .choices)
+    resolved-chosen m w s ss (leftBy (inputWith f l n m w s) .choices)
     ∙ ap (λ (cs : List ℕ). map (λ (t : List ℕ). pairsAt s (bestCycle m w s t)) (chosenOf ss cs)) (rounds-picks f (roundCount n) ss ws t)
     ∙ ap (map (λ (t : List ℕ). pairsAt s (bestCycle m w s t))) (rounds-loop f (subsetWeight m w s) ss (roundCount n) quiet (meeting l n))
     ∙ ap (λ (g : List ℕ → ℕ). map (λ (t : List ℕ). pairsAt s (bestCycle m w s t)) (Algorithm1.loop (length ss) f g ss .chosen)) (sym (weight-same m w s))
-    ∙ sym (chosen-pairs m w s (Algorithm1.looped (given f l n m w s) .chosen))
+    ∙ sym (chosen-pairs m w s (Algorithm1.looped (inputWith f l n m w s) .chosen))

@@ -14,7 +14,7 @@ use Rattle.greedy.specs.Rounds.{rounds}
 use Rattle.greedy.proofs.Choosing.{same-tally}
 use Rattle.greedy.proofs.Tallied.{sizes, after, rounds-tally}
 use Rattle.exchange.specs.Subsets.{ascending, subsets, upToThree, subsetWeight, evaluationTally}
-use Rattle.exchange.specs.Input.{given}
+use Rattle.exchange.specs.Input.{inputWith}
 use Rattle.exchange.specs.Planning.{roundCount, leftBy}
 use Rattle.exchange.specs.Promises.{howMany, productsDue, tallyDue, TallyOf}
 use Rattle.exchange.specs.Rivals.{Each}
@@ -212,7 +212,7 @@ module _ (f n : ℕ) (m w : ℕ → ℕ → ℕ) (s : List ℕ) where
       few (suc zero) h = (refl, refl)
       few (suc (suc k)) h = absurd (omega arith)
 
-  left-tally : leftBy (given f 3 n m w s) .tally ≡ tallyDue T P (roundCount n)
+  left-tally : leftBy (inputWith f 3 n m w s) .tally ≡ tallyDue T P (roundCount n)
   unfolding leftBy T P rounds
   left-tally = go (roundCount n) none some
     where
@@ -231,7 +231,7 @@ module _ (f n : ℕ) (m w : ℕ → ℕ → ℕ) (s : List ℕ) where
           rounds-tally f (suc r) ss ws t (omega (arith, long, k (omega arith)))
           ∙ (rw (long, sizes-sized ss (sized n), start) (due-after T P (suc r) h))
 
-  pub tallied : TallyOf (upToThree n) (leftBy (given f 3 n m w s) .tally)
+  pub tallied : TallyOf (upToThree n) (leftBy (inputWith f 3 n m w s) .tally)
   unfolding T P
   tallied = record {
     sums = left-tally;

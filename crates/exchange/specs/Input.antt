@@ -1,4 +1,4 @@
--- What planning is given: one record, with the floor and the largest size that document 01 leaves at 0 and 3. Assumes nothing.
+-- What planning is inputWith: one record, with the floor and the largest size that document 01 leaves at 0 and 3. Assumes nothing.
 use Prim.Native.Nat.{ℕ}
 use mathlib.Core.List.{List}
 use Rattle.exchange.specs.Subsets.{Scope, scope, upToThree, entry}
@@ -11,8 +11,9 @@ pub record Input : Type 0 where
   pub weight : ℕ → ℕ → ℕ
   pub shuffle : List ℕ
 
-abbrev pub given : ℕ → ℕ → ℕ → (ℕ → ℕ → ℕ) → (ℕ → ℕ → ℕ) → List ℕ → Input
-given f l n m w s = record { scope = scope l n; floor = f; compatible = m; weight = w; shuffle = s }
+-- of any floor and largest size
+abbrev pub inputWith : ℕ → ℕ → ℕ → (ℕ → ℕ → ℕ) → (ℕ → ℕ → ℕ) → List ℕ → Input
+inputWith f l n m w s = record { scope = scope l n; floor = f; compatible = m; weight = w; shuffle = s }
 
 -- the same as a caller lends it: M and W in rows of N
 pub record Request : Type 0 where

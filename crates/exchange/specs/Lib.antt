@@ -1,4 +1,4 @@
--- Planning, under document 01's headings. Believe `Subsets`, `Input`, `Resolution` and `Planning`: the contracts cite them. `Published`,
+-- Planning, under document 01's headings. Believe `Subsets`, `Input`, `Resolution`, `Planning` and `Lent`: the contracts cite them. `Published`,
 -- `Algorithm1` and `Faultless` say a second time, without them, what the order of subsets, the plan and the refusals are; `Rivals` and
 -- `Promises` say what is promised of every plan; `Pools` has k1 to k12.
 pub mod Subsets
