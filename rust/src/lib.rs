@@ -53,6 +53,11 @@
 //! environment variable `VADIVUZHEN_LIB` names; without it, from where
 //! `rt staticlib vadivuzhen` leaves it in the repository, `target/staticlib`.
 //! It is for x86-64 Linux, and the crate does not compile for other targets.
+//!
+//! Take crate and archive from the same version of the repository. A call
+//! that is answered a refusal of a number unknown to the crate panics: then
+//! the archive is another one, and nothing else that it answers can be relied
+//! on. [`raw`] gives the number as it is.
 
 #![warn(missing_docs)]
 
@@ -78,5 +83,5 @@ mod tables;
 pub use crate::plan::{Plan, Tally};
 pub use crate::pool::{Age, Blood, Pair, Pool, LONGEST_SHEET, MOST_PAIRS};
 pub use crate::raw::Cycle;
-pub use crate::refused::{Refusal, Refused};
+pub use crate::refused::{Refusal, Refused, UnknownRefusal};
 pub use crate::tables::Tables;

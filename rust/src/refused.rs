@@ -5,7 +5,11 @@ use std::error::Error;
 use std::fmt;
 
 /// Why an input is turned back. The discriminants are document 01's numbers.
+///
+/// Later requests add refusals, so a `match` outside this crate needs an arm
+/// for the rest. `Refusal::try_from` gives the refusal of a number.
 #[derive(Clone, Copy, Debug, PartialEq, Eq, PartialOrd, Ord, Hash)]
+#[non_exhaustive]
 #[repr(u32)]
 pub enum Refusal {
     /// 1: a field's start or value is cut off or missing.
@@ -31,8 +35,8 @@ pub enum Refusal {
 }
 
 impl Refusal {
-    /// All refusals, by number.
-    pub const ALL: [Refusal; 10] = [
+    /// All refusals, in order of their numbers.
+    pub const ALL: &'static [Refusal] = &[
         Refusal::CutOff,
         Refusal::WrongField,
         Refusal::WrongVersion,
@@ -45,7 +49,8 @@ impl Refusal {
         Refusal::NotCompatibility,
     ];
 
-    /// Document 01's number, from 1 to 10.
+    /// Document 01's number. It is not 0, which in an answer means that the
+    /// call finished.
     pub const fn number(self) -> u32 {
         self as u32
     }
@@ -55,6 +60,29 @@ impl Refusal {
         Refused { why: self, place }
     }
 }
+
+/// By document 01's number, as `refusal` in the answers of [`raw`] has it.
+impl TryFrom<u32> for Refusal {
+    type Error = UnknownRefusal;
+
+    fn try_from(number: u32) -> Result<Refusal, UnknownRefusal> {
+        let mut all = Refusal::ALL.iter().copied();
+        all.find(|why| why.number() == number)
+            .ok_or(UnknownRefusal(number))
+    }
+}
+
+/// A number that no [`Refusal`] has.
+#[derive(Clone, Copy, Debug, PartialEq, Eq, Hash)]
+pub struct UnknownRefusal(pub u32);
+
+impl fmt::Display for UnknownRefusal {
+    fn fmt(&self, f: &mut fmt::Formatter<'_>) -> fmt::Result {
+        write!(f, "{} is the number of no refusal known here", self.0)
+    }
+}
+
+impl Error for UnknownRefusal {}
 
 /// What a call answers when it turns an input back. Nothing has been changed.
 #[derive(Clone, Copy, Debug, PartialEq, Eq, Hash)]
@@ -137,13 +165,18 @@ fn pair(place: usize) -> String {
 impl Error for Refused {}
 
 /// What an answer's `refusal` and `place` mean.
+///
+/// Panics at a number that is not known. The library is proved to answer no
+/// such number, so another one was linked, and nothing that it answers or
+/// leaves can be relied on.
 pub(crate) fn finished(refusal: u32, place: usize) -> Result<(), Refused> {
     if refusal == 0 {
         return Ok(());
     }
-    let mut all = Refusal::ALL.into_iter();
-    let why = all.find(|why| why.number() == refusal);
-    Err(why.expect("a refusal has a number from 1 to 10").at(place))
+    match Refusal::try_from(refusal) {
+        Ok(why) => Err(why.at(place)),
+        Err(unknown) => panic!("{unknown}; link the library that this crate was written for"),
+    }
 }
 
 /// For a call whose input is known to have no fault: the library accepts all
@@ -158,4 +191,21 @@ pub(crate) fn sound(refusal: u32) {
 pub(crate) fn text(mut buffer: Vec<u8>, length: usize) -> String {
     buffer.truncate(length);
     String::from_utf8(buffer).expect("the printout is ASCII")
+}
+
+#[cfg(test)]
+mod tests {
+    use super::*;
+
+    #[test]
+    fn an_answer_finished_or_was_refused() {
+        assert_eq!(finished(0, 42), Ok(()));
+        assert_eq!(finished(7, 42), Err(Refusal::RepeatedId.at(42)));
+    }
+
+    #[test]
+    #[should_panic(expected = "link the library that this crate was written for")]
+    fn another_library_is_not_relied_on() {
+        let _ = finished(u32::MAX, 0);
+    }
 }

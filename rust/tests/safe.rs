@@ -1,6 +1,8 @@
 //! The safe types: what they refuse, and that a refusal says what to do.
 
-use vadivuzhen::{Age, Blood, Cycle, Pair, Pool, Refusal, Refused, Tables, LONGEST_SHEET};
+use vadivuzhen::{
+    Age, Blood, Cycle, Pair, Pool, Refusal, Refused, Tables, UnknownRefusal, LONGEST_SHEET,
+};
 
 /// The pair of that id; any two of these suit each other.
 fn pair(id: u32) -> Pair {
@@ -113,8 +115,10 @@ fn own_tables_are_planned_or_refused() {
 
 #[test]
 fn every_refusal_has_its_number_and_says_what_to_do() {
-    for (why, number) in Refusal::ALL.into_iter().zip(1..) {
+    assert_eq!(Refusal::ALL.len(), 10);
+    for (&why, number) in Refusal::ALL.iter().zip(1..) {
         assert_eq!(why.number(), number);
+        assert_eq!(Refusal::try_from(number), Ok(why));
         let refused = refused(why, 42);
         assert_eq!(refused.print(), format!("REFUSED {number} 42\n"));
         let told = refused.to_string();
@@ -123,4 +127,14 @@ fn every_refusal_has_its_number_and_says_what_to_do() {
     }
     let longest = refused(Refusal::NotCompatibility, usize::MAX);
     assert_eq!(longest.print(), format!("REFUSED 10 {}\n", usize::MAX));
+}
+
+#[test]
+fn a_number_of_no_refusal_is_said_to_be_unknown() {
+    // 0 is a call that finished; later requests go up to 22.
+    for number in (11..=22).chain([0, 23, 256 + 1, u32::MAX]) {
+        let unknown = Refusal::try_from(number).expect_err("no refusal");
+        assert_eq!(unknown, UnknownRefusal(number));
+        assert!(unknown.to_string().starts_with(&format!("{number} is ")));
+    }
 }
