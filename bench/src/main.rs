@@ -128,7 +128,7 @@ fn timed(n: usize) -> Timed {
         let read = timed.read.add(often, || {
             raw::read(
                 black_box(&sheet),
-                raw::Sheet {
+                raw::LentPool {
                     ids: &mut ids,
                     donor_blood: &mut donor_blood,
                     patient_blood: &mut patient_blood,

@@ -147,7 +147,7 @@ impl Pool {
         };
         let answer = raw::read(
             sheet,
-            raw::Sheet {
+            raw::LentPool {
                 ids: &mut pool.ids,
                 donor_blood: &mut pool.donor_blood,
                 patient_blood: &mut pool.patient_blood,

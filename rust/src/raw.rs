@@ -101,9 +101,10 @@ pub struct Fields<'a> {
     pub patient_antibodies: &'a [u64],
 }
 
-/// The tables that [`read`] fills: the pairs' fields, and the shuffle.
+/// A pool's tables, lent to be filled by [`read`]: the pairs' fields, and the
+/// shuffle.
 #[derive(Debug, Default)]
-pub struct Sheet<'a> {
+pub struct LentPool<'a> {
     /// Ids.
     pub ids: &'a mut [u32],
     /// Bloods of the donors.
@@ -140,7 +141,7 @@ pub struct Planned<'a> {
 }
 
 /// Reads a sheet into the lent tables, of which it fills the first N entries.
-pub fn read(sheet: &[u8], into: Sheet<'_>) -> ReadAnswer {
+pub fn read(sheet: &[u8], into: LentPool<'_>) -> ReadAnswer {
     // SAFETY: every pointer is a live slice's and goes with its length, what
     // is filled is lent by `&mut`, and the call keeps no pointer.
     unsafe {

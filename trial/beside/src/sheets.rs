@@ -65,8 +65,8 @@ impl Tables {
         }
     }
 
-    fn fill(&mut self) -> raw::Sheet<'_> {
-        raw::Sheet {
+    fn fill(&mut self) -> raw::LentPool<'_> {
+        raw::LentPool {
             ids: self.ids.fill(),
             donor_blood: self.donor_blood.fill(),
             patient_blood: self.patient_blood.fill(),
