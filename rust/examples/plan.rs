@@ -10,7 +10,7 @@ use std::env;
 use std::fs::File;
 use std::io::{self, Read, Write};
 use std::process::ExitCode;
-use vadivuzhen::{Pool, Refused, LONGEST_SHEET};
+use vadivuzhen::{Pool, LONGEST_SHEET};
 
 fn main() -> ExitCode {
     match run() {
@@ -25,8 +25,8 @@ fn main() -> ExitCode {
 /// The exit status, or what could not be read or written.
 fn run() -> Result<u8, String> {
     let sheet = sheet().map_err(|error| format!("the sheet cannot be read: {error}"))?;
-    let (text, status) = match printed(&sheet) {
-        Ok(text) => (text, 0),
+    let (text, status) = match Pool::read(&sheet) {
+        Ok(pool) => (pool.plan().print(), 0),
         Err(refused) => {
             eprintln!("{refused}");
             (refused.print(), 1)
@@ -47,11 +47,6 @@ fn sheet() -> io::Result<Vec<u8>> {
         .take(LONGEST_SHEET as u64 + 1)
         .read_to_end(&mut sheet)?;
     Ok(sheet)
-}
-
-fn printed(sheet: &[u8]) -> Result<String, Refused> {
-    let pool = Pool::read(sheet)?;
-    pool.plan().print(pool.ids())
 }
 
 /// Writes the text. `print!` would panic where the output is closed.

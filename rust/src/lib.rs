@@ -10,8 +10,8 @@
 //! every input, to answer what the published documents ask. This crate is the
 //! way to call it from Rust. It adds types in which wrong lengths cannot be
 //! said: a [`Pool`] has none of the faults of a pool, [`Tables`] are N rows of
-//! N, and a [`Plan`] has all that planning leaves. Nothing here is proved but
-//! what is called; [`raw`] has the calls themselves.
+//! N, and a [`Plan`] has all that planning leaves, with the ids to print it by.
+//! Nothing here is proved but what is called; [`raw`] has the calls themselves.
 //!
 //! "Document 01", which the comments cite, is the scope agreed with the buyer.
 //!
@@ -38,7 +38,7 @@
 //! assert_eq!(plan.weight(), 2_900);
 //! assert_eq!(plan.recipient_of(0), Some(1));
 //! assert_eq!(
-//!     plan.print(pool.ids())?,
+//!     plan.print(),
 //!     "PLAN 2 1 2900\n11 12 12\n12 11 11\nCOUNTS 1 6 1\n",
 //! );
 //!

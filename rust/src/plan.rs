@@ -1,8 +1,9 @@
 //! A plan: all that planning leaves.
 
 use crate::raw::{self, Cycle, PlanAnswer};
-use crate::refused::{finished, text, Refused};
+use crate::refused::{finished, sound, text, Refused};
 use crate::tables::Tables;
+use std::fmt;
 
 /// How many operations on secrets a plan took. It is the same for all pools
 /// of equally many pairs.
@@ -21,15 +22,17 @@ pub struct Tally {
 /// Its cycles are executable and no pair is in two of them, and no other such
 /// set of cycles weighs more than three times as much.
 ///
-/// Pairs go by their numbers, from 0 to N − 1, and not by their ids. A plan
-/// holds a weight for each of (N³ − N) / 6 subsets, 5.3 MB at 200 pairs, which
-/// cloning and comparing go through.
+/// Pairs go by their numbers, from 0 to N − 1; their ids are for the printout,
+/// which `Display` shows as well. A plan holds a weight for each of
+/// (N³ − N) / 6 subsets, 5.3 MB at 200 pairs, which cloning and comparing go
+/// through.
 #[derive(Clone, Debug, PartialEq, Eq, Hash)]
 pub struct Plan {
     answer: PlanAnswer,
     weights: Vec<u32>,
     choices: Vec<u32>,
     // N entries each.
+    ids: Vec<u32>,
     donors: Vec<u16>,
     recipients: Vec<u16>,
     // As many as there are planned cycles.
@@ -46,6 +49,7 @@ impl Plan {
             answer: PlanAnswer::default(),
             weights: vec![0; subsets],
             choices: vec![0; rounds],
+            ids: tables.ids().to_vec(),
             donors: vec![0; n],
             recipients: vec![0; n],
             records: vec![Cycle::default(); rounds],
@@ -70,7 +74,12 @@ impl Plan {
 
     /// The number of pairs, N.
     pub fn pairs(&self) -> usize {
-        self.donors.len()
+        self.ids.len()
+    }
+
+    /// The pairs' ids, in order of the pairs' numbers.
+    pub fn ids(&self) -> &[u32] {
+        &self.ids
     }
 
     /// The sum of the planned cycles' weights.
@@ -138,20 +147,23 @@ impl Plan {
         }
     }
 
-    /// The plan as the program `plan` prints it, for pairs with these ids, in
-    /// order of the pairs' numbers. Ids past the first N are not looked at.
-    ///
-    /// # Errors
-    ///
-    /// Refused are fewer ids than pairs.
-    pub fn print(&self, ids: &[u32]) -> Result<String, Refused> {
+    /// The plan as the program `plan` prints it.
+    pub fn print(&self) -> String {
         let n = self.pairs();
         // Two lines of a word and three numbers of at most 20 digits, and for
-        // each pair a line of three ids of at most 10.
+        // each pair a line of three ids of at most 10. That always suffices,
+        // and nothing but a table or buffer too short is refused.
         let mut printed = vec![0; (4 + 3 * 21 + 1) + n * (3 * 11) + (6 + 3 * 21 + 1)];
-        let (donors, recipients) = (&self.donors, &self.recipients);
+        let (ids, donors, recipients) = (&self.ids, &self.donors, &self.recipients);
         let answer = raw::print_plan(n, self.answer, ids, donors, recipients, &mut printed);
-        finished(answer.refusal, 0)?;
-        Ok(text(printed, answer.length))
+        sound(answer.refusal);
+        text(printed, answer.length)
+    }
+}
+
+/// The printout, as [`Plan::print`] gives it.
+impl fmt::Display for Plan {
+    fn fmt(&self, f: &mut fmt::Formatter<'_>) -> fmt::Result {
+        f.write_str(&self.print())
     }
 }

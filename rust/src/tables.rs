@@ -5,41 +5,44 @@ use crate::pool::{Pool, MOST_PAIRS};
 use crate::raw;
 use crate::refused::{sound, Refusal, Refused};
 
-/// M and W of N pairs: N rows of N entries, row i holding donor i.
+/// M and W of N pairs: N rows of N entries, row i holding donor i. The pairs'
+/// ids go with them, for the plan's printout.
 #[derive(Clone, Debug, PartialEq, Eq, Hash)]
 pub struct Tables {
-    pairs: usize,
+    // N entries.
+    ids: Vec<u32>,
     // N² entries each.
     compatibilities: Vec<u8>,
     weights: Vec<u16>,
 }
 
 impl Tables {
-    /// A caller's own tables. Entry j of row i stands at i × N + j.
+    /// A caller's own tables. N is the number of ids, which stand in order of
+    /// the pairs' numbers. They may be any: nothing but printing looks at them.
+    /// In the other two, entry j of row i stands at i × N + j.
     ///
     /// The compatibility is 1 where donor i may give to patient j, else 0; a
     /// pair's own is 0. [`Tables::plan`] refuses others.
     ///
     /// # Errors
     ///
-    /// Refused are more than [`MOST_PAIRS`] pairs, then a table with fewer
-    /// than N² entries. Entries past N² are let go.
+    /// Refused are more than [`MOST_PAIRS`] pairs; then, as too short, a table
+    /// with fewer than N² entries, or ids too few for a table with more.
     pub fn new(
-        pairs: usize,
-        mut compatibilities: Vec<u8>,
-        mut weights: Vec<u16>,
+        ids: Vec<u32>,
+        compatibilities: Vec<u8>,
+        weights: Vec<u16>,
     ) -> Result<Tables, Refused> {
-        if pairs > MOST_PAIRS {
+        if ids.len() > MOST_PAIRS {
             return Err(Refusal::TooManyPairs.at(0));
         }
-        let entries = pairs * pairs;
-        if compatibilities.len() < entries || weights.len() < entries {
+        // Rows of another length would be read as other pairs' entries.
+        let entries = ids.len() * ids.len();
+        if compatibilities.len() != entries || weights.len() != entries {
             return Err(Refusal::TooShort.at(0));
         }
-        compatibilities.truncate(entries);
-        weights.truncate(entries);
         Ok(Tables {
-            pairs,
+            ids,
             compatibilities,
             weights,
         })
@@ -47,14 +50,14 @@ impl Tables {
 
     /// A pool's tables.
     pub(crate) fn build(pool: &Pool) -> Tables {
-        let pairs = pool.len();
+        let n = pool.len();
         let mut tables = Tables {
-            pairs,
-            compatibilities: vec![0; pairs * pairs],
-            weights: vec![0; pairs * pairs],
+            ids: pool.ids().to_vec(),
+            compatibilities: vec![0; n * n],
+            weights: vec![0; n * n],
         };
         let answer = raw::build(
-            pairs,
+            n,
             pool.fields(),
             &mut tables.compatibilities,
             &mut tables.weights,
@@ -65,7 +68,12 @@ impl Tables {
 
     /// The number of pairs, N.
     pub fn pairs(&self) -> usize {
-        self.pairs
+        self.ids.len()
+    }
+
+    /// The pairs' ids, in order of the pairs' numbers.
+    pub fn ids(&self) -> &[u32] {
+        &self.ids
     }
 
     /// M, row by row.

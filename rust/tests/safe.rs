@@ -79,17 +79,18 @@ fn a_sheet_is_refused_at_its_field() {
 
 #[test]
 fn own_tables_are_planned_or_refused() {
+    let made = |n: u32, m, w| Tables::new((0..n).collect(), vec![0; m], vec![0; w]);
     let too_short = Err(refused(Refusal::TooShort, 0));
-    assert_eq!(Tables::new(2, vec![0; 3], vec![0; 4]), too_short);
-    assert_eq!(Tables::new(2, vec![0; 4], vec![0; 3]), too_short);
+    for (m, w) in [(3, 4), (4, 3), (5, 4), (4, 5), (9, 9)] {
+        assert_eq!(made(2, m, w), too_short);
+    }
+    assert_eq!(made(200, 40_000, 40_000).map(|made| made.pairs()), Ok(200));
     let too_many = Err(refused(Refusal::TooManyPairs, 0));
-    assert_eq!(Tables::new(201, vec![], vec![]), too_many);
-    assert_eq!(Tables::new(usize::MAX, vec![], vec![]), too_many);
+    assert_eq!(made(201, 0, 0), too_many);
 
-    // k10 of document 01, with entries past the ninth that nobody reads.
-    let m = vec![0, 1, 1, 1, 0, 0, 1, 0, 0, 9];
-    let tables = Tables::new(3, m, vec![5; 12]).expect("tables for three");
-    assert_eq!(tables.compatibilities().len(), 9);
+    // k10 of document 01.
+    let m = vec![0, 1, 1, 1, 0, 0, 1, 0, 0];
+    let tables = Tables::new(vec![7, 8, u32::MAX], m, vec![5; 9]).expect("tables for three");
     let plan = tables.plan(&[2, 0, 1]).expect("a plan");
     assert_eq!((plan.weight(), plan.cycles()), (10, 1));
     let cycle = Cycle {
@@ -103,14 +104,51 @@ fn own_tables_are_planned_or_refused() {
     assert_eq!(plan.recipient_of(1), None);
     assert_eq!(plan.recipient_of(3), None);
     assert_eq!((plan.choices().len(), plan.weights().len()), (1, 4));
-    assert_eq!(plan.print(&[1, 2]), Err(refused(Refusal::TooShort, 0)));
+    let printed = "PLAN 3 1 10\n7 4294967295 4294967295\n8 - -\n4294967295 7 7\nCOUNTS 5 32 1\n";
+    assert_eq!(plan.print(), printed);
 
     let why = |shuffle: &[u16]| tables.plan(shuffle).expect_err("no shuffle").why;
     assert_eq!(why(&[0, 1]), Refusal::TooShort);
     assert_eq!(why(&[0, 1, 1]), Refusal::NotAShuffle);
-    let own = Tables::new(1, vec![1], vec![0]).expect("tables for one");
+    let own = Tables::new(vec![7], vec![1], vec![0]).expect("tables for one");
     let own = own.plan(&[0]).expect_err("a donor for the own patient");
     assert_eq!(own.why, Refusal::NotCompatibility);
+}
+
+#[test]
+fn a_plan_is_printed_with_its_own_pairs_ids() {
+    let examples = [
+        (
+            &include_bytes!("../../examples/two.sheet")[..],
+            include_str!("../../examples/two.plan"),
+        ),
+        (
+            include_bytes!("../../examples/eight.sheet"),
+            include_str!("../../examples/eight.plan"),
+        ),
+    ];
+    for (sheet, printed) in examples {
+        let pool = Pool::read(sheet).expect("a sound sheet");
+        let plan = pool.plan();
+        assert_eq!(plan.ids(), pool.ids());
+        assert_eq!(plan.print(), printed);
+        assert_eq!(plan.to_string(), printed);
+        // A pool's tables have its ids too.
+        assert_eq!(pool.tables().plan(pool.shuffle()), Ok(plan));
+    }
+
+    assert_eq!(pool(0).plan().print(), "PLAN 0 0 0\nCOUNTS 0 0 0\n");
+    // Lines of ids as long as can be.
+    let pairs: Vec<Pair> = (0..60).map(|i| pair(u32::MAX - i)).collect();
+    let shuffle: Vec<u16> = (0..60).collect();
+    let pool = Pool::new(&pairs, &shuffle).expect("a sound pool");
+    let printed = pool.plan().print();
+    let lines: Vec<&str> = printed.lines().collect();
+    assert_eq!(lines.len(), 62);
+    for (line, pair) in lines[1..61].iter().zip(&pairs) {
+        assert!(line.starts_with(&format!("{} ", pair.id)));
+        assert_eq!(line.len(), 32);
+    }
 }
 
 #[test]

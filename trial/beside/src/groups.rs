@@ -407,7 +407,7 @@ fn safe_crate(_: u64, random: &mut Random, cases: &mut Cases) -> Result<(), Stri
             let again = vadivuzhen::Pool::new(&pairs, pool.shuffle());
             same("the pool, from its pairs", again.as_ref(), Ok(&pool))?;
             same("the sheet, written again", pool.write(), sheet)?;
-            pool.plan().print(pool.ids()).unwrap_or_else(|r| r.print())
+            pool.plan().print()
         }
         Err(refused) => refused.print(),
     };
