@@ -27,6 +27,7 @@ pub struct Tally {
 /// (N³ − N) / 6 subsets, 5.3 MB at 200 pairs, which cloning and comparing go
 /// through.
 #[derive(Clone, Debug, PartialEq, Eq, Hash)]
+#[must_use = "planning leaves nothing but the plan"]
 pub struct Plan {
     answer: PlanAnswer,
     weights: Vec<u32>,
@@ -148,6 +149,7 @@ impl Plan {
     }
 
     /// The plan as the program `plan` prints it.
+    #[must_use = "the text is given back, and shown nowhere"]
     pub fn print(&self) -> String {
         let n = self.pairs();
         // Two lines of a word and three numbers of at most 20 digits, and for

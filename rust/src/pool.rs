@@ -226,6 +226,7 @@ impl Pool {
     }
 
     /// The pool's sheet. Reading it gives this pool.
+    #[must_use = "the sheet is given back, and stored nowhere"]
     pub fn write(&self) -> Vec<u8> {
         let n = self.len();
         let mut sheet = vec![0; sheet_length(n)];
@@ -239,8 +240,8 @@ impl Pool {
         Tables::build(self)
     }
 
-    /// The pool's plan, made anew by each call, tables and all. A pool has no
-    /// fault, so planning does not refuse it.
+    /// The pool's plan, made anew by each call, tables and all. It knows the
+    /// pool's ids. A pool has no fault, so planning does not refuse it.
     pub fn plan(&self) -> Plan {
         match self.tables().plan(&self.shuffle) {
             Ok(plan) => plan,

@@ -7,6 +7,29 @@
 //!
 //! `refusal` in an answer is document 01's number, and 0 where the call
 //! finished. On a refusal every other number but `place` is 0.
+//!
+//! ```
+//! use vadivuzhen::{raw, Refusal};
+//!
+//! let mut line = [0; 40];
+//! let answer = raw::print_refusal(7, 42, &mut line);
+//! assert_eq!(answer.refusal, 0);
+//! assert_eq!(&line[..answer.length], b"REFUSED 7 42\n");
+//!
+//! let mut short = [0; 5];
+//! let answer = raw::print_refusal(7, 42, &mut short);
+//! assert_eq!(Refusal::try_from(answer.refusal), Ok(Refusal::TooShort));
+//! assert_eq!(short, [0; 5]);
+//! ```
+//!
+//! Who does not look at an answer cannot know whether anything was filled. The
+//! compiler warns of that:
+//!
+//! ```compile_fail
+//! #![deny(unused_must_use)]
+//! let mut line = [0; 40];
+//! vadivuzhen::raw::print_refusal(7, 42, &mut line);
+//! ```
 
 /// A chosen cycle: three pair numbers in giving order from the lowest place.
 /// In a two the third is N.
@@ -25,6 +48,7 @@ pub struct Cycle {
 /// What [`read`] answers.
 #[repr(C)]
 #[derive(Clone, Copy, Debug, Default, PartialEq, Eq, Hash)]
+#[must_use = "the call may have refused"]
 pub struct ReadAnswer {
     /// Document 01's number of the refusal, or 0.
     pub refusal: u32,
@@ -37,6 +61,7 @@ pub struct ReadAnswer {
 /// What [`write()`] answers.
 #[repr(C)]
 #[derive(Clone, Copy, Debug, Default, PartialEq, Eq, Hash)]
+#[must_use = "the call may have refused"]
 pub struct WriteAnswer {
     /// Document 01's number of the refusal, or 0.
     pub refusal: u32,
@@ -47,6 +72,7 @@ pub struct WriteAnswer {
 /// What [`build`] answers.
 #[repr(C)]
 #[derive(Clone, Copy, Debug, Default, PartialEq, Eq, Hash)]
+#[must_use = "the call may have refused"]
 pub struct BuildAnswer {
     /// Document 01's number of the refusal, or 0.
     pub refusal: u32,
@@ -55,6 +81,7 @@ pub struct BuildAnswer {
 /// What [`plan`] answers.
 #[repr(C)]
 #[derive(Clone, Copy, Debug, Default, PartialEq, Eq, Hash)]
+#[must_use = "the call may have refused"]
 pub struct PlanAnswer {
     /// Document 01's number of the refusal, or 0.
     pub refusal: u32,
@@ -73,6 +100,7 @@ pub struct PlanAnswer {
 /// What [`print_plan`] and [`print_refusal`] answer.
 #[repr(C)]
 #[derive(Clone, Copy, Debug, Default, PartialEq, Eq, Hash)]
+#[must_use = "the call may have refused"]
 pub struct PrintAnswer {
     /// Document 01's number of the refusal, or 0.
     pub refusal: u32,

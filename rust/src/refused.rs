@@ -97,6 +97,7 @@ pub struct Refused {
 
 impl Refused {
     /// The line that the program `plan` prints of it.
+    #[must_use = "the line is given back, and shown nowhere"]
     pub fn print(self) -> String {
         // `REFUSED`, two numbers of at most 20 digits, two spaces, a newline.
         let mut line = vec![0; 7 + 2 * 21 + 1];

@@ -8,6 +8,7 @@ use crate::refused::{sound, Refusal, Refused};
 /// M and W of N pairs: N rows of N entries, row i holding donor i. The pairs'
 /// ids go with them, for the plan's printout.
 #[derive(Clone, Debug, PartialEq, Eq, Hash)]
+#[must_use = "building leaves nothing but the tables"]
 pub struct Tables {
     // N entries.
     ids: Vec<u32>,

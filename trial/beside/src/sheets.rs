@@ -206,14 +206,21 @@ pub fn there_and_back(random: &mut Random, pool: &Pool) -> Outcome {
     let bytes = reference::write(n, pool.fields(), &pool.shuffle, sheet::LONGEST)
         .map_err(|refusal| format!("the reference refuses a sound pool: {refusal}"))?;
 
+    let written = WriteAnswer {
+        refusal: 0,
+        length: bytes.len(),
+    };
     let tables = Tables::of(random, pool);
     let mut out = vec![0; bytes.len()];
-    raw::write(n, tables.read(), tables.shuffle.read(), &mut out);
+    let answer = raw::write(n, tables.read(), tables.shuffle.read(), &mut out);
+    same("the answer of writing", answer, written)?;
     let mut read = Tables::empty(random, [n; TABLES]);
-    raw::read(&out, read.fill());
+    let answer = raw::read(&out, read.fill());
+    same("the refusal of reading", answer.refusal, 0)?;
     read.filled(pool)?;
 
     let mut again = vec![0; bytes.len()];
-    raw::write(n, read.read(), read.shuffle.read(), &mut again);
+    let answer = raw::write(n, read.read(), read.shuffle.read(), &mut again);
+    same("the answer of writing again", answer, written)?;
     same("the sheet that was read and written", again, bytes)
 }
