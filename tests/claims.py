@@ -136,17 +136,20 @@ while ahead:
         ahead += brings(code[module(path)]).values()
 
 modules = {f'{file.parent.parent.name}/specs/{file.stem}': len(file.read_text().splitlines()) for file in crates.glob('*/specs/*.antt') if file.stem != 'Lib'}
-tables = {name: {path: int(lines) for path, lines in re.findall(r'^\| `(\w+/specs/\w+)` \| (\d+) \|', re.search(rf'^### {name}: .*?(?=^##|\Z)|\Z', text, re.M | re.S)[0], re.M)} for name in ('Calls', 'Promises', 'Steps')}
-for path in sorted(modules):
-    check([path in table for table in tables.values()].count(True) == 1, f'{path} does not stand in just one of the tables')
-for name, table in tables.items():
-    for path, lines in table.items():
+listed = []
+for name in ('Calls', 'Promises', 'Steps'):
+    table = re.search(rf'^### {name}: .*?(?=^##|\Z)|\Z', text, re.M | re.S)[0]
+    rows = [(path, int(lines)) for path, lines in re.findall(r'^\| `(\w+/specs/\w+)` \| (\d+) \|', table, re.M)]
+    for path, lines in rows:
         check(lines == modules.get(path), f'{path}: {lines} lines given, {modules.get(path)} there')
-        check(name == 'Promises' or (name == 'Calls') == (path in reached), f'{path} is in the wrong table: the public calls {"cite" if path in reached else "do not cite"} it')
-    check(f'### {name}: {sum(table.values()):,} lines\n' in text, f'{name} have {sum(table.values()):,} lines')
-for name in ('Calls', 'Promises'):
-    due = f'some {round(sum(tables[name].values()), -2):,} lines'
-    check(due in (top / 'README.md').read_text(), f'README.md: {name} have {due}')
+        check(name == 'Promises' or (name == 'Calls') == (path in reached), f'{path} is under {name}, and public calls {"cite" if path in reached else "do not cite"} it')
+    total = sum(lines for _, lines in rows)
+    check(table.startswith(f'### {name}: {total:,} lines\n'), f'{name} have {total:,} lines')
+    said = f'some {round(total, -2):,} lines'
+    check(name == 'Steps' or said in (top / 'README.md').read_text(), f'README.md: {name} have {said}')
+    listed += [path for path, _ in rows]
+for path in sorted(modules):
+    check(listed.count(path) == 1, f'{path} stands {listed.count(path)} times in the tables of calls, promises and steps')
 
 
 # ---- Links, and the forms of DECISIONS.md
