@@ -136,7 +136,7 @@ while ahead:
         ahead += brings(code[module(path)]).values()
 
 modules = {f'{file.parent.parent.name}/specs/{file.stem}': len(file.read_text().splitlines()) for file in crates.glob('*/specs/*.antt') if file.stem != 'Lib'}
-listed = []
+tables = {}
 for name in ('Calls', 'Promises', 'Steps'):
     table = re.search(rf'^### {name}: .*?(?=^##|\Z)|\Z', text, re.M | re.S)[0]
     rows = [(path, int(lines)) for path, lines in re.findall(r'^\| `(\w+/specs/\w+)` \| (\d+) \|', table, re.M)]
@@ -147,9 +147,17 @@ for name in ('Calls', 'Promises', 'Steps'):
     check(table.startswith(f'### {name}: {total:,} lines\n'), f'{name} have {total:,} lines')
     said = f'some {round(total, -2):,} lines'
     check(name == 'Steps' or said in (top / 'README.md').read_text(), f'README.md: {name} have {said}')
-    listed += [path for path, _ in rows]
+    tables[name] = [path for path, _ in rows]
 for path in sorted(modules):
-    check(listed.count(path) == 1, f'{path} stands {listed.count(path)} times in the tables of calls, promises and steps')
+    times = sum(tables.values(), []).count(path)
+    check(times == 1, f'{path} stands {times} times in the tables of calls, promises and steps')
+
+planning = [path for path in tables['Calls'] if re.match('greedy|exchange', path) and path != 'exchange/specs/Lent']
+full = [line for path in planning if module(path) for line in module(path).read_text().splitlines()]
+dense = [line for line in full if line.strip() and not line.startswith('use ')]
+bare = [line for line in dense if not line.strip().startswith('--')]
+due = f'have {len(full)} lines; without imports and blank lines {len(dense)}, without comments too {len(bare)}.'
+check(due in text, f'the {len(planning)} modules of planning {due}')
 
 
 # ---- Links, and the forms of DECISIONS.md
