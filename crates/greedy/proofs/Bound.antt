@@ -30,7 +30,7 @@ choice-is f ss (x ∷ ws) = go (ltb f (greatest (x ∷ ws))) refl (greatest-firs
     go true e h = some (omega (arith, ltb-true f (greatest (x ∷ ws)) e, h .there)) (λ i. omega (arith, h .there, h .most i)) (λ i k. omega (arith, h .there, h .first i k))
     go false e h = none refl (λ i. omega (arith, ltb-false f (greatest (x ∷ ws)) e, h .most i))
 
--- ---- what clearingTally does
+-- ---- what clearing does
 
 module _ (c : List ℕ) where
   pub clear-miss : (ss : List (List ℕ)) (ws : List ℕ) (i : ℕ) → shared c (getD ss i []) ≡ 0 → getD (clear c ss ws) i 0 ≡ getD ws i 0

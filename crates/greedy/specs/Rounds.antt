@@ -59,7 +59,7 @@ clear c [] ws = ws
 clear c (s ∷ ss) [] = []
 clear c (s ∷ ss) (x ∷ ws) = cond (meets s c) 0 x ∷ clear c ss ws
 
--- "in clearingTally 2 per two, 3 per triple": a product for each place of each subset
+-- "in clearing 2 per two, 3 per triple": a product for each place of each subset
 unfoldable pub clearingTally : List (List ℕ) → Tally → Tally
 clearingTally [] t = t
 clearingTally (s ∷ ss) t = clearingTally ss (raise 0 (length s) t)
