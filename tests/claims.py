@@ -115,7 +115,8 @@ check(sorted(rules) == sorted(stated), f'the rules of tests/secrets.py are {rule
 # ---- What must be believed: calls, promises, steps
 
 public = re.findall(r'`(\w+)` `(\w+)`', re.search(r'^The public calls are .*|\Z', text, re.M)[0])
-check(public, 'the public calls are not listed')
+for call in re.findall(r'extern "C" fn (\w+)', code[crates / 'vadivuzhen' / 'src' / 'lib.rt']):
+    check(('vadivuzhen', call) in public, f'{call} is not among the public calls')
 
 
 def brings(source):
