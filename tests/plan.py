@@ -1,6 +1,7 @@
 """The program `plan`, run: on the examples, on document 01's numbers and limits, and on whole and damaged sheets beside the planner in Rust (trial/).
 
 usage: plan.py [SEED [COUNT]]      the seed is printed, so that a failure can be run again"""
+import os
 import pathlib
 import random
 import subprocess
@@ -22,7 +23,7 @@ RUST = BUILT / 'release' / 'examples' / 'plan'
 
 def printed(program, sheet):
     run = subprocess.run([program], input=sheet, capture_output=True)
-    return run.stdout.decode() if run.returncode == 0 else f'exit status {run.returncode}'
+    return run.stdout.decode() if run.returncode == 0 and not run.stderr else f'exit status {run.returncode}, {run.stderr}'
 
 
 def expect(what, sheet, want):
@@ -89,6 +90,18 @@ def try_pieces():
     check(run.wait() == 0, 'a sheet that comes in pieces: exit status')
 
 
+def try_lost():
+    """A read that fails, and output that is lost, are said on standard error; of input that could not be read nothing is planned."""
+    with open('/dev/full', 'wb') as full, open(examples / 'two.sheet', 'rb') as sheet:
+        run = subprocess.run([PLAN], stdin=sheet, stdout=full, stderr=subprocess.PIPE)
+        check(run.stderr == b'plan: standard output could not be written; the text is not whole\n', f'output that is lost: {run.stderr}')
+    folder = os.open(examples, os.O_RDONLY)
+    run = subprocess.run([PLAN], stdin=folder, capture_output=True)
+    os.close(folder)
+    check(run.stdout == b'', f'a folder for a sheet: {run.stdout}')
+    check(run.stderr == b'plan: standard input could not be read; nothing was planned\n', f'a folder for a sheet: {run.stderr}')
+
+
 def try_random(draw, count):
     """Sheets of at most 40 pairs and longer ones, whole and damaged."""
     answers = {}
@@ -123,6 +136,7 @@ def main():
     try_examples()
     try_limits()
     try_pieces()
+    try_lost()
     try_random(random.Random(seed), count)
     close()
 

@@ -12,6 +12,7 @@ use Rattle.laws.proofs.Lent.{take-filled}
 use Rattle.refusal.specs.Answer.{Outcome, outcome, finished}
 use Rattle.refusal.specs.declared.Refusal.{Refusal}
 use Rattle.refusal.proofs.Faults.{unless-none, finished-none}
+use Rattle.cycle.specs.declared.Cycle.{Cycle}
 use Rattle.exchange.specs.Subsets.{upToThree, subsetCount}
 use Rattle.exchange.specs.Input.{Request, noFloor, input, inputOf, request}
 use Rattle.exchange.specs.Resolution.{total, donorTable, recipientTable}
@@ -38,8 +39,14 @@ use Rattle.planner.specs.declared.Planned.{Planned}
 use Rattle.planner.specs.declared.Planning.{Planning}
 use Rattle.planner.specs.declared.Planning.the-variants.{Made, Refused}
 use Rattle.answering.specs.Answering.{most, planBy, putting}
-use Rattle.answering.specs.Preconditions.{FaultlessTables, Partnered}
+use Rattle.answering.specs.Preconditions.{FaultlessTables, noRecords, Recorded, Partnered}
 use Rattle.answering.proofs.Texts.{plan-printed, plan-surely}
+
+-- ## The records, which are lent and not kept
+
+pub recorded : (a : Request) (lends left : List Cycle → Lent) (old new : List Cycle) (x : Planning) → old ≡ noRecords
+    → PlansRightly a (lends old) (outcome (Planner.answerOf x) (left new)) → Recorded a lends left (Planner.answerOf x)
+recorded a lends left old new x e h = record { records = new; rightly = rw (sym e) h }
 
 -- ## Tables for 40 pairs
 

@@ -1,16 +1,18 @@
 -- What is promised of answering. Assumes nothing.
-use mathlib.Core.Path.{refl, sym, ap, _∙_}
+use mathlib.Core.Path.{_≡_, refl, sym, ap, _∙_}
 use mathlib.Core.Bool.{xor}
-use mathlib.Core.List.{List, flatMap, flatten}
-use Prim.Native.Nat.{ℕ}
+use mathlib.Core.List.{List, map, flatMap, flatten}
+use Prim.Native.Nat.{ℕ, _≤_}
 use Rattle.laws.specs.Below.{table, either, anyBelow, countBelow, one}
 use Rattle.laws.specs.Digits.{bigEndian}
-use Rattle.refusal.specs.Fault.{Fault, refuse, _then_, firstBelow}
+use Rattle.refusal.specs.Fault.{Fault, none, fault, refuse, _then_, firstBelow}
 use Rattle.refusal.specs.Answer.{finished}
-use Rattle.refusal.proofs.Faults.{none-then}
+use Rattle.refusal.proofs.Faults.{then-none, none-then, by-then}
+use Rattle.pool.specs.Pool.{Pair}
 use Rattle.pool.specs.Sheet.{pairsIn, pairAt, shuffleAt}
 use Rattle.pool.specs.Faults.{groupFault, idFault, pairFault, shuffleFault, fieldFault, headFault, pairFieldFault, shuffleFieldFault, endFault, sheetFault, roomFault}
-use Rattle.pool.proofs.Reading.{sheet-none, room-none}
+use Rattle.pool.specs.Faultless.{Faultless, FaultlessSheet}
+use Rattle.pool.proofs.Reading.{room-none, room-passed, room-fault, sheet-none, sheet-passed, sheet-pool, sheet-fault}
 use Rattle.donation.specs.Compatibility.{bloodTable, suits, has, shareBit, compatibility}
 use Rattle.donation.specs.Weight.{documentPoints, mismatches, mismatchPoints, agePoints, weight}
 use Rattle.donation.proofs.Compatible.{compatibility-most}
@@ -23,20 +25,18 @@ use Rattle.exchange.specs.Resolution.{resolved, recipientBy, donorBy, recipient
 use Rattle.exchange.specs.Input.{Input, noFloor, request}
 use Rattle.exchange.specs.Planning.{leftBy, plannedBy, planFrom}
 use Rattle.exchange.specs.Algorithm1 as Algorithm1
-use Rattle.exchange.specs.Rivals.{Each}
 use Rattle.exchange.proofs.Inverse.{Invertible}
-use Rattle.exchange.proofs.Sets.{Inside}
+use Rattle.exchange.proofs.Charged.{planned-apart}
 use Rattle.exchange.proofs.Planned.{planned-set, rival-factor, all-count}
 use Rattle.exchange.proofs.Tallied.{tallied}
 use Rattle.exchange.proofs.Shuffled.{same-cycles}
-use Rattle.exchange.proofs.Partners.{edges-all, same-donors, same-recipients}
+use Rattle.exchange.proofs.Partners.{table-at, algorithm-partners}
 use Rattle.exchange.proofs.Checked.{answers-rightly}
-use Rattle.exchange.proofs.Guaranteed.{cycles-below}
 use Rattle.text.specs.Text.{digitsWithin, decimal, line}
 use Rattle.partners.specs.Pairs.{partner, pairLine, pairLines}
-use Rattle.printout.specs.Printed.{planText}
-use Rattle.answering.specs.Answering.{most, planBy, poolInput, printedPlanOf, orRefusal, answerText}
-use Rattle.answering.specs.Promises.{BuiltIsPlanned, PlanAnswered, PlansGuaranteed, ExampleAnswered}
+use Rattle.printout.specs.Printed.{PrintedPlan, planText, refusalText}
+use Rattle.answering.specs.Answering.{most, planBy, poolInput, printedPlanOf, orRefusal, answerText, putting, answering}
+use Rattle.answering.specs.Promises.{BuiltIsPlanned, PlanGuarantee, SheetPlanned, AnswerFault, sheet, tooMany, AnsweringIsRight, ExampleAnswered}
 use Rattle.answering.proofs.Pools.{shuffle-seated}
 
 pub built-is-planned : BuiltIsPlanned
@@ -52,32 +52,81 @@ built-is-planned n f old g s t built left once long =
       compatible = record { zeroOrOne = z .zeroOrOne; own = z .ownCompatibility };
     })
 
-pub plan-answered : PlanAnswered
-unfolding answerText orRefusal
-plan-answered b s few =
-    ap (λ (f : Fault). orRefusal f (planText (printedPlanOf (pairsIn b) (pairAt b) (shuffleAt b (pairsIn b)))))
-    (none-then _ _ (sheet-none b s) ∙ room-none most (pairsIn b) few)
+-- ## The printed plan
 
-pub plans-guaranteed : PlansGuaranteed
-unfolding printedPlanOf planBy planFrom
-plans-guaranteed n pair s w =
-    let m : ℕ → ℕ → ℕ = compatibility pair in
-    let v : ℕ → ℕ → ℕ = weight documentPoints pair in
-    let l : List ℕ = table n s in
-    let q : Input = poolInput n pair s in
-    let sh : Invertible n l = shuffle-seated n pair s w in
-    let chosen : List (List ℕ) = Algorithm1.chosenCycles q in
-    let inside : Each (Inside n) (flatMap edges chosen) = edges-all n chosen (cycles-below noFloor 3 n m v l) in
+module _ (n : ℕ) (pair : ℕ → Pair) (s : ℕ → ℕ) (w : Faultless n pair s) where
+  abbrev q : Input
+  q = poolInput n pair s
+
+  abbrev m : ℕ → ℕ → ℕ
+  m = compatibility pair
+
+  abbrev v : ℕ → ℕ → ℕ
+  v = weight documentPoints pair
+
+  seated : Invertible n (table n s)
+  seated = shuffle-seated n pair s w
+
+  same : plannedBy q ≡ map (pairsAt (table n s)) (Algorithm1.chosenCycles q)
+  same = same-cycles noFloor 3 n m v (table n s)
+
+  partners : Algorithm1.Partners q (donorTable n (plannedBy q)) (recipientTable n (plannedBy q))
+  unfolding donorTable recipientTable
+  partners = rw same
+      (algorithm-partners q (rw same at (planned-apart noFloor 3 n m v (table n s) seated)) _ _ (λ i h. table-at n _ i h) (λ i h. table-at n _ i h))
+
+  plan-guarantee : PlanGuarantee q (printedPlanOf n pair s)
+  unfolding printedPlanOf planBy planFrom
+  plan-guarantee =
+      record {
+        planned = plannedBy q;
+        exchanges = planned-set noFloor 3 n m v (table n s) seated (λ i j _ _. compatibility-most pair i j);
+        number = refl;
+        weighs = refl;
+        factor = λ cs h. rival-factor noFloor 3 n m v (table n s) seated cs h (all-count m v cs);
+        counts = tallied noFloor n m v (table n s);
+        partners = partners;
+        cycles = same;
+      }
+
+-- ## The call
+
+module _ (b : List ℕ) where
+  -- the plan of the pool that b says
+  abbrev plan : PrintedPlan
+  plan = printedPlanOf (pairsIn b) (pairAt b) (shuffleAt b (pairsIn b))
+
+  abbrev found : Fault
+  found = sheetFault b then roomFault most (pairsIn b)
+
+  plan-text : FaultlessSheet b → pairsIn b ≤ most → answerText b ≡ planText plan
+  unfolding answerText orRefusal
+  plan-text s few = ap (λ (f : Fault). orRefusal f (planText plan)) (none-then _ _ (sheet-none b s) ∙ room-none most (pairsIn b) few)
+
+  sheet-planned : FaultlessSheet b → SheetPlanned b plan
+  unfolding printedPlanOf planBy
+  sheet-planned s = record { pairs = refl; ids = refl; guarantee = plan-guarantee (pairsIn b) (pairAt b) (shuffleAt b (pairsIn b)) (sheet-pool b s) }
+
+  answer-fault : (k o : ℕ) → found ≡ fault k o → AnswerFault b k o
+  answer-fault k o = by-then (AnswerFault b) (sheetFault b) (roomFault most (pairsIn b))
+      (λ j p e. sheet j p (sheet-fault b j p e))
+      (λ e. room-fault (AnswerFault b) most (pairsIn b) (λ h. tooMany (sheet-passed b e) h)) k o
+
+  refusal-text : (FaultlessSheet b → pairsIn b ≤ most → ⊥) → (k : ℕ) × (place : ℕ) × AnswerFault b k place × (answerText b ≡ refusalText k place)
+  unfolding answerText orRefusal
+  refusal-text unfit = go found refl
+    where
+      go : (f : Fault) → found ≡ f → (k : ℕ) × (place : ℕ) × AnswerFault b k place × (orRefusal f (planText plan) ≡ refusalText k place)
+      go none e = absurd (unfit (sheet-passed b (then-none _ _ e .0)) (room-passed most (pairsIn b) (then-none _ _ e .1)))
+      go (fault k o) e = (k, o, answer-fault k o e, refl)
+
+pub answering-is-right : AnsweringIsRight
+unfolding answering
+answering-is-right b out o e =
     record {
-      planned = plannedBy q;
-      exchanges = planned-set noFloor 3 n m v l sh (λ i j _ _. compatibility-most pair i j);
-      number = refl;
-      weighs = refl;
-      factor = λ cs h. rival-factor noFloor 3 n m v l sh cs h (all-count m v cs);
-      counts = tallied noFloor n m v l;
-      cycles = same-cycles noFloor 3 n m v l;
-      donors = ap (donorTable n) (same-cycles noFloor 3 n m v l) ∙ same-donors n l sh chosen inside;
-      recipients = ap (recipientTable n) (same-cycles noFloor 3 n m v l) ∙ same-recipients n l sh chosen inside;
+      equal = e;
+      plans = λ s few. (plan b, sheet-planned b s, e ∙ ap (λ (t : List ℕ). putting t out) (plan-text b s few));
+      refuses = λ unfit. let r = refusal-text b unfit in (r .0, r .1, r .2, e ∙ ap (λ (t : List ℕ). putting t out) (r .3));
     }
 
 pub example-answered : ExampleAnswered

@@ -1,14 +1,13 @@
--- What is promised of answering, as statements: the proofs are in `proofs/`. Assumes nothing.
-use Prim.Native.Nat.{ℕ, _*_, _≤_}
+-- What is promised of answering, as statements: the proofs are in `proofs/`, and the contract of `answer` carries `AnswersSheet`. Assumes nothing.
+use Prim.Native.Nat.{ℕ, _*_, _≤_, _<_}
 use mathlib.Core.Path.{_≡_}
 use mathlib.Core.List.{List, [], _∷_, _++_, map}
 use lib.ListN.{length, getD, replicate}
 use Rattle.laws.specs.Below.{table}
-use Rattle.refusal.specs.Answer.{finished}
-use Rattle.pool.specs.Pool.{Pair}
+use Rattle.refusal.specs.Answer.{finished, Outcome}
 use Rattle.pool.specs.Sheet.{pairsIn, pairAt, shuffleAt}
 use Rattle.pool.specs.Tables.{Fields}
-use Rattle.pool.specs.Faultless.{EachOnce, Faultless, FaultlessSheet}
+use Rattle.pool.specs.Faultless.{EachOnce, FaultlessSheet, SheetFault}
 use Rattle.donation.specs.Weight.{documentPoints, weight}
 use Rattle.graph.specs.Graph.{Graph}
 use Rattle.weighing.specs.Building.{building}
@@ -20,10 +19,9 @@ use Rattle.exchange.specs.Algorithm1 as Algorithm1
 use Rattle.exchange.specs.Faultless.{LongEnough}
 use Rattle.exchange.specs.Rivals.{ExchangeSetOf, weightIn}
 use Rattle.exchange.specs.Promises.{TallyOf}
-use Rattle.printout.specs.Printed as Printed
 use Rattle.text.specs.Text.{bytesOf}
-use Rattle.printout.specs.Printed.{planText}
-use Rattle.answering.specs.Answering.{most, poolInput, printedPlanOf, answerText}
+use Rattle.printout.specs.Printed.{PrintedPlan, planText, refusalText}
+use Rattle.answering.specs.Answering.{most, poolInput, answerText, putting, answering}
 
 -- tables that were built are planned, with any shuffle and any tables that are long enough: they have no fault 10
 abbrev pub BuiltIsPlanned : Type 0
@@ -35,17 +33,9 @@ BuiltIsPlanned =
     → LongEnough (request n (g .compatibilities) (g .weights) s) t
     → (p : Plan) × (planning (request n (g .compatibilities) (g .weights) s) t .answer ≡ finished p)
 
--- every sheet of at most 40 pairs with none of the listed faults is answered by the plan of its pool
-abbrev pub PlanAnswered : Type 0
-PlanAnswered =
-    (b : List ℕ)
-    → FaultlessSheet b
-    → pairsIn b ≤ most
-    → answerText b ≡ planText (printedPlanOf (pairsIn b) (pairAt b) (shuffleAt b (pairsIn b)))
-
 -- ## Demands 2 and 3, for the plan p that is printed of q
 
-pub record PlanGuarantee (q : Input) (p : Printed.PrintedPlan) : Type 0 where
+pub record PlanGuarantee (q : Input) (p : PrintedPlan) : Type 0 where
   -- the planned cycles: "executable, no pair is in two of them"
   pub planned : List (List ℕ)
   pub exchanges : ExchangeSetOf q planned
@@ -56,12 +46,33 @@ pub record PlanGuarantee (q : Input) (p : Printed.PrintedPlan) : Type 0 where
   -- "every such tally is"
   pub counts : TallyOf (q .scope) (tally (p .comparisons) (p .products) (p .rounds))
   -- "The plan equals that of Algorithm 1, in each pair's donor and recipient", and in its cycles
+  pub partners : Algorithm1.Partners q (p .donors) (p .recipients)
   pub cycles : planned ≡ map (pairsAt (q .shuffle)) (Algorithm1.chosenCycles q)
-  pub donors : p .donors ≡ Algorithm1.donors (q .scope .pairs) (q .shuffle) (Algorithm1.chosenCycles q)
-  pub recipients : p .recipients ≡ Algorithm1.recipients (q .scope .pairs) (q .shuffle) (Algorithm1.chosenCycles q)
 
-abbrev pub PlansGuaranteed : Type 0
-PlansGuaranteed = (n : ℕ) (pair : ℕ → Pair) (s : ℕ → ℕ) → Faultless n pair s → PlanGuarantee (poolInput n pair s) (printedPlanOf n pair s)
+-- the plan p that answers the sheet b: of the pool that b says
+pub record SheetPlanned (b : List ℕ) (p : PrintedPlan) : Type 0 where
+  pub pairs : p .pairs ≡ pairsIn b
+  pub ids : p .ids ≡ table (pairsIn b) (λ i. pairAt b i .id)
+  pub guarantee : PlanGuarantee (poolInput (pairsIn b) (pairAt b) (shuffleAt b (pairsIn b))) p
+
+-- fault k of a sheet that is to be answered, at place o: one of the sheet's, or 9 with place 0 for more than 40 pairs
+pub data AnswerFault (b : List ℕ) : ℕ → ℕ → Type 0 where
+  sheet : (k o : ℕ) → SheetFault b k o → AnswerFault b k o
+  tooMany : FaultlessSheet b → most < pairsIn b → AnswerFault b 9 0
+
+-- ## The promise of the call: o is its answer, and what it leaves of the buffer `out`
+
+pub record AnswersSheet (b out : List ℕ) (o : Outcome ℕ (List ℕ)) : Type 0 where
+  pub equal : o ≡ answering b out
+  -- every sheet of at most 40 pairs with none of the listed faults is answered by the text of a plan for which demands 2 and 3 hold
+  pub plans : FaultlessSheet b → pairsIn b ≤ most → (p : PrintedPlan) × SheetPlanned b p × (o ≡ putting (planText p) out)
+  -- any other is answered by the text of a refusal, which names a fault that is there, and none that is looked for before it
+  pub refuses :
+      (FaultlessSheet b → pairsIn b ≤ most → ⊥)
+      → (k : ℕ) × (place : ℕ) × AnswerFault b k place × (o ≡ putting (refusalText k place) out)
+
+abbrev pub AnsweringIsRight : Type 0
+AnsweringIsRight = (b out : List ℕ) (o : Outcome ℕ (List ℕ)) → o ≡ answering b out → AnswersSheet b out o
 
 -- ## Document 01's example
 

@@ -1,6 +1,7 @@
 // A sheet answered (document 01, 'Writer and printout'): it is read, its tables are built, its pool is planned, and the plan is printed; or the
 // refusal of reading is printed. Nothing else refuses: what reading accepts can be built, what is built can be planned, and the buffer holds every
 // text. So the branches for other refusals are never taken, and that is proved.
+use cycle::Cycle;
 use planner::Planned;
 use planner::Planning;
 use printout::Printing;
@@ -16,9 +17,53 @@ ghost use Rattle.pool.specs.Tables.{pairIn};
 ghost use Rattle.pool.specs.Lent.{lentTables, tablesNow};
 ghost use Rattle.exchange.specs.Input.{inputOf, request};
 ghost use Rattle.printout.specs.Printed.{planText, refusalText};
-ghost use Rattle.planner.specs.Answers.{planIn};
-ghost use Rattle.answering.specs.Answering.{planBy, printedPlanOf, putting, answering};
-ghost use Rattle.answering.specs.Preconditions.{Read, FaultlessTables, Partnered};
+ghost use Rattle.exchange.specs.Planning.{lent};
+ghost use Rattle.planner.specs.Answers.{planIn, answerOf};
+ghost use Rattle.answering.specs.Answering.{planBy, printedPlanOf, putting};
+ghost use Rattle.answering.specs.Promises.{AnswersSheet};
+ghost use Rattle.answering.specs.Preconditions.{Read, FaultlessTables, noRecords, Recorded, Partnered};
+
+// A table of records for 40 pairs.
+fn no_records() -> [Cycle; 20]
+    ensures { λ r. ⌜ r ≡ noRecords ⌝ }
+{
+    [Cycle {
+        first: 0,
+        second: 0,
+        third: 0,
+    }; 20]
+}
+
+// Plans, and lends a table for the records, which are not printed.
+fn plan_recorded(
+    n: usize,
+    m: &[u8],
+    w: &[u16],
+    shuffle: &[u16],
+    weights: &mut [u32],
+    choices: &mut [u32],
+    donors: &mut [u16],
+    recipients: &mut [u16],
+) -> Planning
+    ensures { λ r.
+        let a = request n (now (m .entry)) (now (w .entry)) (now (shuffle .entry)) in
+        let old = lent (now (weights .entry)) (now (choices .entry)) (now (donors .entry)) (now (recipients .entry)) in
+        let new = lent (now (weights .exit)) (now (choices .exit)) (now (donors .exit)) (now (recipients .exit)) in
+        ⌜ Recorded a old new (answerOf r) ⌝ }
+{
+    let mut records = no_records();
+    planner::plan(
+        n,
+        m,
+        w,
+        shuffle,
+        weights,
+        choices,
+        donors,
+        recipients,
+        &mut records,
+    )
+}
 
 // The plan of n pairs with these tables, which planning does not refuse, and its partners.
 fn plan_tables(
@@ -34,10 +79,10 @@ fn plan_tables(
         let a = request n (now (m .entry)) (now (w .entry)) (now (shuffle .entry)) in
         ⌜ Partnered a (now (donors .entry)) (now (recipients .entry)) (planIn r) (now (donors .exit)) (now (recipients .exit)) ⌝ }
 {
-    // 40 pairs have (40³ − 40) / 6 subsets and 20 rounds. The records are not printed, so no table of 20 stands here.
+    // 40 pairs have (40³ − 40) / 6 subsets and 20 rounds.
     let mut weights = [0u32; 10660];
     let mut choices = [0u32; 20];
-    let work = planner::plan_by_value(
+    match plan_recorded(
         n,
         m,
         w,
@@ -46,10 +91,7 @@ fn plan_tables(
         &mut choices,
         donors,
         recipients,
-        20,
-    );
-    let planning = work.planning;
-    match planning {
+    ) {
         Planning::Made(made) => made,
         Planning::Refused(_) => Planned {
             weight: 0,
@@ -154,7 +196,7 @@ fn print_refused(why: Refusal, place: usize, out: &mut [u8; 1458]) -> usize
 
 // Prints the answer to a sheet: the plan of its pool, or the refusal. Gives the text's length. A text has at most 1,458 bytes.
 pub fn answer(sheet: &[u8], out: &mut [u8; 1458]) -> usize
-    ensures { λ r. ⌜ outcome (finished r) (now (out .exit)) ≡ answering (now (sheet .entry)) (now (out .entry)) ⌝ }
+    ensures { λ r. ⌜ AnswersSheet (now (sheet .entry)) (now (out .entry)) (outcome (finished r) (now (out .exit))) ⌝ }
 {
     let mut ids = [0u32; 40];
     let mut donor_blood = [0u8; 40];

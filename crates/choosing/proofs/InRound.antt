@@ -10,7 +10,7 @@ use Rattle.greedy.specs.Rounds as Rounds
 use Rattle.greedy.specs.Rounds.{choosing}
 use Rattle.exchange.specs.Input.{noFloor}
 use Rattle.exchange.specs.Subsets.{upToThree, order}
-use Rattle.gates.specs.Counts.{counted}
+use Rattle.gates.specs.Counting.{counted}
 use Rattle.gates.specs.Secrets.{valueOf}
 use Rattle.gates.specs.declared.Tally.{Tally}
 use Rattle.cursor.specs.Cursor.{placesAt, shown}

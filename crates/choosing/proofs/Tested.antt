@@ -1,5 +1,5 @@
 -- The final test, and the choice. Assumes nothing.
-use Prim.Native.Nat.{ℕ, _≤_, _<_}
+use Prim.Native.Nat.{ℕ}
 use mathlib.Core.Bool.{Bool, true, false, cond}
 use mathlib.Core.List.{List}
 use mathlib.Core.Path.{_≡_, refl, sym, ap, _∙_}
@@ -13,7 +13,7 @@ use Rattle.greedy.specs.Rounds as Rounds
 use Rattle.greedy.specs.Rounds.{Winner, choosing}
 use Rattle.exchange.specs.Input.{noFloor}
 use Rattle.exchange.specs.Subsets.{upToThree, order, subsetCount}
-use Rattle.gates.specs.Counts.{counted, Raised, TallyRoom}
+use Rattle.gates.specs.Counting.{counted, Raised, TallyRoom}
 use Rattle.gates.specs.Secrets.{valueOf}
 use Rattle.gates.specs.declared.Tally.{Tally}
 use Rattle.gates.proofs.Gates.{pick-by, raised}

@@ -9,16 +9,17 @@ use lib.ListN.{length, getD, take, drop}
 use Rattle.greedy.specs.Rounds.{Winner, winner, join}
 use Rattle.greedy.specs.Tally.{raise}
 use Rattle.exchange.specs.Subsets.{upToThree, subsetCount}
-use Rattle.gates.specs.Counts.{counted, Raised, TallyRoom}
+use Rattle.gates.specs.Counting.{counted, Raised, TallyRoom}
 use Rattle.gates.specs.Secrets.{valueOf}
 use Rattle.gates.specs.declared.Secret.{Secret}
 use Rattle.gates.specs.declared.SecretPlaces.{SecretPlaces}
 use Rattle.gates.specs.declared.Tally.{Tally}
 use Rattle.gates.proofs.Gates.{raised}
-use Rattle.cursor.specs.Cursor.{OnSubset, placesAt, shown}
+use Rattle.cursor.specs.Cursor.{OnSubset, placesAt, nextPlaces, shown}
 use Rattle.cursor.specs.declared.Places.{Places}
 use Rattle.cursor.proofs.Number.{count-le}
 use Rattle.cursor.proofs.Order.{in-range}
+use Rattle.cursor.proofs.Following.{goes-on}
 use Rattle.choosing.specs.Parts.{wonBy, Standing, Part}
 use Rattle.choosing.specs.declared.Best.{Best}
 use Rattle.choosing.specs.declared.Won.{Won}
@@ -45,9 +46,13 @@ module _ (n i : ℕ) (p : Places) (asked : Standing (upToThree n) i p) where
   number-few = omega (arith, asked .within, count-le n (asked .few))
 
   pub is-single : (w k : Secret) (at : SecretPlaces) → valueOf k ≡ i → shown at ≡ p
-      → (next : Places) → ((k : ℕ) → k < subsetCount (upToThree n) → p ≡ placesAt (upToThree n) k → next ≡ placesAt (upToThree n) (k + 1)) → (t : Tally)
+      → (next : Places) → next ≡ nextPlaces (upToThree n) p → (t : Tally)
       → (winner (valueOf w) (valueOf k) (counted t) ≡ winner (valueOf w) i (counted t)) × (shown at ≡ placesAt (upToThree n) i) × (next ≡ placesAt (upToThree n) (i + 1))
-  is-single w k at ek ea next e t = (ap (λ (x : ℕ). winner (valueOf w) x (counted t)) ek, ea ∙ asked .there, e i (asked .within) (asked .there))
+  is-single w k at ek ea next e t = (
+    ap (λ (x : ℕ). winner (valueOf w) x (counted t)) ek,
+    ea ∙ asked .there,
+    e ∙ goes-on n (asked .few) i (asked .within) p (asked .there),
+  )
 
 -- ## A part
 

@@ -6,7 +6,7 @@ use lib.ListN.{length}
 use Rattle.greedy.specs.Rounds as Rounds
 use Rattle.exchange.specs.Subsets.{Scope, order, subsetCount}
 use Rattle.exchange.specs.Input.{noFloor}
-use Rattle.gates.specs.Counts.{counted, TallyRoom}
+use Rattle.gates.specs.Counting.{counted, TallyRoom}
 use Rattle.gates.specs.Secrets.{valueOf}
 use Rattle.gates.specs.declared.Tally.{Tally}
 use Rattle.cursor.specs.Cursor.{placesAt}

@@ -12,7 +12,7 @@ ghost use lib.ListN.{length, set};
 ghost use Rattle.greedy.specs.Rounds.{winner, byHalves, choosing};
 ghost use Rattle.exchange.specs.Subsets.{upToThree, order};
 ghost use Rattle.exchange.specs.Input.{noFloor};
-ghost use Rattle.gates.specs.Counts.{counted, TallyRoom, Raised};
+ghost use Rattle.gates.specs.Counting.{counted, TallyRoom, Raised};
 ghost use Rattle.gates.specs.Secrets.{valueOf};
 ghost use Rattle.cursor.specs.Cursor.{OnSubset, places, shown, placesAt};
 ghost use Rattle.choosing.specs.Parts.{wonBy, choiceMade, choiceOf, Standing, Part, Whole, Turn};

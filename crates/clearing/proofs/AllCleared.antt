@@ -1,6 +1,6 @@
 -- All subsets after the choice, one after another. Assumes nothing.
 use Prim.Native.Nat.{ℕ, zero, suc, _+_, _*_, _≤_, _<_}
-use mathlib.Core.Bool.{Bool, true, false, cond}
+use mathlib.Core.Bool.{cond}
 use mathlib.Core.List.{List, [], _∷_}
 use mathlib.Core.Path.{_≡_, refl, sym, ap, ap₂, subst, _∙_}
 use native.Mathlib.Nat.{not-suc-le-zero, le-of-suc-le-suc}
@@ -17,8 +17,8 @@ use Rattle.greedy.specs.Tally.{raise}
 use Rattle.greedy.specs.Places.{meets}
 use Rattle.greedy.specs.Rounds.{clear, clearingTally, clearBefore, clearingTallyBefore}
 use Rattle.greedy.proofs.Tallied.{clear-length, clearing-append}
-use Rattle.exchange.specs.Subsets.{upToThree, order, subsetCount, subsets}
-use Rattle.gates.specs.Counts.{counted, TallyRoom}
+use Rattle.exchange.specs.Subsets.{upToThree, order, subsetCount}
+use Rattle.gates.specs.Counting.{counted, TallyRoom}
 use Rattle.gates.specs.declared.SecretPlaces.{SecretPlaces}
 use Rattle.gates.specs.declared.Tally.{Tally}
 use Rattle.cursor.specs.Cursor.{OnSubset, placesAt, shown, subsetAt}

@@ -11,7 +11,7 @@ ghost use mathlib.Core.List.{[], _∷_};
 ghost use Rattle.greedy.specs.Places.{meets};
 ghost use Rattle.greedy.specs.Rounds as Rounds;
 ghost use Rattle.exchange.specs.Subsets.{upToThree, order};
-ghost use Rattle.gates.specs.Counts.{counted, TallyRoom};
+ghost use Rattle.gates.specs.Counting.{counted, TallyRoom};
 ghost use Rattle.gates.specs.Secrets.{valueOf};
 ghost use Rattle.cursor.specs.Cursor.{OnSubset, shown, subsetAt};
 ghost use Rattle.clearing.specs.Preconditions.{Clearing};

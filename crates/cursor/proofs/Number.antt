@@ -4,7 +4,6 @@ use mathlib.Core.List.{[]}
 use mathlib.Core.Path.{_≡_}
 use native.Mathlib.Nat.{mul-le-mul}
 use native.Mathlib.Omega.{arith}
-use lib.ListN.{length}
 use Rattle.laws.proofs.Products.{square-le}
 use Rattle.exchange.specs.Subsets.{upToThree, order, subsetCount}
 use Rattle.exchange.specs.Promises.{howMany}

@@ -6,7 +6,7 @@ use native.Mathlib.Omega.{arith}
 use native.Mathlib.Nat.{le-refl}
 use native.Mathlib.Decide.{decLt}
 use borrow.Author.Tests.{lt-ltb, le-ltb}
-use lib.ListN.{length, getD, List·getD-eq-default}
+use lib.ListN.{getD, List·getD-eq-default}
 use Rattle.exchange.specs.Subsets.{upToThree, order, subsetCount}
 use Rattle.cursor.specs.Cursor.{OnSubset, places, placesOf, placesAt, below, subsetAt}
 use Rattle.cursor.specs.declared.Places.{Places}

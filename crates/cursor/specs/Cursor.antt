@@ -1,8 +1,8 @@
 -- A cursor over the published order: a subset's places by value. Assumes nothing.
-use Prim.Native.Nat.{ℕ, _≤_, _<_}
-use mathlib.Core.Bool.{cond}
+use Prim.Native.Nat.{ℕ, suc, _+_, _≤_, _<_}
+use mathlib.Core.Bool.{Bool, false, cond}
 use mathlib.Core.List.{List, [], _∷_}
-use lib.Dec.{ltb}
+use lib.Dec.{eqb, ltb}
 use lib.ListN.{getD}
 use Rattle.exchange.specs.Subsets.{Scope, order}
 use Rattle.gates.specs.Secrets.{valueOf}
@@ -23,6 +23,19 @@ placesOf n s = places (getD s 0 n) (getD s 1 n) (getD s 2 n)
 -- the cursor at the subset of number k; past the last, at none
 unfoldable pub placesAt : Scope → ℕ → Places
 placesAt q k = placesOf (q .pairs) (getD (order q) k [])
+
+-- does a cursor stand at the subset s of n places?
+unfoldable pub standsAt : ℕ → Places → List ℕ → Bool
+standsAt n p s = cond (eqb (p .u) (getD s 0 n)) (cond (eqb (p .v) (getD s 1 n)) (eqb (p .w) (getD s 2 n)) false) false
+
+-- the number of the subset at which a cursor stands: how many of those listed come before it
+unfoldable pub numberIn : ℕ → List (List ℕ) → Places → ℕ
+numberIn n [] p = 0
+numberIn n (s ∷ ss) p = cond (standsAt n p s) 0 (suc (numberIn n ss p))
+
+-- the cursor at the subset of the next number
+unfoldable pub nextPlaces : Scope → Places → Places
+nextPlaces q p = placesAt q (numberIn (q .pairs) (order q) p + 1)
 
 -- those of a list that are below n
 unfoldable pub below : ℕ → List ℕ → List ℕ

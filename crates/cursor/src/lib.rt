@@ -1,9 +1,8 @@
 // The published order of subsets, walked by a cursor. Nothing here reads a table: what runs depends on n and the cursor alone.
 ghost use mathlib.Core.Path.{_≡_};
-ghost use Prim.Native.Nat.{ℕ, _+_, _<_, _≤_};
-ghost use lib.ListN.{length};
-ghost use Rattle.exchange.specs.Subsets.{upToThree, order, subsetCount, subsets};
-ghost use Rattle.cursor.specs.Cursor.{OnSubset, placesAt};
+ghost use Prim.Native.Nat.{_≤_};
+ghost use Rattle.exchange.specs.Subsets.{upToThree, subsetCount};
+ghost use Rattle.cursor.specs.Cursor.{OnSubset, placesAt, nextPlaces};
 
 // A cursor: the places of a subset in order, n where there is none. A two has w = n; n, n, n is no subset.
 pub struct Places {
@@ -26,7 +25,7 @@ pub fn first(n: usize) -> Places
 // The subset of the next number.
 pub fn next(n: usize, p: Places) -> Places
     requires { ⌜ OnSubset n p ⌝ }
-    ensures { λ r. ⌜ ((k : ℕ) → k < subsetCount (upToThree n) → p ≡ placesAt (upToThree n) k → r ≡ placesAt (upToThree n) (k + 1)) ⌝ }
+    ensures { λ r. ⌜ r ≡ nextPlaces (upToThree n) p ⌝ }
 {
     let u = p.u;
     let v = p.v;

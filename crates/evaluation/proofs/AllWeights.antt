@@ -14,13 +14,13 @@ use Rattle.laws.proofs.Lent.{Filling, filling-none, filling-more, filling-all}
 use Rattle.laws.proofs.Whole.{filled-whole}
 use Rattle.greedy.specs.Tally as Tallies
 use Rattle.greedy.specs.Tally.{raise}
-use Rattle.exchange.specs.Subsets.{upToThree, order, subsetCount, subsets, entry, weigh, edges, productOf, sumOf, pairsAt, bestCycle, heaviest, cycles, subsetWeight, evaluationTally}
+use Rattle.exchange.specs.Subsets.{upToThree, order, subsetCount, entry, weigh, edges, productOf, sumOf, pairsAt, bestCycle, heaviest, cycles, subsetWeight, evaluationTally}
 use Rattle.exchange.proofs.Evaluated.{evaluating-append}
-use Rattle.gates.specs.Counts.{counted, TallyRoom}
+use Rattle.gates.specs.Counting.{counted, TallyRoom}
 use Rattle.gates.specs.declared.Tally.{Tally}
 use Rattle.cursor.specs.Cursor.{OnSubset, placesAt, subsetAt}
 use Rattle.cursor.specs.declared.Places.{Places}
-use Rattle.cursor.proofs.Order.{Subset, two, three, is-subset, in-range}
+use Rattle.cursor.proofs.Order.{Subset, two, three, in-range}
 use Rattle.cursor.proofs.Number.{count-le}
 use Rattle.cursor.proofs.Standing.{stands-at}
 use Rattle.entries.specs.Preconditions.{Readable, Shuffled, Pairs}

@@ -4,7 +4,7 @@ use mathlib.Core.Path.{_≡_}
 use mathlib.Core.List.{List}
 use lib.ListN.{length}
 use Rattle.exchange.specs.Subsets.{Scope, subsetCount}
-use Rattle.gates.specs.Counts.{TallyRoom}
+use Rattle.gates.specs.Counting.{TallyRoom}
 use Rattle.gates.specs.declared.Tally.{Tally}
 use Rattle.entries.specs.Preconditions.{Readable, Shuffled}
 

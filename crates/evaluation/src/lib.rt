@@ -8,7 +8,7 @@ ghost use mathlib.Core.Path.{_≡_};
 ghost use mathlib.Core.List.{[], _∷_};
 ghost use Prim.Native.Nat.{_<_};
 ghost use Rattle.exchange.specs.Subsets.{upToThree, order, entry, subsetWeight, subsetWeights, evaluationTally};
-ghost use Rattle.gates.specs.Counts.{counted, TallyRoom, Raised};
+ghost use Rattle.gates.specs.Counting.{counted, TallyRoom, Raised};
 ghost use Rattle.gates.specs.Secrets.{valueOf};
 ghost use Rattle.cursor.specs.Cursor.{OnSubset, subsetAt};
 ghost use Rattle.entries.specs.Preconditions.{Readable, Shuffled};

@@ -2,23 +2,22 @@
 use Prim.Native.Nat.{ℕ, _≤_, _<_}
 use mathlib.Core.Bool.{Bool, false, not}
 use mathlib.Core.List.{List}
-use mathlib.Core.Path.{_≡_, refl, sym, ap, _∙_}
+use mathlib.Core.Path.{_≡_, refl, ap, _∙_}
 use native.Mathlib.Omega.{arith}
 use lib.Dec.{eqb, ltb}
-use lib.ListN.{length, getD}
+use lib.ListN.{length}
 use borrow.Author.Tests.{ltb-true, ltb-false, le-ltb, eqb-true, eq-eqb, not-false}
 use Rattle.laws.specs.Below.{either, anyBelow}
 use Rattle.laws.proofs.Below.{true-false, either-false, any-none, none-any}
-use Rattle.refusal.specs.Fault.{Fault, none, fault, refuse, _then_}
-use Rattle.refusal.specs.Answer.{Outcome, finished, refused, unless}
+use Rattle.refusal.specs.Fault.{Fault, none, fault, _then_}
+use Rattle.refusal.specs.Answer.{Outcome, finished, unless}
 use Rattle.refusal.proofs.Faults.{refuse-none, none-refuse, then-none, none-then, by-refuse, by-then, unless-none, unless-fault, finished-none, refused-fault}
-use Rattle.pool.specs.Faults.{shuffleFault, roomFault}
 use Rattle.pool.proofs.Pairs.{shuffle-none, shuffle-passed, shuffle-fault}
 use Rattle.pool.proofs.Reading.{room-none, room-passed, room-fault}
 use Rattle.exchange.specs.Subsets.{entry}
 use Rattle.exchange.specs.Input.{Request}
 use Rattle.exchange.specs.Planning.{Lent, Plan, lengthsOf, tableFault, shortToRead, shortToFill, planFault, planning}
-use Rattle.exchange.specs.Promises.{Answered, AnswersRightly}
+use Rattle.exchange.specs.Promises.{AnswersRightly}
 use Rattle.exchange.specs.Faultless.{LongEnough, Compatibility, FaultlessInput, PlanFault, tooManyPairs, tooShort, notAShuffle, notCompatibility}
 
 module _ (n : ℕ) (M : List ℕ) where

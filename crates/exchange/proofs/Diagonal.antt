@@ -8,7 +8,7 @@ use lib.Dec.{ltb}
 use lib.ListN.{length, getD, length-map}
 use Rattle.laws.specs.Lent.{filled}
 use Rattle.refusal.specs.Fault.{Fault, none, fault}
-use Rattle.refusal.specs.Answer.{finished, Outcome, outcome, unless}
+use Rattle.refusal.specs.Answer.{Outcome, unless}
 use Rattle.greedy.specs.Places.{firstAt}
 use Rattle.greedy.specs.Tally.{tally}
 use Rattle.greedy.specs.Rounds.{Left, rounds}

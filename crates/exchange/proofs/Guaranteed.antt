@@ -1,27 +1,25 @@
 -- Every plan made meets the guarantee. Assumes nothing.
-use Prim.Native.Nat.{ℕ, zero, suc, _≤_, _<_}
+use Prim.Native.Nat.{ℕ, suc, _≤_, _<_}
 use mathlib.Core.Bool.{Bool, true, false, cond}
 use mathlib.Core.List.{List, [], _∷_, map, flatMap}
 use mathlib.Core.Logic.{inl, inr}
 use mathlib.Core.Path.{_≡_, refl, sym, ap, ap₂, _∙_}
 use native.Mathlib.Omega.{arith}
 use native.Mathlib.Nat.{eq-zero-or-pos}
-use native.Mathlib.Decide.{decLt}
 use lib.Dec.{ltb}
 use lib.ListN.{length, getD, take, drop, length-map, length-append, length-drop, List·getD-append}
 use lib.Seq.{take-at}
 use borrow.Author.Tests.{eq-eqb, ne-eqb, le-leb}
-use Rattle.laws.specs.Below.{either, anyBelow}
+use Rattle.laws.specs.Below.{Some}
 use Rattle.laws.specs.Lent.{filled}
 use Rattle.refusal.specs.Fault.{Fault, none, fault}
 use Rattle.refusal.specs.Answer.{Outcome, unless}
 use Rattle.greedy.specs.Places.{meets}
 use Rattle.greedy.specs.Tally.{tally}
-use Rattle.greedy.specs.Rounds.{Left}
-use Rattle.greedy.proofs.Counts.{times, shared, NoneTwice, AllBelow, shared-join, shared-sym, meets-shared}
+use Rattle.greedy.proofs.Counts.{shared, NoneTwice, shared-join, shared-sym, meets-shared}
 use Rattle.greedy.proofs.Bound.{places, subset-met}
 use Rattle.greedy.proofs.Tallied.{rounds-length}
-use Rattle.exchange.specs.Subsets.{subsets, order, subsetCount, edges, entry, pairsAt, bestCycle, subsetWeight, evaluationTally}
+use Rattle.exchange.specs.Subsets.{subsets, order, edges, entry, pairsAt, bestCycle, subsetWeight, evaluationTally}
 use Rattle.exchange.specs.Resolution.{resolved, recordOf, pairsOf, recipientBy, donorBy, recipientTable, donorTable, total}
 use Rattle.exchange.specs.Input.{Input, Request, inputWith, inputOf, request}
 use Rattle.exchange.specs.Planning.{Lent, Plan, roundCount, lengthsOf, planFault, leftBy, plannedBy, planFrom, filledLent, planning}
@@ -29,15 +27,12 @@ use Rattle.exchange.specs.Algorithm1 as Algorithm1
 use Rattle.exchange.specs.Rivals.{Each, Exchange, ExchangeSet}
 use Rattle.exchange.specs.Faultless.{FaultlessInput}
 use Rattle.exchange.specs.Promises.{planned, Guarantee, Guaranteed, PlanningIsRight, SameTally, SameLengths, LengthsStay}
-use Rattle.exchange.proofs.Ordered.{Subset, subsets-all, each-mono}
 use Rattle.exchange.proofs.Inverse.{Invertible, invertible, length-table}
-use Rattle.exchange.proofs.Charged.{weightsOf, weight-at, family, joined, bestCycle-alike, planned-apart}
-use Rattle.exchange.proofs.Sets.{pool-below}
-use Rattle.exchange.proofs.Planned.{planned-set, rival-credit, rival-factor, all-count, credited-most}
+use Rattle.exchange.proofs.Charged.{weightsOf, weight-at, family, joined, planned-apart}
+use Rattle.exchange.proofs.Planned.{planned-set, planned-below, rival-credit, rival-factor, all-count, credited-most}
 use Rattle.exchange.proofs.Tallied.{tallied}
-use Rattle.exchange.proofs.Loop.{each-loop}
-use Rattle.exchange.proofs.Shuffled.{map-is, same-cycles}
-use Rattle.exchange.proofs.Partners.{table-at, edges-all, consistent, same-recipients, same-donors}
+use Rattle.exchange.proofs.Shuffled.{same-cycles}
+use Rattle.exchange.proofs.Partners.{table-at, consistent, algorithm-partners}
 use Rattle.exchange.proofs.Checked.{checked, finished-is, answers-rightly}
 
 -- ---- a cycle and its record
@@ -83,18 +78,6 @@ resolved-few m w s ss (c ∷ cs) = go (ltb c (length ss)) (resolved-few m w s ss
 
 -- ---- a subset that meets a choice
 
-any-true : (n : ℕ) (p : ℕ → Bool) (k : ℕ) → k < n → p k ≡ true → anyBelow n p ≡ true
-unfolding anyBelow either
-any-true zero p k h e = absurd (omega arith)
-any-true (suc n) p k h e = elim (decLt k n) [
-  | yes z ↦ rw (any-true n p k z e)
-  | no z ↦ let q : k ≡ n = omega arith in last (anyBelow n p) (rw (← q) e)
-]
-  where
-    last : (b : Bool) → p n ≡ true → either b (p n) ≡ true
-    last true d = refl
-    last false d = d
-
 met-at : (ss : List (List ℕ)) (t : List ℕ) (cs : List ℕ) → 1 ≤ shared (places ss cs) t
     → (k : ℕ) × (k < length cs) × (meets t (getD ss (getD cs k 0) []) ≡ true)
 unfolding places shared
@@ -107,25 +90,6 @@ met-at ss t (c ∷ cs) h = elim (eq-zero-or-pos (shared (getD ss c []) t)) [
 ]
 
 module _ (f l n : ℕ) (m w : ℕ → ℕ → ℕ) (s : List ℕ) where
-  -- ---- the cycles of Algorithm 1 have places below n
-
-  chosen-below : Each (AllBelow n) (Algorithm1.looped (inputWith f l n m w s) .chosen)
-  unfolding Algorithm1.looped times
-  chosen-below = each-loop (AllBelow n) (λ p h. refl) (length (subsets l n)) f (Algorithm1.subsetWeight s m w) (subsets l n)
-      (each-mono (Subset l n) (AllBelow n) (λ t h. h .below) (subsets l n) (subsets-all l n))
-
-  pub cycles-below : Each (AllBelow n) (Algorithm1.chosenCycles (inputWith f l n m w s))
-  unfolding Algorithm1.chosenCycles
-  cycles-below = go (Algorithm1.looped (inputWith f l n m w s) .chosen) chosen-below
-    where
-      one : (t : List ℕ) → AllBelow n t → AllBelow n (Algorithm1.subsetMap (Algorithm1.shuffled s m) (Algorithm1.shuffled s w) t)
-      one t h = rw (map-is m w s t) (λ p k. omega (arith, bestCycle-alike m w s t p, h p k))
-
-      go : (ts : List (List ℕ)) → Each (AllBelow n) ts
-          → Each (AllBelow n) (map (Algorithm1.subsetMap (Algorithm1.shuffled s m) (Algorithm1.shuffled s w)) ts)
-      go [] h = tt
-      go (t ∷ ts) h = (one t (h .0), go ts (h .1))
-
   -- ---- as many weights as subsets, as many choices as rounds, and no more cycles
 
   choices-long : length (leftBy (inputWith f l n m w s) .choices) ≡ roundCount n
@@ -212,14 +176,6 @@ module _ (n : ℕ) (M W s : List ℕ) (t : Lent) (k : FaultlessInput (request n 
   recipients-at i h = filled-at (recipientTable n cs) (t .recipients) i (omega (arith, length-table n (λ j. recipientBy (flatMap edges cs) n j)))
       ∙ table-at n (λ j. recipientBy (flatMap edges cs) n j) i h
 
-  donors-taken : take n (new .donors) ≡ donorTable n cs
-  unfolding filledLent donorTable
-  donors-taken = take-filled (donorTable n cs) (t .donors) n (length-table n (λ j. donorBy (flatMap edges cs) n j))
-
-  recipients-taken : take n (new .recipients) ≡ recipientTable n cs
-  unfolding filledLent recipientTable
-  recipients-taken = take-filled (recipientTable n cs) (t .recipients) n (length-table n (λ j. recipientBy (flatMap edges cs) n j))
-
   cs-chosen : cs ≡ map (pairsAt s) chosen
   cs-chosen = same-cycles 0 3 n m w s
 
@@ -228,14 +184,17 @@ module _ (n : ℕ) (M W s : List ℕ) (t : Lent) (k : FaultlessInput (request n 
   weight i h = rw (weight-at 3 n m w s i) h
 
   met : (i : ℕ) → 0 < subsetWeight m w s (getD (order (q .scope)) i [])
-      → anyBelow (roundCount n) (λ j. meets (getD (order (q .scope)) i []) (getD (order (q .scope)) (getD (new .choices) j 0) [])) ≡ true
+      → Some (roundCount n) (λ j. meets (getD (order (q .scope)) i []) (getD (order (q .scope)) (getD (new .choices) j 0) []) ≡ true)
   unfolding filledLent leftBy
   met i h =
       let ss : List (List ℕ) = order (q .scope) in
       let found = met-at ss (getD ss i []) (leftBy q .choices)
       (subset-met 0 n (roundCount n) ss (weightsOf 3 n m w s) (evaluationTally ss (tally 0 0 0)) (family 3 n m w s) (omega arith) i (weight i h)) in
-      any-true (roundCount n) _ (found .0) (omega (arith, found .1, choices-long 0 3 n m w s))
-      (ap (λ (c : ℕ). meets (getD ss i []) (getD ss c [])) (filled-at (leftBy q .choices) (t .choices) (found .0) (found .1)) ∙ found .2)
+      record {
+        at = found .0;
+        below = omega (arith, found .1, choices-long 0 3 n m w s);
+        there = ap (λ (c : ℕ). meets (getD ss i []) (getD ss c [])) (filled-at (leftBy q .choices) (t .choices) (found .0) (found .1)) ∙ found .2;
+      }
 
   guarantee : Guarantee q (planFrom q) new
   unfolding planFrom
@@ -246,18 +205,17 @@ module _ (n : ℕ) (M W s : List ℕ) (t : Lent) (k : FaultlessInput (request n 
     credit = λ rivals h. rw planned-is (rival-credit 0 3 n m w s sh rivals h (all-count m w rivals));
     credit-most = rw planned-is (credited-most 3 n m w cs (set .exchanges));
     tally = tallied 0 n m w s;
+    partners = partners;
     cycles = planned-is ∙ cs-chosen;
-    donors = donors-taken ∙ ap (donorTable n) cs-chosen ∙ same-donors n s sh chosen (edges-all n chosen (cycles-below 0 3 n m w s));
-    recipients = recipients-taken ∙ ap (recipientTable n) cs-chosen ∙ same-recipients n s sh chosen (edges-all n chosen (cycles-below 0 3 n m w s));
-    consistent = rw planned-is (consistent n cs below once (new .donors) (new .recipients) donors-at recipients-at);
+    consistent = rw planned-is (consistent n cs (planned-below 0 3 n m w s sh) once (new .donors) (new .recipients) donors-at recipients-at);
     met = met;
   }
     where
-      below : Each (AllBelow n) cs
-      below = each-mono (Exchange 3 n m) (AllBelow n) (λ c h. pool-below n c (h .pool)) cs (set .exchanges)
-
       once : NoneTwice (joined cs)
       once = planned-apart 0 3 n m w s sh
+
+      partners : Algorithm1.Partners q (new .donors) (new .recipients)
+      partners = algorithm-partners q (rw cs-chosen at once) (new .donors) (new .recipients) (rw cs-chosen at donors-at) (rw cs-chosen at recipients-at)
 
 pub guaranteed : Guaranteed
 unfolding planning

@@ -16,7 +16,6 @@ use Rattle.greedy.proofs.Counts.{meets-sym}
 use Rattle.greedy.proofs.Choosing.{greatest-first}
 use Rattle.exchange.specs.Subsets.{firstOf, heaviest}
 use Rattle.exchange.specs.Rivals.{Each}
-use Rattle.exchange.proofs.Weighed.{each-firstOf}
 use Rattle.exchange.specs.Algorithm1.{someAbove, without, Loop, loop}
 
 -- ---- what is left of S, and the table with 0 for what is not
@@ -203,24 +202,6 @@ loop-ends (suc k) f weight S h e = go (someAbove f weight S) refl (λ z. loop-en
         → someAbove f weight ((cond {A = Loop} b (record { chosen = heaviest weight S ∷ next .chosen; rest = next .rest }) (record { chosen = []; rest = S })) .rest) ≡ false
     go true q ih = ih (omega (arith, heaviest-less weight S (above-some f weight S q) e))
     go false q ih = q
-
--- what holds of every subset holds of every chosen one
-pub each-loop : (P : List ℕ → Type 0) → P [] → (k f : ℕ) (weight : List ℕ → ℕ) (S : List (List ℕ)) → Each P S → Each P (loop k f weight S .chosen)
-unfolding loop heaviest
-each-loop P p zero f weight S h = tt
-each-loop P p (suc k) f weight S h = go (someAbove f weight S) (each-loop P p k f weight (without (heaviest weight S) S) (each-without P (heaviest weight S) S h))
-  where
-    next : Loop
-    next = loop k f weight (without (heaviest weight S) S)
-
-    first : (S : List (List ℕ)) → Each P S → P (heaviest weight S)
-    first [] h = p
-    first (s ∷ S) h = each-firstOf P weight s S (h .0) (h .1)
-
-    go : (b : Bool) → Each P (next .chosen)
-        → Each P ((cond {A = Loop} b (record { chosen = heaviest weight S ∷ next .chosen; rest = next .rest }) (record { chosen = []; rest = S })) .chosen)
-    go true e = (first S h, e)
-    go false e = tt
 
 -- ---- the subsets that rounds choose
 

@@ -1,36 +1,33 @@
--- Donors and recipients: the order of the cycles, each other's inverse, and those of Algorithm 1 with the shuffle undone. Assumes nothing.
+-- Donors and recipients: the order of the cycles, each other's inverse, and those of Algorithm 1. Assumes nothing.
 use Prim.Native.Nat.{ℕ, zero, suc, _≤_, _<_}
-use mathlib.Core.Bool.{Bool, true, false, cond}
-use mathlib.Core.List.{List, [], _∷_, _++_, map, flatMap, List·Memᴰ, List·Memᴰ·head, List·Memᴰ·tail, Memᴰ·cast, Memᴰ·append-left, Memᴰ·append-right}
+use mathlib.Core.Bool.{true, false, cond}
+use mathlib.Core.List.{List, [], _∷_, _++_, map, flatMap, List·Memᴰ, List·Memᴰ·head, List·Memᴰ·tail, Memᴰ·cast, Memᴰ·map, Memᴰ·append-left, Memᴰ·append-right, List·Memᴰ·append-cases}
 use mathlib.Core.Logic.{inl, inr}
 use mathlib.Core.Path.{_≡_, refl, sym, ap, ap₂, _∙_}
 use native.Mathlib.Omega.{arith}
 use native.Mathlib.Nat.{eq-zero-or-pos}
 use native.Mathlib.Decide.{decLt}
-use lib.Dec.{eqb, leb}
-use lib.ListN.{length, getD, length-append, List·getD-append}
+use lib.Dec.{eqb, ltb}
+use lib.ListN.{length, getD, length-append, length-map, List·getD-append}
 use lib.Seq.{getD-at}
 use borrow.Author.Tests.{lt-ltb, le-ltb, eq-eqb, ne-eqb, leb-true, le-leb, lt-leb}
-use Rattle.laws.specs.Below.{table, one, Once}
-use Rattle.greedy.specs.Places.{among, firstAt}
+use Rattle.laws.specs.Below.{table, ExactlyOne}
+use Rattle.greedy.specs.Places.{among}
 use Rattle.greedy.proofs.Counts.{times, NoneTwice, AllBelow, Alike, one-eq, same, other, same?, times-append, times-cons, among-times}
 use Rattle.exchange.specs.Subsets.{Edge, along, edges, pairsAt}
-use Rattle.exchange.specs.Resolution.{recipientBy, donorBy, recipientTable, donorTable}
+use Rattle.exchange.specs.Resolution.{recipientBy, donorBy}
+use Rattle.exchange.specs.Input.{Input}
 use Rattle.exchange.specs.Algorithm1 as Algorithm1
+use Rattle.exchange.specs.Algorithm1.{next, Partner}
+use Rattle.exchange.specs.Algorithm1.Partner.{somebody, nobody}
 use Rattle.exchange.specs.Promises.{GivingOrder, Consistent}
 use Rattle.exchange.specs.Rivals.{Each}
 use Rattle.exchange.proofs.Ordered.{each-append}
-use Rattle.exchange.proofs.Inverse.{Invertible, length-table}
+use Rattle.exchange.proofs.Inverse.{length-table}
 use Rattle.exchange.proofs.Charged.{joined}
 use Rattle.exchange.proofs.Sets.{Inside, edges-inside, below-pool}
-use Rattle.exchange.proofs.Shuffled.{moved, edges-pairs}
 
 -- ---- tables
-
-pub table-same : (n : ℕ) (f g : ℕ → ℕ) → ((i : ℕ) → i < n → f i ≡ g i) → table n f ≡ table n g
-unfolding table
-table-same zero f g h = refl
-table-same (suc n) f g h = ap₂ (λ (l : List ℕ) (x : ℕ). l ++ (x ∷ [])) (table-same n f g (λ i k. h i (omega arith))) (h n (omega arith))
 
 pub table-at : (n : ℕ) (f : ℕ → ℕ) (i : ℕ) → i < n → getD (table n f) i 0 ≡ f i
 unfolding table
@@ -42,15 +39,15 @@ table-at (suc n) f i h = elim (decLt i n) [
 
 -- ---- donors are recipients along the edges turned round
 
-abbrev turned : Edge → Edge
+abbrev pub turned : Edge → Edge
 turned e = record { donor = e .patient; patient = e .donor }
 
-donor-turned : (es : List Edge) (none i : ℕ) → donorBy es none i ≡ recipientBy (map turned es) none i
+pub donor-turned : (es : List Edge) (none i : ℕ) → donorBy es none i ≡ recipientBy (map turned es) none i
 unfolding donorBy recipientBy
 donor-turned [] none i = refl
-donor-turned (e ∷ es) none i = donor-turned es (cond (eqb i (e .patient)) (e .donor) none) i
+donor-turned (e ∷ es) none i = ap (cond (eqb i (e .patient)) (e .donor)) (donor-turned es none i)
 
-abbrev from : List Edge → List ℕ
+abbrev pub from : List Edge → List ℕ
 from es = map (λ (e : Edge). e .donor) es
 
 abbrev to : List Edge → List ℕ
@@ -58,7 +55,7 @@ to es = map (λ (e : Edge). e .patient) es
 
 -- ---- whom a donor gives to
 
-absent : (es : List Edge) (none i : ℕ) → times i (from es) ≡ 0 → recipientBy es none i ≡ none
+pub absent : (es : List Edge) (none i : ℕ) → times i (from es) ≡ 0 → recipientBy es none i ≡ none
 unfolding recipientBy times
 absent [] none i h = refl
 absent (e ∷ es) none i h = elim (same? i (e .donor)) [
@@ -66,13 +63,19 @@ absent (e ∷ es) none i h = elim (same? i (e .donor)) [
   | other q z ↦ rw (ne-eqb i (e .donor) q) (absent es none i (omega arith))
 ]
 
+named : (es : List Edge) (e : Edge) → List·Memᴰ e es → 1 ≤ times (e .donor) (from es)
+unfolding times
+named (d ∷ es) e (List·Memᴰ·head q) = omega (arith, one-eq (e .donor) (d .donor) (ap (λ (x : Edge). x .donor) q))
+named (d ∷ es) e (List·Memᴰ·tail k) = omega (arith, named es e k)
+
 present : (es : List Edge) (none : ℕ) (e : Edge) → List·Memᴰ e es → NoneTwice (from es) → recipientBy es none (e .donor) ≡ e .patient
 unfolding recipientBy times
 present (d ∷ es) none e (List·Memᴰ·head q) o =
-    let a : e .donor ≡ d .donor = ap (λ (x : Edge). x .donor) q in
-    let b : e .patient ≡ d .patient = ap (λ (x : Edge). x .patient) q in
-    rw (eq-eqb (e .donor) (d .donor) a) (absent es (d .patient) (e .donor) (omega (arith, o (e .donor), one-eq (e .donor) (d .donor) a)) ∙ sym b)
-present (d ∷ es) none e (List·Memᴰ·tail k) o = present es (cond (eqb (e .donor) (d .donor)) (d .patient) none) e k (λ p. omega (arith, o p))
+    rw (eq-eqb (e .donor) (d .donor) (ap (λ (x : Edge). x .donor) q)) (ap (λ (x : Edge). x .patient) (sym q))
+present (d ∷ es) none e (List·Memᴰ·tail k) o = elim (same? (e .donor) (d .donor)) [
+  | same q z ↦ absurd (omega (arith, o (e .donor), named es e k))
+  | other q z ↦ rw (ne-eqb (e .donor) (d .donor) q) (present es none e k (λ p. omega (arith, o p)))
+]
 
 found : (es : List Edge) (i : ℕ) → 1 ≤ times i (from es) → (e : Edge) × List·Memᴰ e es × (e .donor ≡ i)
 unfolding times
@@ -86,7 +89,7 @@ mem-turned : (e : Edge) (es : List Edge) → List·Memᴰ e es → List·Memᴰ 
 mem-turned e (d ∷ es) (List·Memᴰ·head q) = List·Memᴰ·head (ap (λ (x : Edge). turned x) q)
 mem-turned e (d ∷ es) (List·Memᴰ·tail k) = List·Memᴰ·tail (mem-turned e es k)
 
-from-turned : (es : List Edge) → from (map turned es) ≡ to es
+pub from-turned : (es : List Edge) → from (map turned es) ≡ to es
 from-turned [] = refl
 from-turned (e ∷ es) = ap (λ (l : List ℕ). e .patient ∷ l) (from-turned es)
 
@@ -94,11 +97,15 @@ to-turned : (es : List Edge) → to (map turned es) ≡ from es
 to-turned [] = refl
 to-turned (e ∷ es) = ap (λ (l : List ℕ). e .donor ∷ l) (to-turned es)
 
+twice : (es : List Edge) → map turned (map turned es) ≡ es
+twice [] = refl
+twice (e ∷ es) = ap (λ (l : List Edge). e ∷ l) (twice es)
+
 each-mem : {A : Type 0} (P : A → Type 0) (x : A) (xs : List A) → List·Memᴰ x xs → Each P xs → P x
 each-mem P x (y ∷ xs) (List·Memᴰ·head e) h = rw e (h .0)
 each-mem P x (y ∷ xs) (List·Memᴰ·tail k) h = each-mem P x xs k (h .1)
 
-each-turned : (n : ℕ) (es : List Edge) → Each (Inside n) es → Each (Inside n) (map turned es)
+pub each-turned : (n : ℕ) (es : List Edge) → Each (Inside n) es → Each (Inside n) (map turned es)
 each-turned n [] h = tt
 each-turned n (e ∷ es) h = ((h .0 .1, h .0 .0), each-turned n es (h .1))
 
@@ -151,12 +158,12 @@ map-edges : (f : Edge → ℕ) (a b : List Edge) → map f (a ++ b) ≡ map f a 
 map-edges f [] b = refl
 map-edges f (x ∷ a) b = ap (λ (l : List ℕ). f x ∷ l) (map-edges f a b)
 
-from-all : (cs : List (List ℕ)) → from (flatMap edges cs) ≡ joined cs
+pub from-all : (cs : List (List ℕ)) → from (flatMap edges cs) ≡ joined cs
 unfolding flatMap joined
 from-all [] = refl
 from-all (c ∷ cs) = map-edges (λ (e : Edge). e .donor) (edges c) (flatMap edges cs) ∙ ap₂ _++_ (from-edges c) (from-all cs)
 
-to-all : (cs : List (List ℕ)) → Alike (to (flatMap edges cs)) (joined cs)
+pub to-all : (cs : List (List ℕ)) → Alike (to (flatMap edges cs)) (joined cs)
 unfolding flatMap joined
 to-all [] p = refl
 to-all (c ∷ cs) p = rw (map-edges (λ (e : Edge). e .patient) (edges c) (flatMap edges cs)) (omega (
@@ -198,10 +205,58 @@ edge-last (a ∷ c) q h = Memᴰ·cast
     (ap₂ edge (sym (List·getD-append (a ∷ c) (a ∷ []) 0 q (omega arith))) (sym (getD-at (a ∷ c) a [] 0 (suc q) (sym h))))
     (along-at (a ∷ c ++ (a ∷ [])) q (omega (arith, length-append (a ∷ c) (a ∷ []))))
 
+edge-at : (c : List ℕ) (k : ℕ) → k < length c → List·Memᴰ (edge (getD c k 0) (getD c (next (length c) k) 0)) (edges c)
+unfolding next
+edge-at c k h = elim (decLt (suc k) (length c)) [
+  | yes z ↦ rw (lt-ltb (suc k) (length c) z) (edge-next c k z)
+  | no z ↦ rw (le-ltb (suc k) (length c) (omega arith)) (edge-last c k (omega arith))
+]
+
+next-below : (size k : ℕ) → k < size → next size k < size
+unfolding next
+next-below size k h = elim (decLt (suc k) size) [
+  | yes z ↦ rw (lt-ltb (suc k) size z) z
+  | no z ↦ rw (le-ltb (suc k) size (omega arith)) (omega arith)
+]
+
+-- and each edge of a cycle goes from a place to the next
+
+record Step (c : List ℕ) (i j : ℕ) : Type 0 where
+  at : ℕ
+  within : at < length c
+  giver : getD c at 0 ≡ i
+  receiver : getD c (next (length c) at) 0 ≡ j
+
+along-place : (xs : List ℕ) (e : Edge) → List·Memᴰ e (along xs)
+    → (k : ℕ) × (suc k < length xs) × (getD xs k 0 ≡ e .donor) × (getD xs (suc k) 0 ≡ e .patient)
+unfolding along
+along-place (a ∷ b ∷ xs) e (List·Memᴰ·head q) = (0, omega arith, ap (λ (x : Edge). x .donor) (sym q), ap (λ (x : Edge). x .patient) (sym q))
+along-place (a ∷ b ∷ xs) e (List·Memᴰ·tail k) = let r = along-place (b ∷ xs) e k in (suc (r .0), omega (arith, r .1), r .2, r .3)
+
+edge-place : (c : List ℕ) (e : Edge) → List·Memᴰ e (edges c) → Step c (e .donor) (e .patient)
+unfolding edges next
+edge-place (a ∷ c) e m =
+    let r = along-place (a ∷ c ++ (a ∷ [])) e m in
+    let h : r .0 < length (a ∷ c) = omega (arith, r .1, length-append (a ∷ c) (a ∷ [])) in
+    record { at = r .0; within = h; giver = sym (List·getD-append (a ∷ c) (a ∷ []) 0 (r .0) h) ∙ r .2; receiver = closing (r .0) h ∙ r .3 }
+  where
+    closing : (k : ℕ) → k < length (a ∷ c) → getD (a ∷ c) (cond (ltb (suc k) (length (a ∷ c))) (suc k) 0) 0 ≡ getD (a ∷ c ++ (a ∷ [])) (suc k) 0
+    closing k h = elim (decLt (suc k) (length (a ∷ c))) [
+      | yes z ↦ rw (lt-ltb (suc k) (length (a ∷ c)) z) (sym (List·getD-append (a ∷ c) (a ∷ []) 0 (suc k) z))
+      | no z ↦ rw (le-ltb (suc k) (length (a ∷ c)) (omega arith)) (sym (getD-at (a ∷ c) a [] 0 (suc k) (omega arith)))
+    ]
+
 mem-all : (e : Edge) (c : List ℕ) (cs : List (List ℕ)) → List·Memᴰ c cs → List·Memᴰ e (edges c) → List·Memᴰ e (flatMap edges cs)
 unfolding flatMap
 mem-all e c (d ∷ cs) (List·Memᴰ·head q) k = Memᴰ·append-left (flatMap edges cs) (rw q at k)
 mem-all e c (d ∷ cs) (List·Memᴰ·tail m) k = Memᴰ·append-right (edges d) (mem-all e c cs m k)
+
+all-place : (e : Edge) (cs : List (List ℕ)) → List·Memᴰ e (flatMap edges cs) → (c : List ℕ) × List·Memᴰ c cs × List·Memᴰ e (edges c)
+unfolding flatMap
+all-place e (c ∷ cs) k = elim (List·Memᴰ·append-cases (edges c) k) [
+  | inl m ↦ (c, List·Memᴰ·head refl, m)
+  | inr m ↦ let r = all-place e cs m in (r .0, List·Memᴰ·tail (r .1), r .2)
+]
 
 each-is : {A : Type 0} (P : A → Type 0) (xs : List A) → ((x : A) → List·Memᴰ x xs → P x) → Each P xs
 each-is P [] h = tt
@@ -215,39 +270,32 @@ joined-at [] k i = omega arith
 joined-at (c ∷ cs) zero i = omega (arith, times-append i c (joined cs))
 joined-at (c ∷ cs) (suc k) i = omega (arith, times-append i c (joined cs), joined-at cs k i)
 
-one-among : (i : ℕ) (c : List ℕ) → 1 ≤ times i c → one (among i c) ≡ 1
-unfolding one
-one-among i c h = rw (among-times i c, le-leb 1 (times i c) h)
+is-among : (i : ℕ) (c : List ℕ) → 1 ≤ times i c → among i c ≡ true
+is-among i c h = among-times i c ∙ le-leb 1 (times i c) h
 
-among-one : (i : ℕ) (c : List ℕ) → one (among i c) ≡ 1 → 1 ≤ times i c
-unfolding one
-among-one i c h = go (leb 1 (times i c)) refl (rw (among-times i c) at h)
-  where
-    go : (b : Bool) → leb 1 (times i c) ≡ b → one b ≡ 1 → 1 ≤ times i c
-    go true e k = leb-true 1 (times i c) e
-    go false e k = absurd (omega arith)
+among-is : (i : ℕ) (c : List ℕ) → among i c ≡ true → 1 ≤ times i c
+among-is i c h = leb-true 1 (times i c) (sym (among-times i c) ∙ h)
 
-not-among : (i : ℕ) (c : List ℕ) → times i c ≡ 0 → one (among i c) ≡ 0
-unfolding one
-not-among i c h = rw (among-times i c, lt-leb 1 (times i c) (omega arith))
+not-among : (i : ℕ) (c : List ℕ) → times i c ≡ 0 → among i c ≡ false
+not-among i c h = among-times i c ∙ lt-leb 1 (times i c) (omega arith)
 
-in-one : (i : ℕ) (cs : List (List ℕ)) → NoneTwice (joined cs) → 1 ≤ times i (joined cs) → Once (length cs) (λ k. one (among i (getD cs k []))) 1
+in-one : (i : ℕ) (cs : List (List ℕ)) → NoneTwice (joined cs) → 1 ≤ times i (joined cs) → ExactlyOne (length cs) (λ k. among i (getD cs k []) ≡ true)
 unfolding joined times
 in-one i [] o h = absurd (omega arith)
 in-one i (c ∷ cs) o h = elim (eq-zero-or-pos (times i c)) [
-  | inr z ↦ record { at = 0; below = omega arith; there = one-among i c z; only = λ k y e. first k e z }
+  | inr z ↦ record { at = 0; below = omega arith; there = is-among i c z; only = λ k y e. first k e z }
   | inl z ↦
       let r = in-one i cs (λ p. omega (arith, o p, times-append p c (joined cs))) (omega (arith, h, times-append i c (joined cs))) in
       record { at = suc (r .at); below = omega (arith, r .below); there = r .there; only = λ k y e. later k y e z (λ j q d. r .only j q d) }
 ]
   where
-    first : (k : ℕ) → one (among i (getD (c ∷ cs) k [])) ≡ 1 → 1 ≤ times i c → k ≡ 0
+    first : (k : ℕ) → among i (getD (c ∷ cs) k []) ≡ true → 1 ≤ times i c → k ≡ 0
     first zero e z = refl
-    first (suc k) e z = absurd (omega (arith, o i, times-append i c (joined cs), joined-at cs k i, among-one i (getD cs k []) e))
+    first (suc k) e z = absurd (omega (arith, o i, times-append i c (joined cs), joined-at cs k i, among-is i (getD cs k []) e))
 
-    later : {at : ℕ} (k : ℕ) → k < length (c ∷ cs) → one (among i (getD (c ∷ cs) k [])) ≡ 1 → times i c ≡ 0
-        → ((j : ℕ) → j < length cs → one (among i (getD cs j [])) ≡ 1 → j ≡ at) → k ≡ suc at
-    later zero y e z g = absurd (omega (arith, among-one i c e))
+    later : {at : ℕ} (k : ℕ) → k < length (c ∷ cs) → among i (getD (c ∷ cs) k []) ≡ true → times i c ≡ 0
+        → ((j : ℕ) → j < length cs → among i (getD cs j []) ≡ true → j ≡ at) → k ≡ suc at
+    later zero y e z g = absurd (omega (arith, among-is i c e))
     later (suc k) y e z g = ap suc (g k (omega arith) e)
 
 -- ---- the two tables
@@ -274,10 +322,6 @@ module _ (n : ℕ) (cs : List (List ℕ)) (below : Each (AllBelow n) cs) (once :
   -- a donor is a recipient the other way round
   recipient-turned : (i : ℕ) → donorBy (map turned es) n i ≡ recipientBy es n i
   recipient-turned i = donor-turned (map turned es) n i ∙ ap (λ (l : List Edge). recipientBy l n i) (twice es)
-    where
-      twice : (l : List Edge) → map turned (map turned l) ≡ l
-      twice [] = refl
-      twice (e ∷ l) = ap (λ (r : List Edge). e ∷ r) (twice l)
 
   forth : (i j : ℕ) → i < n → donorBy es n j ≡ i → recipientBy es n i ≡ j
   forth i j h e =
@@ -345,10 +389,8 @@ module _ (n : ℕ) (cs : List (List ℕ)) (below : Each (AllBelow n) cs) (once :
     known = λ i h. omega (arith, r i h, recipient-known i);
     donorKnown = λ i h. omega (arith, d i h, donor-known i);
     inOrder = each-is (λ (c : List ℕ). GivingOrder c donors recipients) cs (λ c k. record {
-      gives = λ q h. recipient-of _ (mem-all _ c cs k (edge-next c q h));
-      closes = λ q h. recipient-of _ (mem-all _ c cs k (edge-last c q h));
-      receives = λ q h. donor-of _ (mem-all _ c cs k (edge-next c q h));
-      closed = λ q h. donor-of _ (mem-all _ c cs k (edge-last c q h));
+      gives = λ q h. recipient-of _ (mem-all _ c cs k (edge-at c q h));
+      receives = λ q h. donor-of _ (mem-all _ c cs k (edge-at c q h));
     });
   }
     where
@@ -364,59 +406,91 @@ module _ (n : ℕ) (cs : List (List ℕ)) (below : Each (AllBelow n) cs) (once :
         | inr z ↦ absurd (omega (arith, r i h, in-gives i (omega (arith, joined-at cs k i))))
       ]
 
--- ---- the shuffle undone
+-- ---- the partners of Algorithm 1
 
-module _ (n : ℕ) (s : List ℕ) (sh : Invertible n s) where
-  eqb-node : (i p : ℕ) → i < n → p < n → eqb i (getD s p 0) ≡ eqb (firstAt i s) p
-  eqb-node i p h k = elim (same? i (getD s p 0)) [
-    | same e z ↦ eq-eqb i (getD s p 0) e ∙ sym (eq-eqb (firstAt i s) p (rw e (sh .place-seat p k)))
-    | other e z ↦ ne-eqb i (getD s p 0) e ∙ sym (ne-eqb (firstAt i s) p (λ q. e (sym (sh .seat-pair i h) ∙ ap (λ (x : ℕ). getD s x 0) q)))
-  ]
+-- edges of which no donor is in two: the partner of i, or none
+partner-by : (n : ℕ) (es : List Edge) → NoneTwice (from es) → (i : ℕ) → Partner n (λ j. List·Memᴰ (edge i j) es) (recipientBy es n i)
+partner-by n es once i = elim (eq-zero-or-pos (times i (from es))) [
+  | inl z ↦ nobody (absent es n i z) (λ j k. omega (arith, named es (edge i j) k))
+  | inr z ↦
+      let r = found es i z in
+      let e : recipientBy es n i ≡ r .0 .patient = rw (r .2) at (present es n (r .0) (r .1) once) in
+      somebody (Memᴰ·cast (ap₂ edge (sym (r .2)) e) (r .1)) (λ j k. sym (present es n (edge i j) k once))
+]
 
-  pair-node : (p : ℕ) → p < n → Algorithm1.pairOf n s p ≡ getD s p 0
-  unfolding Algorithm1.pairOf
-  pair-node p h = rw (lt-ltb p n h)
+-- the same partner, said in other words
+partner-as : {n v : ℕ} {P Q : ℕ → Type 0} → ((j : ℕ) → P j → Q j) → ((j : ℕ) → Q j → P j) → Partner n P v → Partner n Q v
+partner-as to back (somebody p only) = somebody (to _ p) (λ j h. only j (back j h))
+partner-as to back (nobody e alone) = nobody e (λ j h. alone j (back j h))
 
-  pair-none : Algorithm1.pairOf n s n ≡ n
-  unfolding Algorithm1.pairOf
-  pair-none = rw (le-ltb n n (omega arith))
+-- a cycle of nodes, and its pairs
 
-  recipient-moved : (es : List Edge) → Each (Inside n) es → (x i : ℕ) → i < n
-      → recipientBy (map (moved s) es) (Algorithm1.pairOf n s x) i ≡ Algorithm1.pairOf n s (recipientBy es x (firstAt i s))
-  unfolding recipientBy
-  recipient-moved [] h x i k = refl
-  recipient-moved (e ∷ es) h x i k =
-      ap (λ (z : ℕ). recipientBy (map (moved s) es) z i) (rw (eqb-node i (e .donor) k (h .0 .0)) (go (eqb (firstAt i s) (e .donor))))
-      ∙ recipient-moved es (h .1) (cond (eqb (firstAt i s) (e .donor)) (e .patient) x) i k
-    where
-      go : (b : Bool) → cond b (getD s (e .patient) 0) (Algorithm1.pairOf n s x) ≡ Algorithm1.pairOf n s (cond b (e .patient) x)
-      go true = sym (pair-node (e .patient) (h .0 .1))
-      go false = refl
+pair-at : (s c : List ℕ) (k : ℕ) → k < length c → getD (pairsAt s c) k 0 ≡ getD s (getD c k 0) 0
+unfolding pairsAt
+pair-at s [] k h = absurd (omega arith)
+pair-at s (p ∷ c) zero h = refl
+pair-at s (p ∷ c) (suc k) h = pair-at s c k (omega arith)
 
-  turned-moved : (es : List Edge) → map turned (map (moved s) es) ≡ map (moved s) (map turned es)
-  turned-moved [] = refl
-  turned-moved (e ∷ es) = ap (λ (l : List Edge). turned (moved s e) ∷ l) (turned-moved es)
+pairs-long : (s c : List ℕ) → length (pairsAt s c) ≡ length c
+unfolding pairsAt
+pairs-long s c = length-map c (λ (p : ℕ). getD s p 0)
 
-  edges-moved : (cs : List (List ℕ)) → flatMap edges (map (pairsAt s) cs) ≡ map (moved s) (flatMap edges cs)
-  unfolding flatMap
-  edges-moved [] = refl
-  edges-moved (c ∷ cs) = ap₂ _++_ (edges-pairs s c) (edges-moved cs) ∙ sym (append (edges c) (flatMap edges cs))
-    where
-      append : (a b : List Edge) → map (moved s) (a ++ b) ≡ map (moved s) a ++ map (moved s) b
-      append [] b = refl
-      append (x ∷ a) b = ap (λ (l : List Edge). moved s x ∷ l) (append a b)
+mem-mapped : (f : List ℕ → List ℕ) (d : List ℕ) (cs : List (List ℕ)) → List·Memᴰ d (map f cs) → (c : List ℕ) × List·Memᴰ c cs × (d ≡ f c)
+mem-mapped f d (c ∷ cs) (List·Memᴰ·head q) = (c, List·Memᴰ·head refl, q)
+mem-mapped f d (c ∷ cs) (List·Memᴰ·tail k) = let r = mem-mapped f d cs k in (r .0, List·Memᴰ·tail (r .1), r .2)
 
-  module _ (cs : List (List ℕ)) (inside : Each (Inside n) (flatMap edges cs)) where
-    pub same-recipients : recipientTable n (map (pairsAt s) cs) ≡ Algorithm1.recipients n s cs
-    unfolding recipientTable Algorithm1.recipients
-    same-recipients = table-same n _ _ (λ i h.
-        ap₂ (λ (l : List Edge) (z : ℕ). recipientBy l z i) (edges-moved cs) (sym pair-none) ∙ recipient-moved (flatMap edges cs) inside n i h)
+module _ (q : Input) where
+  abbrev cycles : List (List ℕ)
+  cycles = map (pairsAt (q .shuffle)) (Algorithm1.chosenCycles q)
 
-    pub same-donors : donorTable n (map (pairsAt s) cs) ≡ Algorithm1.donors n s cs
-    unfolding donorTable Algorithm1.donors
-    same-donors = table-same n _ _ (λ i h.
-        donor-turned (flatMap edges (map (pairsAt s) cs)) n i
-        ∙ ap₂ (λ (l : List Edge) (z : ℕ). recipientBy (map turned l) z i) (edges-moved cs) (sym pair-none)
-        ∙ ap (λ (l : List Edge). recipientBy l (Algorithm1.pairOf n s n) i) (turned-moved (flatMap edges cs))
-        ∙ recipient-moved (map turned (flatMap edges cs)) (each-turned n (flatMap edges cs) inside) n i h
-        ∙ ap (Algorithm1.pairOf n s) (sym (donor-turned (flatMap edges cs) n (firstAt i s))))
+  gives-edge : (i j : ℕ) → Algorithm1.Gives q i j → List·Memᴰ (edge i j) (flatMap edges cycles)
+  gives-edge i j g =
+      let s : List ℕ = q .shuffle in
+      let c : List ℕ = g .cycle in
+      let long : length (pairsAt s c) ≡ length c = pairs-long s c in
+      mem-all _ (pairsAt s c) cycles (Memᴰ·map (pairsAt s) (g .chosen))
+      (Memᴰ·cast
+      (ap₂ edge (sym (pair-at s c (g .at) (g .within) ∙ g .giver))
+      (sym (ap (λ (k : ℕ). getD (pairsAt s c) (next k (g .at)) 0) long ∙ pair-at s c (next (length c) (g .at)) (next-below (length c) (g .at) (g .within)) ∙ g .receiver)))
+      (edge-at (pairsAt s c) (g .at) (omega (arith, long, g .within))))
+
+  edge-gives : (i j : ℕ) → List·Memᴰ (edge i j) (flatMap edges cycles) → Algorithm1.Gives q i j
+  edge-gives i j k =
+      let s : List ℕ = q .shuffle in
+      let r = all-place (edge i j) cycles k in
+      let m = mem-mapped (pairsAt s) (r .0) (Algorithm1.chosenCycles q) (r .1) in
+      let c : List ℕ = m .0 in
+      let long : length (pairsAt s c) ≡ length c = pairs-long s c in
+      let step : Step (pairsAt s c) i j = edge-place (pairsAt s c) (edge i j) (rw (m .2) at (r .2)) in
+      let h : step .at < length c = omega (arith, step .within, long) in
+      record {
+        cycle = c;
+        chosen = m .1;
+        at = step .at;
+        within = h;
+        giver = sym (pair-at s c (step .at) h) ∙ step .giver;
+        receiver =
+            sym (pair-at s c (next (length c) (step .at)) (next-below (length c) (step .at) h))
+            ∙ ap (λ (l : ℕ). getD (pairsAt s c) (next l (step .at)) 0) (sym long)
+            ∙ step .receiver;
+      }
+
+  turned-edge : (i j : ℕ) → List·Memᴰ (edge j i) (map turned (flatMap edges cycles)) → List·Memᴰ (edge i j) (flatMap edges cycles)
+  turned-edge i j k = rw (twice (flatMap edges cycles)) at (mem-turned (edge j i) (map turned (flatMap edges cycles)) k)
+
+  module _ (once : NoneTwice (joined cycles)) (donors recipients : List ℕ)
+      (d : (i : ℕ) → i < q .scope .pairs → getD donors i 0 ≡ donorBy (flatMap edges cycles) (q .scope .pairs) i)
+      (r : (i : ℕ) → i < q .scope .pairs → getD recipients i 0 ≡ recipientBy (flatMap edges cycles) (q .scope .pairs) i) where
+    pub algorithm-partners : Algorithm1.Partners q donors recipients
+    algorithm-partners =
+        let n : ℕ = q .scope .pairs in
+        let es : List Edge = flatMap edges cycles in
+        record {
+          recipient = λ i h. rw (r i h)
+              (partner-as (edge-gives i) (gives-edge i) (partner-by n es (rw (from-all cycles) once) i));
+          donor = λ j h. rw (d j h ∙ donor-turned es n j)
+              (partner-as
+              (λ i k. edge-gives i j (turned-edge i j k))
+              (λ i g. mem-turned (edge i j) es (gives-edge i j g))
+              (partner-by n (map turned es) (rw (from-turned es) (λ p. omega (arith, to-all cycles p, once p))) j));
+        }

@@ -1,6 +1,6 @@
 -- The planned cycles are executable exchanges that share no pair, and no set of such weighs more than they are credited with: for any
 -- floor f and any largest size l. Assumes nothing.
-use Prim.Native.Nat.{ℕ, _*_, _/_, _≤_, _<_}
+use Prim.Native.Nat.{ℕ, _*_, _≤_, _<_}
 use mathlib.Core.List.{List, [], _∷_}
 use mathlib.Core.Logic.{_⊎_, inl, inr}
 use mathlib.Core.Path.{_≡_}
@@ -10,7 +10,7 @@ use native.Mathlib.Decide.{decLt}
 use lib.ListN.{length, getD}
 use borrow.Author.Tests.{lt-ltb, le-ltb}
 use Rattle.greedy.specs.Tally.{tally}
-use Rattle.greedy.proofs.Counts.{times, NoneTwice, one-same}
+use Rattle.greedy.proofs.Counts.{times, NoneTwice, AllBelow, one-same}
 use Rattle.greedy.proofs.Bound.{chosen-above}
 use Rattle.exchange.specs.Subsets.{subsets, weigh, pairsAt, bestCycle, evaluationTally}
 use Rattle.exchange.specs.Resolution.{resolved, total}
@@ -80,6 +80,9 @@ module _ (f l n : ℕ) (m w : ℕ → ℕ → ℕ) (s : List ℕ) (sh : Invertib
         (plannedBy (inputWith f l n m w s)) planned-above (once-each (plannedBy (inputWith f l n m w s)) (planned-apart f l n m w s sh));
     apart = once-apart (plannedBy (inputWith f l n m w s)) (planned-apart f l n m w s sh);
   }
+
+  pub planned-below : Each (AllBelow n) (plannedBy (inputWith f l n m w s))
+  planned-below = each-mono Above (AllBelow n) (λ c h. h .0 .below) (plannedBy (inputWith f l n m w s)) planned-above
 
   module _ (cs : List (List ℕ)) (set : ExchangeSet l n m cs) (heavy : Each (Counts f m w) cs) where
     rivals : Each (Rival f l n m w) cs

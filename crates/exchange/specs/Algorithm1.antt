@@ -1,14 +1,16 @@
--- Algorithm 1 of arXiv 2302.13880, line by line; its `S` is the published order of subsets, and its 0 the floor. Assumes nothing.
-use Prim.Native.Nat.{ℕ, zero, suc}
+-- Algorithm 1 of arXiv 2302.13880, line by line; its `S` is the published order of subsets, and its 0 the floor. It shares with 01's way of planning
+-- the subsets and their order, the cycles of a subset, what a cycle weighs, the first of greatest weight, and what it is to share a place; its shuffled
+-- graph, its loop, with no round, no table of weights and nothing set to 0, and each pair's donor and recipient are its own. Assumes nothing.
+use Prim.Native.Nat.{ℕ, zero, suc, _<_}
+use mathlib.Core.Path.{_≡_}
 use mathlib.Core.Bool.{Bool, false, cond}
-use mathlib.Core.List.{List, [], _∷_, map, flatMap}
+use mathlib.Core.List.{List, [], _∷_, map, List·Memᴰ}
 use lib.Dec.{ltb}
-use lib.ListN.{getD}
-use Rattle.laws.specs.Below.{table, either}
-use Rattle.greedy.specs.Places.{meets, firstAt}
-use Rattle.exchange.specs.Subsets.{order, subsetCount, cycles, edges, weigh, heaviest}
+use lib.ListN.{length, getD}
+use Rattle.laws.specs.Below.{either}
+use Rattle.greedy.specs.Places.{meets}
+use Rattle.exchange.specs.Subsets.{order, subsetCount, cycles, weigh, heaviest}
 use Rattle.exchange.specs.Input.{Input}
-use Rattle.exchange.specs.Resolution.{recipientBy, donorBy}
 
 -- line 1, "Shuffle G": node p of the shuffled graph is pair s(p)
 unfoldable pub shuffled : List ℕ → (ℕ → ℕ → ℕ) → ℕ → ℕ → ℕ
@@ -52,18 +54,27 @@ looped q = loop (subsetCount (q .scope)) (q .floor) (subsetWeight (q .shuffle) (
 unfoldable pub chosenCycles : Input → List (List ℕ)
 chosenCycles q = map (subsetMap (shuffled (q .shuffle) (q .compatible)) (shuffled (q .shuffle) (q .weight))) (looped q .chosen)
 
--- ## Functionality 1: "the indices of donor and recipient for pair i", with the shuffle undone
+-- ## Functionality 1: "the indices of donor and recipient for pair i", with the shuffle undone. An account of its own, with no list of edges
 
--- the node of pair i, by the inverse of the shuffle
-abbrev pub nodeOf : List ℕ → ℕ → ℕ
-nodeOf s i = firstAt i s
+-- the place after place k of a cycle of so many; after the last comes the first
+unfoldable pub next : ℕ → ℕ → ℕ
+next size k = cond (ltb (suc k) size) (suc k) 0
 
--- the pair of a node; n stands for none
-unfoldable pub pairOf : ℕ → List ℕ → ℕ → ℕ
-pairOf n s p = cond (ltb p n) (getD s p 0) n
+-- pair i's donor gives to pair j's patient: in a chosen cycle, the one is at a node and the other at the next
+pub record Gives (q : Input) (i j : ℕ) : Type 0 where
+  pub cycle : List ℕ
+  pub chosen : List·Memᴰ cycle (chosenCycles q)
+  pub at : ℕ
+  pub within : at < length cycle
+  pub giver : getD (q .shuffle) (getD cycle at 0) 0 ≡ i
+  pub receiver : getD (q .shuffle) (getD cycle (next (length cycle) at) 0) 0 ≡ j
 
-unfoldable pub recipients : ℕ → List ℕ → List (List ℕ) → List ℕ
-recipients n s cs = table n (λ i. pairOf n s (recipientBy (flatMap edges cs) n (nodeOf s i)))
+-- v, of n pairs, is the partner: the one pair of which P holds; or n, where it holds of none
+pub data Partner (n : ℕ) (P : ℕ → Type 0) (v : ℕ) : Type 0 where
+  somebody : P v → ((j : ℕ) → P j → j ≡ v) → Partner n P v
+  nobody : v ≡ n → ((j : ℕ) → P j → ⊥) → Partner n P v
 
-unfoldable pub donors : ℕ → List ℕ → List (List ℕ) → List ℕ
-donors n s cs = table n (λ i. pairOf n s (donorBy (flatMap edges cs) n (nodeOf s i)))
+-- each pair's donor and recipient, as two tables hold them
+pub record Partners (q : Input) (donors recipients : List ℕ) : Type 0 where
+  pub recipient : (i : ℕ) → i < q .scope .pairs → Partner (q .scope .pairs) (λ j. Gives q i j) (getD recipients i 0)
+  pub donor : (j : ℕ) → j < q .scope .pairs → Partner (q .scope .pairs) (λ i. Gives q i j) (getD donors j 0)

@@ -1,4 +1,4 @@
--- What planning is inputWith: one record, with the floor and the largest size that document 01 leaves at 0 and 3. Assumes nothing.
+-- What planning is given: one record, with the floor and the largest size that document 01 leaves at 0 and 3. Assumes nothing.
 use Prim.Native.Nat.{ℕ}
 use mathlib.Core.List.{List}
 use Rattle.exchange.specs.Subsets.{Scope, scope, upToThree, entry}

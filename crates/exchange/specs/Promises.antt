@@ -7,7 +7,7 @@ use mathlib.Core.Logic.{_↔_}
 use mathlib.Core.List.{List, [], _∷_, map}
 use lib.Dec.{eqb}
 use lib.ListN.{length, getD, take}
-use Rattle.laws.specs.Below.{anyBelow, one, Once}
+use Rattle.laws.specs.Below.{one, Some, ExactlyOne}
 use Rattle.refusal.specs.Answer.{finished, refused, Outcome}
 use Rattle.greedy.specs.Places.{among, meets}
 use Rattle.greedy.specs.Tally.{Tally, tally}
@@ -16,6 +16,7 @@ use Rattle.exchange.specs.Input.{Input, Request, inputOf, request}
 use Rattle.exchange.specs.Resolution.{pairsOf}
 use Rattle.exchange.specs.Planning.{Lent, Plan, roundCount, planning}
 use Rattle.exchange.specs.Algorithm1 as Algorithm1
+use Rattle.exchange.specs.Algorithm1.{next}
 use Rattle.exchange.specs.Faultless.{FaultlessInput, PlanFault}
 use Rattle.exchange.specs.Rivals.{Each, ExchangeSetOf, weightIn, credited}
 
@@ -59,12 +60,10 @@ pub record TallyOf (q : Scope) (t : Tally) : Type 0 where
 
 -- one planned cycle c in the two tables, place by place
 pub record GivingOrder (c donors recipients : List ℕ) : Type 0 where
-  -- "the donor of a place gives to the patient of the next", and that of the last place to the patient of the first
-  pub gives : (q : ℕ) → suc q < length c → getD recipients (getD c q 0) 0 ≡ getD c (suc q) 0
-  pub closes : (q : ℕ) → suc q ≡ length c → getD recipients (getD c q 0) 0 ≡ getD c 0 0
+  -- "the donor of a place gives to the patient of the next"; "the recipient table holds whom pair i's donor gives to"
+  pub gives : (k : ℕ) → k < length c → getD recipients (getD c k 0) 0 ≡ getD c (next (length c) k) 0
   -- "the donor table who gives to patient i"
-  pub receives : (q : ℕ) → suc q < length c → getD donors (getD c (suc q) 0) 0 ≡ getD c q 0
-  pub closed : (q : ℕ) → suc q ≡ length c → getD donors (getD c 0 0) 0 ≡ getD c q 0
+  pub receives : (k : ℕ) → k < length c → getD donors (getD c (next (length c) k) 0) 0 ≡ getD c k 0
 
 -- the partners in cycles cs of n pairs
 pub record Consistent (n : ℕ) (cs : List (List ℕ)) (donors recipients : List ℕ) : Type 0 where
@@ -72,8 +71,8 @@ pub record Consistent (n : ℕ) (cs : List (List ℕ)) (donors recipients : List
   pub inverse : (i j : ℕ) → i < n → j < n → (getD recipients i 0 ≡ j) ↔ (getD donors j 0 ≡ i)
   -- a pair has a donor if and only if it has a recipient; then it is in exactly one cycle, and else in none
   pub both : (i : ℕ) → i < n → (getD recipients i 0 < n) ↔ (getD donors i 0 < n)
-  pub inOne : (i : ℕ) → i < n → getD recipients i 0 < n → Once (length cs) (λ k. one (among i (getD cs k []))) 1
-  pub inNone : (i k : ℕ) → i < n → getD recipients i 0 ≡ n → one (among i (getD cs k [])) ≡ 0
+  pub inOne : (i : ℕ) → i < n → getD recipients i 0 < n → ExactlyOne (length cs) (λ k. among i (getD cs k []) ≡ true)
+  pub inNone : (i k : ℕ) → i < n → getD recipients i 0 ≡ n → among i (getD cs k []) ≡ false
   pub known : (i : ℕ) → i < n → getD recipients i 0 ≤ n
   pub donorKnown : (i : ℕ) → i < n → getD donors i 0 ≤ n
   -- "For each chosen cycle", the partners are those of its order
@@ -94,15 +93,14 @@ pub record Guarantee (q : Input) (p : Plan) (t : Lent) : Type 0 where
   -- "every such tally is"
   pub tally : TallyOf (q .scope) (p .tally)
   -- "The plan equals that of Algorithm 1, in each pair's donor and recipient", and in its cycles
+  pub partners : Algorithm1.Partners q (t .donors) (t .recipients)
   pub cycles : planned (q .scope .pairs) p t ≡ map (pairsAt (q .shuffle)) (Algorithm1.chosenCycles q)
-  pub donors : take (q .scope .pairs) (t .donors) ≡ Algorithm1.donors (q .scope .pairs) (q .shuffle) (Algorithm1.chosenCycles q)
-  pub recipients : take (q .scope .pairs) (t .recipients) ≡ Algorithm1.recipients (q .scope .pairs) (q .shuffle) (Algorithm1.chosenCycles q)
   pub consistent : Consistent (q .scope .pairs) (planned (q .scope .pairs) p t) (t .donors) (t .recipients)
-  -- no subset is left that weighs more than the floor and meets no choice
+  -- every subset that weighs more than the floor meets some round's choice
   pub met :
       (i : ℕ)
       → q .floor < subsetWeight (q .compatible) (q .weight) (q .shuffle) (getD (order (q .scope)) i [])
-      → anyBelow (roundCount (q .scope .pairs)) (λ k. meets (getD (order (q .scope)) i []) (getD (order (q .scope)) (getD (t .choices) k 0) [])) ≡ true
+      → Some (roundCount (q .scope .pairs)) (λ k. meets (getD (order (q .scope)) i []) (getD (order (q .scope)) (getD (t .choices) k 0) []) ≡ true)
 
 -- ## Every answer: a plan for every input with none of the faults, and for no other; else a refusal, and all lent memory unchanged
 

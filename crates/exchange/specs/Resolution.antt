@@ -22,15 +22,14 @@ recordOf n c = record { first = getD c 0 n; second = getD c 1 n; third = getD c 
 unfoldable pub pairsOf : ℕ → Cycle → List ℕ
 pairsOf n r = cond (eqb (r .third) n) (r .first ∷ r .second ∷ []) (r .first ∷ r .second ∷ r .third ∷ [])
 
--- whom pair i's donor gives to by these edges, and who gives to patient i; else none. Cycles that share no pair have one such edge at
--- most, and of several the last would count
+-- whom pair i's donor gives to by these edges, and who gives to patient i; n where nobody. Cycles that share no pair have one such edge at most
 unfoldable pub recipientBy : List Edge → ℕ → ℕ → ℕ
-recipientBy [] none i = none
-recipientBy (e ∷ es) none i = recipientBy es (cond (eqb i (e .donor)) (e .patient) none) i
+recipientBy [] n i = n
+recipientBy (e ∷ es) n i = cond (eqb i (e .donor)) (e .patient) (recipientBy es n i)
 
 unfoldable pub donorBy : List Edge → ℕ → ℕ → ℕ
-donorBy [] none i = none
-donorBy (e ∷ es) none i = donorBy es (cond (eqb i (e .patient)) (e .donor) none) i
+donorBy [] n i = n
+donorBy (e ∷ es) n i = cond (eqb i (e .patient)) (e .donor) (donorBy es n i)
 
 -- "the recipient table holds whom pair i's donor gives to, the donor table who gives to patient i; N means none"
 unfoldable pub recipientTable : ℕ → List (List ℕ) → List ℕ

@@ -7,7 +7,7 @@ use lib.Dec.{eqb}
 use Rattle.laws.specs.Below.{one}
 use Rattle.greedy.specs.Tally as Tallies
 use Rattle.greedy.specs.Tally.{raise}
-use Rattle.gates.specs.Counts.{counted, Raised, TallyRoom}
+use Rattle.gates.specs.Counting.{counted, Raised, TallyRoom}
 use Rattle.gates.specs.Secrets.{valueOf}
 use Rattle.gates.specs.declared.Secret.{Secret}
 use Rattle.gates.specs.declared.Tally.{Tally}

@@ -10,7 +10,8 @@ ghost use lib.ListN.{length, getD, set};
 ghost use Rattle.laws.specs.Below.{one};
 ghost use Rattle.greedy.specs.Tally.{nextRound, tally};
 ghost use Rattle.greedy.specs.Places.{among};
-ghost use Rattle.gates.specs.Counts.{counted, tallyOf, TallyRoom, Raised};
+ghost use Rattle.gates.specs.Counts.{tallyOf};
+ghost use Rattle.gates.specs.Counting.{counted, TallyRoom, Raised};
 ghost use Rattle.gates.specs.Secrets.{valueOf};
 
 // A secret: an entry of M or W, a weight, a choice's number or one of its places, or what gates make of them.

@@ -4,7 +4,8 @@ ghost use Rattle.pool.specs.Tables.{pairIn};
 ghost use Rattle.donation.specs.Compatibility.{compatibility};
 ghost use Rattle.donation.specs.Weight.{documentPoints, weight};
 ghost use Rattle.graph.specs.Graph.{filledGraph, withRow};
-ghost use Rattle.graph.specs.Lent.{graphNow, lentGraph, idlessNow, lentIdless, lentForM, lentForW};
+ghost use Rattle.graph.specs.Lent.{graphNow, lentGraph};
+ghost use Rattle.graph.specs.Sources.{idlessNow, lentIdless, lentForM, lentForW};
 ghost use Rattle.graph.specs.Preconditions.{Row, ReadableForM, ReadableForW, Buildable};
 
 // Row i of M: donor i, and each patient.

@@ -30,9 +30,19 @@ unfoldable pub countBelow : ℕ → (ℕ → Bool) → ℕ
 countBelow zero p = 0
 countBelow (suc n) p = countBelow n p + one (p n)
 
--- v is f j for one j below n and for no other, with no counting
-pub record Once (n : ℕ) (f : ℕ → ℕ) (v : ℕ) : Type 0 where
+-- P holds of some k below n
+pub record Some (n : ℕ) (P : ℕ → Type 0) : Type 0 where
   pub at : ℕ
   pub below : at < n
-  pub there : f at ≡ v
-  pub only : (k : ℕ) → k < n → f k ≡ v → k ≡ at
+  pub there : P at
+
+-- P holds of one k below n and of no other, with no counting
+pub record ExactlyOne (n : ℕ) (P : ℕ → Type 0) : Type 0 where
+  pub at : ℕ
+  pub below : at < n
+  pub there : P at
+  pub only : (k : ℕ) → k < n → P k → k ≡ at
+
+-- v is f j for one j below n and for no other
+abbrev pub Once : ℕ → (ℕ → ℕ) → ℕ → Type 0
+Once n f v = ExactlyOne n (λ j. f j ≡ v)

@@ -1,5 +1,5 @@
 -- The answer of planning, and what it leaves. Assumes nothing.
-use Prim.Native.Nat.{ℕ, _≤_}
+use Prim.Native.Nat.{ℕ}
 use mathlib.Core.List.{List}
 use mathlib.Core.Path.{_≡_, sym, ap, ap₂, _∙_}
 use native.Mathlib.Omega.{arith}
@@ -76,6 +76,7 @@ module _ (n : ℕ) (M W s weights choices donors recipients : List ℕ) (room : 
         record {
           readable = record { few = i .few; compatibility = i .long .compatibility; points = i .long .points; zeroOrOne = i .compatible .zeroOrOne };
           shuffled = record { long = i .long .shuffle; pairs = invertible n s (i .long .shuffle) (i .eachOnce) .pair-below };
+          eachOnce = i .eachOnce;
           inWeights = i .long .weights;
           inChoices = i .long .choices;
           inDonors = i .long .donors;

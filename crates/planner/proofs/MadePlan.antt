@@ -17,13 +17,18 @@ use Rattle.exchange.specs.Subsets.{upToThree, order, subsetCount, entry, subset
 use Rattle.exchange.specs.Input.{Input, input, inputOf, request}
 use Rattle.exchange.specs.Resolution.{recordOf, donorTable, recipientTable}
 use Rattle.exchange.specs.Planning.{lent, plan, roundCount, leftBy, plannedBy, planFrom, filledLent}
+use Rattle.exchange.proofs.Inverse.{Invertible, invertible}
+use Rattle.exchange.proofs.Charged.{planned-apart}
+use Rattle.exchange.proofs.Planned.{planned-below}
 use Rattle.exchange.proofs.Guaranteed.{resolved-few}
-use Rattle.gates.specs.Counts.{counted, tallyOf}
+use Rattle.gates.specs.Counts.{tallyOf}
+use Rattle.gates.specs.Counting.{counted}
 use Rattle.gates.specs.declared.Counts.{Counts}
 use Rattle.gates.specs.declared.Tally.{Tally}
-use Rattle.resolution.specs.Records.{cyclesOf, noRecords, resolvedCycles}
+use Rattle.resolution.specs.Records.{givenIn, receivedIn, cyclesOf, noRecords, resolvedCycles}
 use Rattle.resolution.specs.Preconditions.{Resolving}
 use Rattle.resolution.specs.declared.Resolved.{Resolved}
+use Rattle.resolution.proofs.Partnered.{given-all, received-all}
 use Rattle.planner.specs.Answers.{answerOf}
 use Rattle.planner.specs.Preconditions.{Stepping, Checked}
 use Rattle.planner.specs.declared.Planning.the-variants.{Made}
@@ -101,10 +106,13 @@ module _ (n : ℕ) (M W s weights choices donors recipients : List ℕ) (asked :
     }
 
     module _ (found : Resolved) (ds rs : List ℕ)
-        (f : (found ≡ resolvedCycles n M W (cyclesOf (upToThree n) M W s again)) × (ds ≡ donorTable n (cyclesOf (upToThree n) M W s again)) × (rs ≡ recipientTable n (cyclesOf (upToThree n) M W s again))) where
+        (f : (found ≡ resolvedCycles n M W (cyclesOf (upToThree n) M W s again)) × (ds ≡ receivedIn n (cyclesOf (upToThree n) M W s again)) × (rs ≡ givenIn n (cyclesOf (upToThree n) M W s again))) where
       cycles-are : cyclesOf (upToThree n) M W s again ≡ plannedBy (q n M W s)
       unfolding plannedBy
       cycles-are = ap (cyclesOf (upToThree n) M W s) (choices-again ∙ choices-are)
+
+      seated : Invertible n s
+      seated = invertible n s (asked .shuffled .long) (asked .eachOnce)
 
       found-is : found ≡ resolvedCycles n M W (plannedBy (q n M W s))
       found-is = f .0 ∙ ap (resolvedCycles n M W) cycles-are
@@ -138,8 +146,10 @@ module _ (n : ℕ) (M W s weights choices donors recipients : List ℕ) (asked :
           ≡ filledLent (q n M W s) (lent weights choices donors recipients old)
       unfolding filledLent donorTable recipientTable
       lent-is old =
-          let ed : ds ≡ donorTable n (plannedBy (q n M W s)) = f .1 ∙ ap (donorTable n) cycles-are in
-          let er : rs ≡ recipientTable n (plannedBy (q n M W s)) = f .2 ∙ ap (recipientTable n) cycles-are in
+          let below = planned-below 0 3 n (entry M n) (entry W n) s seated in
+          let apart = planned-apart 0 3 n (entry M n) (entry W n) s seated in
+          let ed : ds ≡ donorTable n (plannedBy (q n M W s)) = f .1 ∙ ap (receivedIn n) cycles-are ∙ received-all n _ below apart in
+          let er : rs ≡ recipientTable n (plannedBy (q n M W s)) = f .2 ∙ ap (givenIn n) cycles-are ∙ given-all n _ below apart in
           all-lent
           (past all ws weights weights-long ∙ ap (λ (l : List ℕ). filled l weights) weights-are)
           (past (n / 2) cs choices choices-long ∙ ap (λ (l : List ℕ). filled l choices) choices-are)

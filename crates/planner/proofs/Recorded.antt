@@ -1,5 +1,4 @@
 -- The call that writes the records to a lent table: what it has from `plan_by_value`, once they are written. Assumes nothing.
-use Prim.Native.Nat.{ℕ}
 use mathlib.Core.List.{List}
 use mathlib.Core.Path.{_≡_, refl, sym, subst}
 use lib.ListN.{length}

@@ -10,7 +10,7 @@ use Rattle.greedy.specs.Rounds.{Left, rounds}
 use Rattle.exchange.specs.Subsets.{upToThree, order, subsetCount, entry, subsetWeight, evaluationTally}
 use Rattle.exchange.specs.Input.{noFloor, inputOf, request}
 use Rattle.exchange.specs.Planning.{roundCount, leftBy}
-use Rattle.gates.specs.Counts.{counted}
+use Rattle.gates.specs.Counting.{counted}
 use Rattle.gates.specs.declared.Tally.{Tally}
 use Rattle.cursor.proofs.Number.{count-le}
 use Rattle.evaluation.specs.Preconditions.{Evaluating}

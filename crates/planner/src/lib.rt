@@ -12,7 +12,7 @@ ghost use Rattle.exchange.specs.Input.{inputOf, request};
 ghost use Rattle.exchange.specs.Planning.{lent, leftBy};
 ghost use Rattle.exchange.specs.Lent.{lentPlan};
 ghost use Rattle.exchange.specs.Promises.{PlansRightly};
-ghost use Rattle.gates.specs.Counts.{counted};
+ghost use Rattle.gates.specs.Counting.{counted};
 ghost use Rattle.planner.specs.Answers.{answerOf};
 ghost use Rattle.planner.specs.Preconditions.{Stepping, Checked};
 ghost use Rattle.planner.specs.ByValue.{Makes, PlansByValue};
@@ -30,10 +30,10 @@ pub enum Planning {
 }
 
 // What planning gives, with its records by value: the first `cycles` of them.
-pub struct Work {
-    pub planning: Planning,
-    pub cycles: usize,
-    pub records: [Cycle; 100],
+struct Work {
+    planning: Planning,
+    cycles: usize,
+    records: [Cycle; 100],
 }
 
 // Evaluation, then all rounds; one tally, which begins at 0, is lent to both.
@@ -119,7 +119,7 @@ fn turned_back(why: Refusal) -> Work
 }
 
 // Plans the pool of n pairs whose tables are m and w, with the shuffle, for a caller that has room for so many records.
-pub fn plan_by_value(
+fn plan_by_value(
     n: usize,
     m: &[u8],
     w: &[u16],

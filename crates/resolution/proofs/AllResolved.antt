@@ -10,23 +10,22 @@ use lib.ListN.{length, getD, take, replicate, length-append, length-map, length-
 use lib.Seq.{take-suc, take-all}
 use Rattle.laws.specs.Below.{table}
 use Rattle.laws.specs.Lent.{stored, filled}
-use Rattle.laws.proofs.Below.{length-table}
 use Rattle.laws.proofs.Lent.{length-filled, stored-none, stored-one, stored-filled, stored-then}
 use Rattle.cycle.specs.declared.Cycle.{Cycle}
 use Rattle.exchange.specs.Subsets.{upToThree, order, subsetCount, Edge, entry, edges, weigh, pairsAt, bestCycle, subsetWeight}
-use Rattle.exchange.specs.Resolution.{recordOf, pairsOf, resolved, total, recipientTable, donorTable}
+use Rattle.exchange.specs.Resolution.{recordOf, pairsOf, resolved, total}
 use Rattle.cursor.specs.Cursor.{OnSubset, placesAt, subsetAt}
 use Rattle.cursor.specs.declared.Places.{Places}
 use Rattle.cursor.proofs.Order.{is-subset, in-range}
 use Rattle.cursor.proofs.Standing.{stands-at}
 use Rattle.entries.specs.Preconditions.{Readable, Shuffled}
 use Rattle.evaluation.proofs.AllWeights.{weight-le}
-use Rattle.resolution.specs.Records.{given, received, cyclesOf, noRecords, noneYet, withCycle, resolvedCycles, Added}
+use Rattle.resolution.specs.Records.{given, received, givenIn, receivedIn, cyclesOf, noRecords, noneYet, withCycle, resolvedCycles, Added}
 use Rattle.resolution.specs.Preconditions.{Partners, RecordRoom, One, Resolving}
 use Rattle.resolution.specs.declared.Giving.{Giving}
 use Rattle.resolution.specs.declared.Resolved.{Resolved}
 use Rattle.resolution.proofs.Cyclic.{Cyclic, chosen-cyclic, pairs-back, record-below, no-record, resolved-append, one-chosen, none-chosen, total-append}
-use Rattle.resolution.proofs.Partnered.{Between, cyclic-between, recipients-more, donors-more, recipients-none, donors-none}
+use Rattle.resolution.proofs.Partnered.{given-more, received-more, given-long, received-long}
 
 -- ## No choice
 
@@ -116,23 +115,21 @@ module _ (n : ℕ) (M W s : List ℕ) (typed : (i : ℕ) → getD W i 0 < 2 ^ 16
 
 -- ## All choices
 
--- what one choice adds is little, and between n pairs
+-- what one choice adds is little
 record Little (n : ℕ) (M W : List ℕ) (ds : List (List ℕ)) : Type 0 where
   weight : total (entry M n) (entry W n) ds ≤ 196605
   cycles : length ds ≤ 1
-  between : Between n (flatMap edges ds)
 
 module _ (n : ℕ) (M W s : List ℕ) (readable : Readable n M W) (shuffled : Shuffled n s) (typed : (i : ℕ) → getD W i 0 < 2 ^ 16) where
   little-none : Little n M W []
   unfolding total flatMap
-  little-none = record { weight = omega arith; cycles = omega arith; between = tt }
+  little-none = record { weight = omega arith; cycles = omega arith }
 
   little-one : (choice : ℕ) → choice < subsetCount (upToThree n) → Little n M W (pairsAt s (bestCycle (entry M n) (entry W n) s (getD (order (upToThree n)) choice [])) ∷ [])
   unfolding total subsetWeight
   little-one choice h = record {
     weight = omega (arith, weight-le n M W s readable shuffled typed (getD (order (upToThree n)) choice []) (is-subset n choice (readable .few) h));
     cycles = omega arith;
-    between = cyclic-between n _ (chosen-cyclic n (entry M n) (entry W n) s shuffled choice (readable .few) h);
   }
 
   little : (choice : ℕ) → Little n M W (cyclesOf (upToThree n) M W s (choice ∷ []))
@@ -162,15 +159,15 @@ pub record BeforeChoice (n : ℕ) (M W s choices donors recipients : List ℕ) (
   pub sum : r .weight ≡ total (entry M n) (entry W n) (cyclesOf (upToThree n) M W s (take k choices))
   pub number : r .cycles ≡ length (cyclesOf (upToThree n) M W s (take k choices))
   pub inRecords : r .records ≡ filled (map (recordOf n) (cyclesOf (upToThree n) M W s (take k choices))) (noRecords n)
-  pub inDonors : donors ≡ donorTable n (cyclesOf (upToThree n) M W s (take k choices))
-  pub inRecipients : recipients ≡ recipientTable n (cyclesOf (upToThree n) M W s (take k choices))
+  pub inDonors : donors ≡ receivedIn n (cyclesOf (upToThree n) M W s (take k choices))
+  pub inRecipients : recipients ≡ givenIn n (cyclesOf (upToThree n) M W s (take k choices))
   pub few : r .cycles ≤ k
   pub light : r .weight ≤ 196605 * k
 
 module _ (n : ℕ) (M W s choices donors₀ recipients₀ : List ℕ) (asked : Resolving n M W s choices donors₀ recipients₀) where
   pub begins : (donors recipients : List ℕ) (r : Resolved) → donors ≡ table (length donors₀) (λ i. n) → recipients ≡ table (length recipients₀) (λ i. n)
       → r ≡ noneYet n → BeforeChoice n M W s choices donors recipients r 0
-  unfolding resolved total filled
+  unfolding resolved total filled given received flatMap
   begins donors recipients r ed er e =
       let weight : r .weight ≡ 0 = ap (λ (x : Resolved). x .weight) e in
       let cycles : r .cycles ≡ 0 = ap (λ (x : Resolved). x .cycles) e in
@@ -179,29 +176,27 @@ module _ (n : ℕ) (M W s choices donors₀ recipients₀ : List ℕ) (asked : R
         sum = weight;
         number = cycles;
         inRecords = ap (λ (x : Resolved). x .records) e;
-        inDonors = ed ∙ ap (λ (k : ℕ). table k (λ i. n)) (asked .allDonors) ∙ donors-none n;
-        inRecipients = er ∙ ap (λ (k : ℕ). table k (λ i. n)) (asked .allRecipients) ∙ recipients-none n;
+        inDonors = ed ∙ ap (λ (k : ℕ). table k (λ i. n)) (asked .allDonors);
+        inRecipients = er ∙ ap (λ (k : ℕ). table k (λ i. n)) (asked .allRecipients);
         few = omega (arith, cycles);
         light = omega (arith, weight);
       }
 
   module _ (donors recipients : List ℕ) (r : Resolved) (k : ℕ) (inv : BeforeChoice n M W s choices donors recipients r k) where
     pub donors-kept : length donors ≡ length donors₀
-    unfolding donorTable
-    donors-kept = ap length (inv .inDonors) ∙ length-table n _ ∙ sym (asked .allDonors)
+    donors-kept = ap length (inv .inDonors) ∙ received-long n _ ∙ sym (asked .allDonors)
 
     pub recipients-kept : length recipients ≡ length recipients₀
-    unfolding recipientTable
-    recipients-kept = ap length (inv .inRecipients) ∙ length-table n _ ∙ sym (asked .allRecipients)
+    recipients-kept = ap length (inv .inRecipients) ∙ given-long n _ ∙ sym (asked .allRecipients)
 
     pub ends : length choices ≤ k
         → (r ≡ resolvedCycles n M W (cyclesOf (upToThree n) M W s choices))
-        × (donors ≡ donorTable n (cyclesOf (upToThree n) M W s choices)) × (recipients ≡ recipientTable n (cyclesOf (upToThree n) M W s choices))
+        × (donors ≡ receivedIn n (cyclesOf (upToThree n) M W s choices)) × (recipients ≡ givenIn n (cyclesOf (upToThree n) M W s choices))
     ends h =
         let all : cyclesOf (upToThree n) M W s (take k choices) ≡ cyclesOf (upToThree n) M W s choices = ap (cyclesOf (upToThree n) M W s) (take-all k choices h) in (
           results (inv .sum) (inv .number) (inv .inRecords) ∙ ap (resolvedCycles n M W) all,
-          inv .inDonors ∙ ap (donorTable n) all,
-          inv .inRecipients ∙ ap (recipientTable n) all,
+          inv .inDonors ∙ ap (receivedIn n) all,
+          inv .inRecipients ∙ ap (givenIn n) all,
         )
 
     module _ (h : k < length choices) where
@@ -249,9 +244,8 @@ module _ (n : ℕ) (M W s choices donors₀ recipients₀ : List ℕ) (asked : R
               inRecords = records-more n cs ds (r .records) (r′ .records) (omega (arith, inv .number, inv .few, turns-few)) (inv .inRecords)
                   (e .inRecords ∙ ap (λ (j : ℕ). stored j (map (recordOf n) ds) (r .records)) (inv .number))
                   ∙ ap (λ (l : List (List ℕ)). filled (map (recordOf n) l) (noRecords n)) more;
-              inDonors = e .inDonors ∙ ap (received (flatMap edges ds)) (inv .inDonors) ∙ donors-more n cs ds (small .between) ∙ ap (donorTable n) more;
-              inRecipients = e .inRecipients ∙ ap (given (flatMap edges ds)) (inv .inRecipients) ∙ recipients-more n cs ds (small .between)
-                  ∙ ap (recipientTable n) more;
+              inDonors = e .inDonors ∙ ap (received (flatMap edges ds)) (inv .inDonors) ∙ received-more n cs ds ∙ ap (receivedIn n) more;
+              inRecipients = e .inRecipients ∙ ap (given (flatMap edges ds)) (inv .inRecipients) ∙ given-more n cs ds ∙ ap (givenIn n) more;
               few = omega (arith, inv .few, e .cycles, small .cycles);
               light = omega (arith, inv .light, e .weight, small .weight);
             }

@@ -3,42 +3,29 @@ use Prim.Native.Nat.{ℕ, _<_}
 use mathlib.Core.Bool.{cond}
 use mathlib.Core.List.{List, [], _∷_, _++_, map, flatMap}
 use mathlib.Core.Path.{_≡_, refl, sym, ap, _∙_}
+use native.Mathlib.Omega.{arith}
 use native.Mathlib.Decide.{ℕ-discrete}
 use borrow.Author.Tests.{eq-eqb, ne-eqb}
 use lib.Dec.{eqb}
-use lib.ListN.{getD, set, length-set}
+use lib.ListN.{length, getD, set, length-set}
 use lib.Seq.{getD-set-same, getD-set-other}
 use Rattle.laws.specs.Below.{table}
 use Rattle.laws.proofs.Below.{length-table, getD-table, table-cong, table-getD}
 use Rattle.laws.proofs.Lists.{flatMap-append}
 use Rattle.cycle.specs.declared.Cycle.{Cycle}
+use Rattle.greedy.proofs.Counts.{times, NoneTwice, AllBelow, same, other, same?}
 use Rattle.exchange.specs.Subsets.{Edge, along, edges}
-use Rattle.exchange.specs.Resolution.{pairsOf, recipientBy, donorBy, recipientTable, donorTable}
-use Rattle.resolution.specs.Records.{given, received}
-use Rattle.resolution.proofs.Cyclic.{Cyclic, swap, triangle}
-
--- all edges are between n pairs
-abbrev pub Between : ℕ → List Edge → Type 0
-Between n [] = Unit {0}
-Between n (e ∷ es) = (e .donor < n) × (e .patient < n) × Between n es
-
--- an edge the other way
-abbrev turned : Edge → Edge
-turned e = record { donor = e .patient; patient = e .donor }
+use Rattle.exchange.specs.Resolution.{pairsOf, recipientBy, recipientTable, donorTable}
+use Rattle.exchange.specs.Rivals.{Each}
+use Rattle.exchange.proofs.Charged.{joined}
+use Rattle.exchange.proofs.Sets.{Inside}
+use Rattle.exchange.proofs.Partners.{turned, donor-turned, from, absent, from-turned, each-turned, from-all, to-all, edges-all}
+use Rattle.resolution.specs.Records.{given, received, nobody, givenIn, receivedIn}
 
 received-turned : (es : List Edge) (l : List ℕ) → received es l ≡ given (map turned es) l
 unfolding received given
 received-turned [] l = refl
 received-turned (e ∷ es) l = received-turned es (set l (e .patient) (e .donor))
-
-donor-turned : (es : List Edge) (d i : ℕ) → donorBy es d i ≡ recipientBy (map turned es) d i
-unfolding donorBy recipientBy
-donor-turned [] d i = refl
-donor-turned (e ∷ es) d i = donor-turned es (cond (eqb i (e .patient)) (e .donor) d) i
-
-turned-between : (n : ℕ) (es : List Edge) → Between n es → Between n (map turned es)
-turned-between n [] h = tt
-turned-between n (e ∷ es) h = (h .1, h .0, turned-between n es (h .2))
 
 -- a table with one entry set
 set-table : (n : ℕ) (f : ℕ → ℕ) (d x : ℕ) → d < n → set (table n f) d x ≡ table n (λ i. cond (eqb i d) x (f i))
@@ -51,53 +38,69 @@ set-table n f d x h =
       | no e ↦ rw (ne-eqb i d e) (sym (getD-set-other (table n f) d i x 0 e ∙ getD-table n f 0 i k))
     ]
 
--- the entries of a table after edges
-given-table : (n : ℕ) (es : List Edge) (f : ℕ → ℕ) → Between n es → given es (table n f) ≡ table n (λ i. recipientBy es (f i) i)
-unfolding given recipientBy
-given-table n [] f h = refl
-given-table n (e ∷ es) f h =
-    ap (given es) (set-table n f (e .donor) (e .patient) (h .0)) ∙ given-table n es (λ i. cond (eqb i (e .donor)) (e .patient) (f i)) (h .2)
+-- the entries of a table after edges of which no donor is in two
+given-table : (n : ℕ) (es : List Edge) (f : ℕ → ℕ) → Each (Inside n) es → NoneTwice (from es) → given es (table n f) ≡ table n (λ i. recipientBy es (f i) i)
+unfolding given recipientBy times
+given-table n [] f h o = refl
+given-table n (e ∷ es) f h o =
+    ap (given es) (set-table n f (e .donor) (e .patient) (h .0 .0))
+    ∙ given-table n es (λ i. cond (eqb i (e .donor)) (e .patient) (f i)) (h .1) (λ p. omega (arith, o p))
+    ∙ table-cong n _ _ (λ i k. at i)
+  where
+    at : (i : ℕ) → recipientBy es (cond (eqb i (e .donor)) (e .patient) (f i)) i ≡ cond (eqb i (e .donor)) (e .patient) (recipientBy es (f i) i)
+    at i = elim (same? i (e .donor)) [
+      | same q z ↦ rw (eq-eqb i (e .donor) q) (absent es (e .patient) i (omega (arith, o i)))
+      | other q z ↦ rw (ne-eqb i (e .donor) q)
+    ]
 
-recipient-append : (es fs : List Edge) (d i : ℕ) → recipientBy (es ++ fs) d i ≡ recipientBy fs (recipientBy es d i) i
-unfolding recipientBy
-recipient-append [] fs d i = refl
-recipient-append (e ∷ es) fs d i = recipient-append es fs (cond (eqb i (e .donor)) (e .patient) d) i
+-- ## The tables of cycles that share no pair
+
+module _ (n : ℕ) (cs : List (List ℕ)) (below : Each (AllBelow n) cs) (once : NoneTwice (joined cs)) where
+  pub given-all : givenIn n cs ≡ recipientTable n cs
+  unfolding recipientTable
+  given-all = given-table n (flatMap edges cs) (λ i. n) (edges-all n cs below) (rw (from-all cs) once)
+
+  pub received-all : receivedIn n cs ≡ donorTable n cs
+  unfolding donorTable
+  received-all =
+      let es : List Edge = flatMap edges cs in
+      received-turned es (nobody n)
+      ∙ given-table n (map turned es) (λ i. n) (each-turned n es (edges-all n cs below)) (rw (from-turned es) (λ p. omega (arith, to-all cs p, once p)))
+      ∙ table-cong n _ _ (λ i k. sym (donor-turned es n i))
 
 -- ## More cycles
 
-given-more : (n : ℕ) (es fs : List Edge) → Between n fs → given fs (table n (λ i. recipientBy es n i)) ≡ table n (λ i. recipientBy (es ++ fs) n i)
-given-more n es fs h =
-    given-table n fs (λ i. recipientBy es n i) h ∙ table-cong n _ _ (λ i k. sym (recipient-append es fs n i))
+given-append : (es fs : List Edge) (l : List ℕ) → given fs (given es l) ≡ given (es ++ fs) l
+unfolding given
+given-append [] fs l = refl
+given-append (e ∷ es) fs l = given-append es fs (set l (e .donor) (e .patient))
 
-map-append : (es fs : List Edge) → map turned (es ++ fs) ≡ map turned es ++ map turned fs
-map-append [] fs = refl
-map-append (e ∷ es) fs = ap (λ (l : List Edge). turned e ∷ l) (map-append es fs)
+received-append : (es fs : List Edge) (l : List ℕ) → received fs (received es l) ≡ received (es ++ fs) l
+unfolding received
+received-append [] fs l = refl
+received-append (e ∷ es) fs l = received-append es fs (set l (e .patient) (e .donor))
 
-module _ (n : ℕ) (cs ds : List (List ℕ)) (h : Between n (flatMap edges ds)) where
-  pub recipients-more : given (flatMap edges ds) (recipientTable n cs) ≡ recipientTable n (cs ++ ds)
-  unfolding recipientTable
-  recipients-more =
-      given-more n (flatMap edges cs) (flatMap edges ds) h
-      ∙ ap (λ (es : List Edge). table n (λ i. recipientBy es n i)) (sym (flatMap-append edges cs ds))
+pub given-more : (n : ℕ) (cs ds : List (List ℕ)) → given (flatMap edges ds) (givenIn n cs) ≡ givenIn n (cs ++ ds)
+given-more n cs ds =
+    given-append (flatMap edges cs) (flatMap edges ds) (nobody n) ∙ ap (λ (es : List Edge). given es (nobody n)) (sym (flatMap-append edges cs ds))
 
-  pub donors-more : received (flatMap edges ds) (donorTable n cs) ≡ donorTable n (cs ++ ds)
-  unfolding donorTable
-  donors-more =
-      received-turned (flatMap edges ds) _
-      ∙ ap (given (map turned (flatMap edges ds))) (table-cong n _ _ (λ i k. donor-turned (flatMap edges cs) n i))
-      ∙ given-more n (map turned (flatMap edges cs)) (map turned (flatMap edges ds)) (turned-between n (flatMap edges ds) h)
-      ∙ ap (λ (es : List Edge). table n (λ i. recipientBy es n i))
-      (sym (map-append (flatMap edges cs) (flatMap edges ds)) ∙ ap (map turned) (sym (flatMap-append edges cs ds)))
-      ∙ table-cong n _ _ (λ i k. sym (donor-turned (flatMap edges (cs ++ ds)) n i))
+pub received-more : (n : ℕ) (cs ds : List (List ℕ)) → received (flatMap edges ds) (receivedIn n cs) ≡ receivedIn n (cs ++ ds)
+received-more n cs ds =
+    received-append (flatMap edges cs) (flatMap edges ds) (nobody n) ∙ ap (λ (es : List Edge). received es (nobody n)) (sym (flatMap-append edges cs ds))
 
--- no cycle yet
-pub recipients-none : (n : ℕ) → table n (λ i. n) ≡ recipientTable n []
-unfolding recipientTable recipientBy flatMap
-recipients-none n = refl
+-- ## No table grows or shrinks
 
-pub donors-none : (n : ℕ) → table n (λ i. n) ≡ donorTable n []
-unfolding donorTable donorBy flatMap
-donors-none n = refl
+length-given : (es : List Edge) (l : List ℕ) → length (given es l) ≡ length l
+unfolding given
+length-given [] l = refl
+length-given (e ∷ es) l = length-given es (set l (e .donor) (e .patient)) ∙ length-set l (e .donor) (e .patient)
+
+pub given-long : (n : ℕ) (cs : List (List ℕ)) → length (givenIn n cs) ≡ n
+given-long n cs = length-given (flatMap edges cs) (nobody n) ∙ length-table n (λ i. n)
+
+pub received-long : (n : ℕ) (cs : List (List ℕ)) → length (receivedIn n cs) ≡ n
+received-long n cs =
+    ap length (received-turned (flatMap edges cs) (nobody n)) ∙ length-given (map turned (flatMap edges cs)) (nobody n) ∙ length-table n (λ i. n)
 
 -- ## The edges of a cycle
 
@@ -109,11 +112,6 @@ pub edges-three : (a b c : ℕ) → edges (a ∷ b ∷ c ∷ [])
     ≡ record { donor = a; patient = b } ∷ record { donor = b; patient = c } ∷ record { donor = c; patient = a } ∷ []
 unfolding edges along
 edges-three a b c = refl
-
-pub cyclic-between : (n : ℕ) (c : List ℕ) → Cyclic n c → Between n (flatMap edges (c ∷ []))
-unfolding edges along flatMap
-cyclic-between n _ (swap p q) = (p, q, (q, p, tt))
-cyclic-between n _ (triangle p q r) = (p, q, (q, r, (r, p, tt)))
 
 -- what `engage` does, edge by edge
 module _ (n : ℕ) (c : Cycle) where

@@ -3,6 +3,7 @@ use Prim.Native.Nat.{ℕ, _+_}
 use mathlib.Core.List.{List, [], _∷_, map, flatMap}
 use mathlib.Core.Path.{_≡_}
 use lib.ListN.{length, set, replicate}
+use Rattle.laws.specs.Below.{table}
 use Rattle.laws.specs.Lent.{stored, filled}
 use Rattle.cycle.specs.declared.Cycle.{Cycle}
 use Rattle.exchange.specs.Subsets.{Scope, order, Edge, edges, entry, pairsAt, bestCycle}
@@ -19,6 +20,17 @@ given (e ∷ es) l = given es (set l (e .donor) (e .patient))
 unfoldable pub received : List Edge → List ℕ → List ℕ
 received [] l = l
 received (e ∷ es) l = received es (set l (e .patient) (e .donor))
+
+-- partner tables of n pairs with nobody in them
+abbrev pub nobody : ℕ → List ℕ
+nobody n = table n (λ i. n)
+
+-- the partner tables of cycles of n pairs, edge by edge; those of cycles that share no pair are `recipientTable` and `donorTable`
+abbrev pub givenIn : ℕ → List (List ℕ) → List ℕ
+givenIn n cs = given (flatMap edges cs) (nobody n)
+
+abbrev pub receivedIn : ℕ → List (List ℕ) → List ℕ
+receivedIn n cs = received (flatMap edges cs) (nobody n)
 
 -- the cycle that a subset t is weighed by, as its pairs, by lent tables
 abbrev pub cycleOf : ℕ → List ℕ → List ℕ → List ℕ → List ℕ → List ℕ

@@ -7,10 +7,10 @@ ghost use Prim.Native.Nat.{_^_, _≤_, _<_};
 ghost use lib.ListN.{length, set};
 ghost use Rattle.laws.specs.Below.{table};
 ghost use Rattle.exchange.specs.Subsets.{upToThree, edges};
-ghost use Rattle.exchange.specs.Resolution.{pairsOf, recordOf, recipientTable, donorTable};
+ghost use Rattle.exchange.specs.Resolution.{pairsOf, recordOf};
 ghost use Rattle.cursor.specs.Cursor.{OnSubset, subsetAt};
 ghost use Rattle.entries.specs.Preconditions.{weightOf, Readable, Shuffled};
-ghost use Rattle.resolution.specs.Records.{given, received, cycleOf, cyclesOf, noneYet, withCycle, resolvedCycles, Added};
+ghost use Rattle.resolution.specs.Records.{given, received, givenIn, receivedIn, cycleOf, cyclesOf, noneYet, withCycle, resolvedCycles, Added};
 ghost use Rattle.resolution.specs.Preconditions.{Partners, RecordRoom, One, Resolving};
 
 // A cycle's record and its weight.
@@ -182,8 +182,8 @@ pub fn resolve(
     ensures { λ r.
         let cs = cyclesOf (upToThree n) (now (m .entry)) (now (w .entry)) (now (s .entry)) (now (choices .entry)) in
         ⌜ (r ≡ resolvedCycles n (now (m .entry)) (now (w .entry)) cs)
-        × (now (donors .exit) ≡ donorTable n cs)
-        × (now (recipients .exit) ≡ recipientTable n cs) ⌝ }
+        × (now (donors .exit) ≡ receivedIn n cs)
+        × (now (recipients .exit) ≡ givenIn n cs) ⌝ }
 {
     alone(n, donors);
     alone(n, recipients);

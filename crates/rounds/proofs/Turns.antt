@@ -14,7 +14,7 @@ use Rattle.greedy.proofs.Choosing.{choosing-tally}
 use Rattle.greedy.proofs.Tallied.{clear-length}
 use Rattle.exchange.specs.Input.{noFloor}
 use Rattle.exchange.specs.Subsets.{upToThree, order, subsetCount}
-use Rattle.gates.specs.Counts.{counted}
+use Rattle.gates.specs.Counting.{counted}
 use Rattle.gates.specs.declared.Tally.{Tally}
 use Rattle.cursor.specs.Cursor.{placesAt, shown, subsetAt}
 use Rattle.gates.specs.declared.SecretPlaces.{SecretPlaces}

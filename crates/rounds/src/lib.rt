@@ -5,7 +5,7 @@ ghost use lib.ListN.{length};
 ghost use Rattle.greedy.specs.Rounds as Rounds;
 ghost use Rattle.exchange.specs.Subsets.{upToThree, order};
 ghost use Rattle.exchange.specs.Input.{noFloor};
-ghost use Rattle.gates.specs.Counts.{counted};
+ghost use Rattle.gates.specs.Counting.{counted};
 ghost use Rattle.rounds.specs.Preconditions.{Rounding};
 
 // A round for each entry of `choices`, over a weight for each subset. The tally is lent on to each step.

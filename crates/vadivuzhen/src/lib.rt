@@ -10,7 +10,7 @@ ghost use Rattle.pool.specs.Lent.{lentFields, lentTables};
 ghost use Rattle.pool.specs.Calls.{reading, writing};
 ghost use Rattle.pool.specs.Promises.{ReadsRightly, WritesRightly};
 ghost use Rattle.donation.specs.Weight.{documentPoints};
-ghost use Rattle.graph.specs.Graph.{graph};
+ghost use Rattle.graph.specs.Lent.{lentGraph};
 ghost use Rattle.weighing.specs.Building.{building};
 ghost use Rattle.weighing.specs.Promises.{BuildsRightly};
 ghost use Rattle.exchange.specs.Input.{request};
@@ -120,12 +120,11 @@ pub extern "C" fn vadivuzhen_build(
     ensures { λ r.
         let f = lentFields ids «donor_blood» «patient_blood» «donor_age» «patient_age»
         «donor_antigens» «patient_antigens» «patient_antibodies» in
-        let lent = graph (now (compatibilities .entry)) (now (weights .entry)) in
-        let left = graph (now (compatibilities .exit)) (now (weights .exit)) in
-        let due = building documentPoints n (f .entry) lent in
+        let g = lentGraph compatibilities weights in
+        let due = building documentPoints n (f .entry) (g .entry) in
         ⌜ (r ≡ buildNumbers (due .answer)) × NumberedAt0 (due .answer) ⌝
-        ∗ ⌜ left ≡ due .lent ⌝
-        ∗ ⌜ BuildsRightly n (f .entry) lent due ⌝ }
+        ∗ ⌜ g .exit ≡ due .lent ⌝
+        ∗ ⌜ BuildsRightly n (f .entry) (g .entry) due ⌝ }
 {
     let answer = weighing::build(
         n,

@@ -3,7 +3,7 @@ use Rattle.lending.proofs.Walking.{_≡_, refl, ap, subst, [], _∷_, List, ℕ
 use denote.Struct.Laws as LL
 use Rattle.choosing.specs.Parts.{Turn, choiceOf}
 use Rattle.exchange.specs.Subsets.{upToThree}
-use Rattle.gates.specs.Counts.{counted}
+use Rattle.gates.specs.Counting.{counted}
 use Rattle.cursor.specs.Cursor.{shown, placesAt}
 use Rattle.gates.specs.declared.Tally.{Tally}
 use Rattle.gates.proofs.Tally as Tally-row

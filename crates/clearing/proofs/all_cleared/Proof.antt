@@ -1,8 +1,10 @@
 -- `clearing::all_cleared` meets its contract. The loop's invariant is `Cleared`. Assumes nothing.
 use Prim.Native.Nat.{_-_}
+use mathlib.Core.Path.{_∙_}
 use native.Mathlib.Omega.{arith}
 use borrow.Author.Needs.{needs}
 use lib.ListN.{length}
+use Rattle.cursor.proofs.Following.{goes-on}
 use Rattle.clearing.proofs.AllCleared.{Cleared, begins, kept, ends, below, below-few, ranged, room, again}
 use Rattle.clearing.proofs.all_cleared.Statement.{statement}
 use Rattle.clearing.proofs.all_cleared.Tie as tie
@@ -65,7 +67,7 @@ loop-again c =
     let pre = start l .pre in
     let more = turn .loop-test .taken in
     again _ _ _ _ pre _ _ _ _ (l .loop .inv) more _ (loaded .load-u32 .ensures) _ (weighed .weight-after .ensures .0) _ (stored .store-u32 .ensures) _
-    (weighed .weight-after .ensures .1) _ (c .next .ensures _ (below _ _ _ _ pre _ _ _ _ (l .loop .inv) more) (l .loop .inv .there))
+    (weighed .weight-after .ensures .1) _ (c .next .ensures ∙ goes-on _ (pre .few) _ (below _ _ _ _ pre _ _ _ _ (l .loop .inv) more) _ (l .loop .inv .there))
 
 same-length : tie.Need-same-length Inv-loop μ-loop
 same-length c = let l = c .before in kept _ _ _ _ (start l .pre) _ _ _ _ (l .loop .inv)

@@ -5,7 +5,7 @@ use Rattle.clearing.specs.Preconditions.{Clearing}
 use Rattle.exchange.specs.Subsets.{upToThree, order}
 use Rattle.greedy.specs.Rounds as Rounds
 use Rattle.cursor.specs.Cursor.{subsetAt, shown}
-use Rattle.gates.specs.Counts.{counted}
+use Rattle.gates.specs.Counting.{counted}
 use Rattle.gates.specs.declared.SecretPlaces.{SecretPlaces}
 use Rattle.gates.proofs.SecretPlaces as SecretPlaces-row
 use Rattle.gates.proofs.SecretPlaces.Laws as SecretPlaces-laws

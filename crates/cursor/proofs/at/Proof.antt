@@ -6,6 +6,7 @@ use borrow.Author.Needs.{needs}
 use Rattle.exchange.specs.Subsets.{upToThree}
 use Rattle.cursor.specs.Cursor.{placesAt}
 use Rattle.cursor.proofs.Order.{in-range}
+use Rattle.cursor.proofs.Following.{goes-on}
 use Rattle.cursor.proofs.at.Statement.{statement}
 use Rattle.cursor.proofs.at.Tie as tie
 
@@ -23,7 +24,8 @@ next-requires c κs =
 loop-again : tie.Need-loop-again Inv-loop μ-loop
 loop-again c =
     let at-loop = c .before .before in
-    (search needs, c .next .ensures (at-loop .loop .i) (omega (arith, at-loop .before .before .pre .1)) (at-loop .loop .inv .1))
+    let pre = at-loop .before .before .pre in
+    (search needs, c .next .ensures ∙ goes-on _ (pre .0) (at-loop .loop .i) (omega (arith, pre .1)) _ (at-loop .loop .inv .1))
 
 returns : tie.Need-returns Inv-loop μ-loop
 returns c = let e : c .before .loop .i ≡ c .before .before .before .args .k = omega arith in c .before .loop .inv .1 ∙ ap (placesAt _) e

@@ -3,7 +3,7 @@ use Rattle.lending.proofs.Walking.{_≡_, refl, ap, subst, [], _∷_, List, ℕ
 use denote.Struct.Laws as LL
 use Rattle.evaluation.specs.Preconditions.{Evaluating}
 use Rattle.exchange.specs.Subsets.{upToThree, subsetWeights, entry, evaluationTally, order}
-use Rattle.gates.specs.Counts.{counted}
+use Rattle.gates.specs.Counting.{counted}
 use Rattle.gates.specs.declared.Tally.{Tally}
 use Rattle.gates.proofs.Tally as Tally-row
 use Rattle.gates.proofs.Tally.Laws as Tally-laws

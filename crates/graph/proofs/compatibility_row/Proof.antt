@@ -6,7 +6,7 @@ use borrow.Author.Needs.{needs}
 use Rattle.pool.specs.Tables.{pairIn}
 use Rattle.donation.specs.Compatibility.{compatibility}
 use Rattle.graph.specs.Graph.{withRow}
-use Rattle.graph.specs.Lent.{fieldsOfM}
+use Rattle.graph.specs.Sources.{fieldsOfM}
 use Rattle.graph.specs.Preconditions.{Row, ReadableForM}
 use Rattle.graph.proofs.Rows.{row-fits, rows-few, Storing, storing-none, storing-more, storing-all}
 use Rattle.graph.proofs.compatibility_row.Statement.{statement}

@@ -6,7 +6,7 @@ use borrow.Author.Needs.{needs}
 use Rattle.pool.specs.Tables.{pairIn}
 use Rattle.donation.specs.Weight.{documentPoints, weight}
 use Rattle.graph.specs.Graph.{withRow}
-use Rattle.graph.specs.Lent.{fieldsOfW}
+use Rattle.graph.specs.Sources.{fieldsOfW}
 use Rattle.graph.specs.Preconditions.{Row, ReadableForW}
 use Rattle.graph.proofs.Rows.{row-fits, rows-few, Storing, storing-none, storing-more, storing-all}
 use Rattle.graph.proofs.weight_row.Statement.{statement}

@@ -5,7 +5,7 @@ use Rattle.planner.specs.Preconditions.{Stepping}
 use Rattle.exchange.specs.Input.{request, inputOf, noFloor}
 use Rattle.greedy.specs.Rounds as Rounds
 use Rattle.greedy.specs.Rounds.{left}
-use Rattle.gates.specs.Counts.{counted}
+use Rattle.gates.specs.Counting.{counted}
 use Rattle.exchange.specs.Planning.{leftBy}
 use Rattle.greedy.specs.Tally.{tally}
 use Rattle.evaluation.specs.Preconditions.{Evaluating}

@@ -4,7 +4,7 @@ use denote.Struct.Laws as LL
 use Rattle.rounds.specs.Preconditions.{Rounding}
 use Rattle.exchange.specs.Subsets.{upToThree, order}
 use Rattle.greedy.specs.Rounds as Rounds
-use Rattle.gates.specs.Counts.{counted}
+use Rattle.gates.specs.Counting.{counted}
 use Rattle.exchange.specs.Input.{noFloor}
 use Rattle.choosing.specs.Parts.{Turn, choiceOf}
 use Rattle.cursor.specs.Cursor.{shown, placesAt, subsetAt}
