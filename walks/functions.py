@@ -107,7 +107,7 @@ WALKS = [
         'use Rattle.planner.proofs.Recorded.{recorded}',
     ]),
 
-    Walk('answering', 'plan_recorded', 21, [
+    Walk('buffers', 'plan_recorded', 21, [
         call(10, 'no_records', []),
         let(9, 10),
         relend(11, 12, 'weights'),
@@ -118,7 +118,7 @@ WALKS = [
         call(0, 'planner::plan', ['n', 'm', 'w', 'shuffle', 12, 14, 16, 18, 20]),
         give(0),
     ], 'recorded _ (lent (weights .now) (choices .now) (donors .now) (recipients .now)) (lent {weights} {choices} {donors} {recipients}) _ _ _ e1 e2', [
-        'use Rattle.answering.proofs.Plans.{recorded}',
+        'use Rattle.buffers.proofs.Plans.{recorded}',
     ]),
 
     Walk('vadivuzhen', 'vadivuzhen_plan', 21, [

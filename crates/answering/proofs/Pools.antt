@@ -26,7 +26,8 @@ use Rattle.exchange.specs.Input.{input, inputOf, request}
 use Rattle.exchange.specs.Faultless.{Compatibility}
 use Rattle.exchange.proofs.Inverse.{Invertible, invertible}
 use Rattle.answering.specs.Answering.{planBy, printedPlanOf}
-use Rattle.answering.specs.Preconditions.{Read, FaultlessTables}
+use Rattle.buffers.specs.Preconditions.{FaultlessTables}
+use Rattle.answering.specs.Preconditions.{Read}
 use Rattle.answering.proofs.Plans.{square-most, plan-agree}
 
 -- ## The first n entries of a table

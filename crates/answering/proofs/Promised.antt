@@ -35,7 +35,8 @@ use Rattle.exchange.proofs.Checked.{answers-rightly}
 use Rattle.text.specs.Text.{digitsWithin, decimal, line}
 use Rattle.partners.specs.Pairs.{partner, pairLine, pairLines}
 use Rattle.printout.specs.Printed.{PrintedPlan, planText, refusalText}
-use Rattle.answering.specs.Answering.{most, planBy, poolInput, printedPlanOf, orRefusal, answerText, putting, answering}
+use Rattle.buffers.specs.Most.{most}
+use Rattle.answering.specs.Answering.{planBy, poolInput, printedPlanOf, orRefusal, answerText, putting, answering}
 use Rattle.answering.specs.Promises.{BuiltIsPlanned, PlanGuarantee, SheetPlanned, AnswerFault, sheet, tooMany, AnsweringIsRight, ExampleAnswered}
 use Rattle.answering.proofs.Pools.{shuffle-seated}
 

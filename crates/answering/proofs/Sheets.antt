@@ -22,10 +22,13 @@ use Rattle.reader.specs.Answers.{answerOf}
 use Rattle.reader.specs.declared.Reading.{Reading}
 use Rattle.reader.specs.declared.Reading.the-variants.{Pairs, Refused}
 use Rattle.printout.specs.Printed.{planText, refusalText}
-use Rattle.answering.specs.Answering.{most, printedPlanOf, orRefusal, answerText, putting, answering}
+use Rattle.buffers.specs.Most.{most}
+use Rattle.answering.specs.Answering.{printedPlanOf, orRefusal, answerText, putting, answering}
 use Rattle.answering.specs.Preconditions.{Read}
+use Rattle.answering.specs.Promises.{AnswersSheet}
 use Rattle.answering.proofs.Texts.{put-fits}
 use Rattle.answering.proofs.Pools.{same-plan}
+use Rattle.answering.proofs.Promised.{answering-is-right}
 
 module _ (b : List ℕ) (t left : Tables) (r : Reading) (e : outcome (answerOf r) left ≡ reading b t) (room-is : room t ≡ most) where
   answer-read : answerOf r ≡ reading b t .answer
@@ -40,9 +43,10 @@ module _ (b : List ℕ) (t left : Tables) (r : Reading) (e : outcome (answerOf r
       (ap (λ (x : ℕ). sheetFault b then roomFault x (pairsIn b)) (sym room-is) ∙ refused-fault _ _ _ _ g)
 
   pub refused-answer : (out new : List ℕ) (why : Refusal) (o k : ℕ) → r ≡ Refused why o → outcome (finished k) new ≡ putting (refusalText (numberOf why) o) out
-      → outcome (finished k) new ≡ answering b out
+      → AnswersSheet b out (outcome (finished k) new)
   unfolding answerOf answering
-  refused-answer out new why o k g h = h ∙ ap (λ (x : List ℕ). putting x out) (sym (refused-text (numberOf why) o (sym answer-read ∙ rw g)))
+  refused-answer out new why o k g h =
+      answering-is-right b out (outcome (finished k) new) (h ∙ ap (λ (x : List ℕ). putting x out) (sym (refused-text (numberOf why) o (sym answer-read ∙ rw g))))
 
   -- ## Accepted
 
@@ -83,9 +87,10 @@ module _ (b : List ℕ) (t left : Tables) (r : Reading) (e : outcome (answerOf r
         (ap (λ (p : Pool). p .shuffle) (pool-in-filled (pairsIn b) (pairAt b) (shuffleAt b (pairsIn b)) t))
 
     pub accepted-answer : (out new : List ℕ) (k : ℕ) → outcome (finished k) new ≡ putting (planText (printedPlanOf n (pairIn (left .fields)) (λ j. getD (left .shuffle) j 0))) out
-        → outcome (finished k) new ≡ answering b out
+        → AnswersSheet b out (outcome (finished k) new)
     unfolding answering
-    accepted-answer out new k h = h ∙ ap (λ (x : List ℕ). putting x out) (ap planText plan-read ∙ sym accepted-text)
+    accepted-answer out new k h =
+        answering-is-right b out (outcome (finished k) new) (h ∙ ap (λ (x : List ℕ). putting x out) (ap planText plan-read ∙ sym accepted-text))
 
 -- the answer's length is within the buffer
 pub answer-fits : (b out new : List ℕ) (k : ℕ) → outcome (finished k) new ≡ answering b out → k ≤ length new

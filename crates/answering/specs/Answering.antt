@@ -14,11 +14,8 @@ use Rattle.donation.specs.Weight.{documentPoints, weight}
 use Rattle.exchange.specs.Input.{Input, input}
 use Rattle.exchange.specs.Resolution.{donorTable, recipientTable}
 use Rattle.exchange.specs.Planning.{plannedBy, planFrom}
+use Rattle.buffers.specs.Most.{most}
 use Rattle.printout.specs.Printed.{PrintedPlan, printedPlan, planText, refusalText}
-
--- "lends buffers for 40 pairs"
-abbrev pub most : ℕ
-most = 40
 
 -- the plan made from q, with the pairs' ids, as it is printed
 unfoldable pub planBy : List ℕ → Input → PrintedPlan

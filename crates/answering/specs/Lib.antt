@@ -1,5 +1,4 @@
--- `Answering`: the text that answers a sheet, and what the call leaves. `Preconditions`: what its steps ask, and what
--- planning leaves. `Promises`: what is promised of the call.
+-- `Answering`: the text that answers a sheet, and what the call leaves. `Preconditions`: what its steps ask. `Promises`: what is promised of the call.
 pub mod Answering
 pub mod Preconditions
 pub mod Promises

@@ -21,7 +21,8 @@ use Rattle.exchange.specs.Rivals.{ExchangeSetOf, weightIn}
 use Rattle.exchange.specs.Promises.{TallyOf}
 use Rattle.text.specs.Text.{bytesOf}
 use Rattle.printout.specs.Printed.{PrintedPlan, planText, refusalText}
-use Rattle.answering.specs.Answering.{most, poolInput, answerText, putting, answering}
+use Rattle.buffers.specs.Most.{most}
+use Rattle.answering.specs.Answering.{poolInput, answerText, putting, answering}
 
 -- tables that were built are planned, with any shuffle and any tables that are long enough: they have no fault 10
 abbrev pub BuiltIsPlanned : Type 0

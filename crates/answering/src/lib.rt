@@ -1,9 +1,6 @@
 // A sheet answered (document 01, 'Writer and printout'): it is read, its tables are built, its pool is planned, and the plan is printed; or the
 // refusal of reading is printed. Nothing else refuses: what reading accepts can be built, what is built can be planned, and the buffer holds every
 // text. So the branches for other refusals are never taken, and that is proved.
-use cycle::Cycle;
-use planner::Planned;
-use planner::Planning;
 use printout::Printing;
 use reader::Reading;
 use refusal::Refusal;
@@ -17,93 +14,10 @@ ghost use Rattle.pool.specs.Tables.{pairIn};
 ghost use Rattle.pool.specs.Lent.{lentTables, tablesNow};
 ghost use Rattle.exchange.specs.Input.{inputOf, request};
 ghost use Rattle.printout.specs.Printed.{planText, refusalText};
-ghost use Rattle.exchange.specs.Planning.{lent};
-ghost use Rattle.planner.specs.Answers.{planIn, answerOf};
+ghost use Rattle.buffers.specs.Preconditions.{FaultlessTables};
 ghost use Rattle.answering.specs.Answering.{planBy, printedPlanOf, putting};
 ghost use Rattle.answering.specs.Promises.{AnswersSheet};
-ghost use Rattle.answering.specs.Preconditions.{Read, FaultlessTables, noRecords, Recorded, Partnered};
-
-// A table of records for 40 pairs.
-fn no_records() -> [Cycle; 20]
-    ensures { λ r. ⌜ r ≡ noRecords ⌝ }
-{
-    [Cycle {
-        first: 0,
-        second: 0,
-        third: 0,
-    }; 20]
-}
-
-// Plans, and lends a table for the records, which are not printed.
-fn plan_recorded(
-    n: usize,
-    m: &[u8],
-    w: &[u16],
-    shuffle: &[u16],
-    weights: &mut [u32],
-    choices: &mut [u32],
-    donors: &mut [u16],
-    recipients: &mut [u16],
-) -> Planning
-    ensures { λ r.
-        let a = request n (now (m .entry)) (now (w .entry)) (now (shuffle .entry)) in
-        let old = lent (now (weights .entry)) (now (choices .entry)) (now (donors .entry)) (now (recipients .entry)) in
-        let new = lent (now (weights .exit)) (now (choices .exit)) (now (donors .exit)) (now (recipients .exit)) in
-        ⌜ Recorded a old new (answerOf r) ⌝ }
-{
-    let mut records = no_records();
-    planner::plan(
-        n,
-        m,
-        w,
-        shuffle,
-        weights,
-        choices,
-        donors,
-        recipients,
-        &mut records,
-    )
-}
-
-// The plan of n pairs with these tables, which planning does not refuse, and its partners.
-fn plan_tables(
-    n: usize,
-    m: &[u8],
-    w: &[u16],
-    shuffle: &[u16],
-    donors: &mut [u16],
-    recipients: &mut [u16],
-) -> Planned
-    requires { ⌜ FaultlessTables (request n (now m) (now w) (now shuffle)) × (n ≤ length (now donors)) × (n ≤ length (now recipients)) ⌝ }
-    ensures { λ r.
-        let a = request n (now (m .entry)) (now (w .entry)) (now (shuffle .entry)) in
-        ⌜ Partnered a (now (donors .entry)) (now (recipients .entry)) (planIn r) (now (donors .exit)) (now (recipients .exit)) ⌝ }
-{
-    // 40 pairs have (40³ − 40) / 6 subsets and 20 rounds.
-    let mut weights = [0u32; 10660];
-    let mut choices = [0u32; 20];
-    match plan_recorded(
-        n,
-        m,
-        w,
-        shuffle,
-        &mut weights,
-        &mut choices,
-        donors,
-        recipients,
-    ) {
-        Planning::Made(made) => made,
-        Planning::Refused(_) => Planned {
-            weight: 0,
-            cycles: 0,
-            tally: gates::Counts {
-                comparisons: 0,
-                products: 0,
-                rounds: 0,
-            },
-        },
-    }
-}
+ghost use Rattle.answering.specs.Preconditions.{Read};
 
 // Prints the plan of n pairs with these ids and tables, and gives the text's length.
 fn print_planned(
@@ -122,7 +36,7 @@ fn print_planned(
 {
     let mut donors = [0u16; 40];
     let mut recipients = [0u16; 40];
-    let made = plan_tables(n, m, w, shuffle, &mut donors, &mut recipients);
+    let made = buffers::plan_tables(n, m, w, shuffle, &mut donors, &mut recipients);
     match printout::print_plan(
         n,
         made.cycles,

@@ -3,7 +3,6 @@ use borrow.Author.Needs.{needs}
 use mathlib.Core.Path.{refl}
 use Rattle.pool.specs.Tables.{fieldRoom, room}
 use Rattle.answering.proofs.Sheets.{read-accepted, refused-answer, accepted-answer}
-use Rattle.answering.proofs.Promised.{answering-is-right}
 use Rattle.answering.proofs.answer.Statement.{statement}
 use Rattle.answering.proofs.answer.Tie as tie
 
@@ -27,14 +26,14 @@ returns c =
     let read = after-why .before .before .before .before .before .before .before .before .before .before .before in
     let r = read .read in
     let p = c .print-refused in
-    answering-is-right _ _ _ (refused-answer _ _ _ (r .result) (r .ensures .0) refl _ _ _ _ _ (after-why .why .given .1) (p .ensures))
+    refused-answer _ _ _ (r .result) (r .ensures .0) refl _ _ _ _ _ (after-why .why .given .1) (p .ensures)
 
 returns-2 : tie.Need-returns-2
 unfolding room fieldRoom
 returns-2 c =
     let r = after-read (c .before) .read in
     let p = c .print-pool in
-    answering-is-right _ _ _ (accepted-answer _ _ _ (r .result) (r .ensures .0) refl _ (after-n (c .before) .n .given .1) _ _ _ (p .ensures))
+    accepted-answer _ _ _ (r .result) (r .ensures .0) refl _ (after-n (c .before) .n .given .1) _ _ _ (p .ensures)
 
 pub answer-spec : {M : Type 1} → statement M
 answer-spec =

@@ -1,14 +1,14 @@
--- `answering::plan_tables` meets its contract. Assumes nothing.
+-- `buffers::plan_tables` meets its contract. Assumes nothing.
 use borrow.Author.Needs.{needs}
 use Prim.Native.Nat.{ℕ}
 use native.Mathlib.Omega.{arith}
 use lib.Dec.{lit≤}
 use lib.ListN.{replicate, length-replicate}
 use Rattle.exchange.specs.Planning.{Lent, lent}
-use Rattle.answering.specs.Preconditions.{noRecords}
-use Rattle.answering.proofs.Plans.{Roomy, never-refused, partnered}
-use Rattle.answering.proofs.plan_tables.Statement.{statement}
-use Rattle.answering.proofs.plan_tables.Tie as tie
+use Rattle.buffers.specs.Preconditions.{noRecords}
+use Rattle.buffers.proofs.Plans.{Roomy, never-refused, partnered}
+use Rattle.buffers.proofs.plan_tables.Statement.{statement}
+use Rattle.buffers.proofs.plan_tables.Tie as tie
 
 -- moments, each seen from a later one
 abbrev start : tie.After-plan-recorded → tie.Start

@@ -1,32 +1,32 @@
--- `answering::plan_recorded` meets its contract: a walk of its MIR, written by walks/walk.py. Assumes nothing.
+-- `buffers::plan_recorded` meets its contract: a walk of its MIR, written by walks/walk.py. Assumes nothing.
 use Rattle.lending.proofs.Walking.{_≡_, refl, ap, subst, [], _∷_, List, ℕ, _<_, _^_, length, lit<, URA, fullShare, named, w64, Val, vint, SProp, ent, id⊢, via, emp, fst∗, Lft, Share, GName, ftrue, fat, flft, flent, Memory, Routine, Heap, Calls, Loops, WpFn, Tables, Atoms, Fun, fact, AllOutlive, givenOf, tables, tablesOf, Given, ‵, raw, some, later, _⊛_, ⋆, Item, _$_, _∵_, !, qed, by, move, keep, drop, use1, use2, use3, cut, split, join, pick, rewrite, fsplit, fjoin, feqL, suffices, frame, await, done, look, init, forget, stop, hop, fld, from, load, lit, addr, of-opd, and-then, no-more, land, assigns, returns, enter, alloc1, alloc0, params1, pass1, pass0, free1, free0, agg, whole, sub, look-in, lft-new, lft-end, FmC, fmOf, WpFn-mono, RattleType, owns, Is, shows, lone, uint-vals, uint-tells, uint-makes, u8, u16, u32, usize, RefT, sliceVal, MutSlice, ShrSlice, Room, slice-vals, mut-slice-tells, shr-slice-tells, shr-slice-copy, plain, shrSliceOf, Held, only, owned, facts, heard, nothing, onEntry, Meets, tripleOf, Contract, Triple, calls-at, ensured, lasts, entered, cited, says, Stays, stay-dropped, stay-slice, walkOf, goes-dropped, goes-slice, Walks, ends-at, walked, walk-meets, yes, renamed, LentAgain, again-out, again-back, array-out, array-back, Row, rowVal, row-tells, row-makes, row-typed}
 use denote.Struct.Laws as LL
 use denote.Enum.Laws as EL
-use Rattle.answering.specs.Preconditions.{Recorded, noRecords}
+use Rattle.buffers.specs.Preconditions.{Recorded, noRecords}
 use Rattle.exchange.specs.Input.{request}
 use Rattle.exchange.specs.Planning.{lent}
 use Rattle.planner.specs.Answers.{answerOf}
 use Rattle.exchange.specs.Promises.{PlansRightly}
 use Rattle.refusal.specs.Answer.{outcome}
-use Rattle.answering.proofs.Plans.{recorded}
+use Rattle.buffers.proofs.Plans.{recorded}
 use Rattle.planner.specs.declared.Planning.{Planning}
 use Rattle.planner.proofs.Planning as Planning-row
 use Rattle.planner.proofs.Planning.Laws as Planning-laws
 use Rattle.cycle.specs.declared.Cycle.{Cycle}
 use Rattle.cycle.proofs.Cycle as Cycle-row
 use Rattle.cycle.proofs.Cycle.Laws as Cycle-laws
-use Rattle.answering.proofs.no_records as f1
-use Rattle.answering.proofs.no_records.Symbol as f1-def
-use Rattle.answering.proofs.no_records.Symbol.{name as #f1}
-use Rattle.answering.proofs.no_records.Met as f1-thm
+use Rattle.buffers.proofs.no_records as f1
+use Rattle.buffers.proofs.no_records.Symbol as f1-def
+use Rattle.buffers.proofs.no_records.Symbol.{name as #f1}
+use Rattle.buffers.proofs.no_records.Met as f1-thm
 use Rattle.planner.proofs.plan as f2
 use Rattle.planner.proofs.plan.Symbol as f2-def
 use Rattle.planner.proofs.plan.Symbol.{name as #f2}
 use Rattle.planner.proofs.plan.Met as f2-thm
-use Rattle.answering.proofs.plan_recorded.Key.{name as #me}
-use Rattle.answering.proofs.plan_recorded as me
-use Rattle.answering.proofs.plan_recorded.Statement as stated
-use Rattle.answering.proofs.plan_recorded.Code as code
+use Rattle.buffers.proofs.plan_recorded.Key.{name as #me}
+use Rattle.buffers.proofs.plan_recorded as me
+use Rattle.buffers.proofs.plan_recorded.Statement as stated
+use Rattle.buffers.proofs.plan_recorded.Code as code
 
 abbrev R-Planning : RattleType
 R-Planning = Planning-row.the-row
@@ -164,5 +164,5 @@ plan-recorded-spec 𝓤 H 𝓜 𝓖 𝓡 =
     entered 𝓤 H (tripleOf 𝓤 H (𝓖 .A) me.signature (me.spec 𝓤 H (𝓖 .A) (𝓜 .mem) (𝓡 .run)))
     (tables 𝓤 H 𝓜 𝓡 code.env .C) (tables 𝓤 H 𝓜 𝓡 code.env .Λ) #me code.function (code.unfolded 𝓤 H 𝓜 𝓡)
     (meets 𝓤 H (𝓖 .A) (givenOf 𝓤 H 𝓜 𝓖) (𝓜 .mem) (𝓡 .run) (tablesOf 𝓤 H 𝓜 (tables 𝓤 H 𝓜 𝓡 code.env))
-    (cited 𝓤 H (F1 𝓤 H (𝓖 .A) (𝓜 .mem) (𝓡 .run)) 𝓜 𝓡 code.env #f1 f1-def.routine code.calls-answering·no-records (f1-thm.met 𝓤 H 𝓜 𝓖 𝓡))
+    (cited 𝓤 H (F1 𝓤 H (𝓖 .A) (𝓜 .mem) (𝓡 .run)) 𝓜 𝓡 code.env #f1 f1-def.routine code.calls-buffers·no-records (f1-thm.met 𝓤 H 𝓜 𝓖 𝓡))
     (cited 𝓤 H (F2 𝓤 H (𝓖 .A) (𝓜 .mem) (𝓡 .run)) 𝓜 𝓡 code.env #f2 f2-def.routine code.calls-planner·plan (f2-thm.met 𝓤 H 𝓜 𝓖 𝓡)))
