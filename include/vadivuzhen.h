@@ -186,7 +186,7 @@ struct vadivuzhen_plan_answer {
  * Proved: a plan is made if and only if there are none of these faults. Of every plan made: its donors and recipients are those of Algorithm 1 of arXiv
  * 2302.13880; all its cycles can be carried out; no pair is in two of them; no other set of exchanges of two or three pairs that can all be carried out,
  * with no pair in two of them, weighs more than three times as much; and the tally depends on n alone: with T triples and P twos among n pairs and
- * R = n / 2 rounds, comparisons are T + R (T + P), and products 2P + 7T + R (5 (T + P) - 1) + (R - 1) (2P + 3T), or 0 where R is 0. */
+ * R = n / 2 rounds, rounds are R, comparisons T + R (T + P), and products 2P + 7T + R (5 (T + P) - 1) + (R - 1) (2P + 3T), or 0 where R is 0. */
 VADIVUZHEN_ANSWERS struct vadivuzhen_plan_answer vadivuzhen_plan(
     size_t n,
     const uint8_t *m, size_t m_length,

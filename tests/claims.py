@@ -1,5 +1,5 @@
 """docs/CLAIMS.md holds to the tree. Of what stands there in backquotes: a path under crates/ is there; a must-fail edit, as `crate/label`, is there, and
-every edit of the tree is cited; any other single name is defined in the tree, as a definition, theorem, function, type, field or case. A name that is
+every edit of the tree is cited, and has what it changes once in its file; any other single name is defined in the tree, as a definition, theorem, function, type, field or case. A name that is
 cited with a module, a crate or a record, in one of the page's orders, is defined in it: "`module` `name`, `name`", "`name` and `name` of `module`",
 "`Record` (`field`)", `Record.field`; one in a column of definitions, in specs/. A theorem that follows a statement, "`Statement`: `module` `theorem`", has
 it in its type. The type of an argument, as `m: &[u8]`, is its type in the calls of that line.
@@ -75,6 +75,17 @@ for token in sorted(set(re.findall(r'`([^`\n]+)`', text))):
         check(token.lstrip('.') in names | WORDS or (crates / token).is_dir(), f'`{token}`: nothing of that name is defined')
 
 check(edits, 'the tree has no must-fail edits')
+for edit in sorted(crates.glob('*/must-fail/*.edit')):
+    files = {}
+    for key, value in re.findall(r'^(file|old|new): ?(.*)$', edit.read_text(), re.M):
+        if key == 'file':
+            file = edit.parent.parent / value
+            files.setdefault(file, file.read_text() if file.is_file() else '')
+        elif key == 'old':
+            old = value
+            check(files[file].count(old) == 1, f'{edit.relative_to(crates)}: {file.name} has {old!r} {files[file].count(old)} times')
+        else:
+            files[file] = files[file].replace(old, value, 1)
 for edit in sorted(edits - cited):
     check(False, f'the must-fail edit {edit} is not cited')
 

@@ -1,29 +1,24 @@
 -- What is promised of answering. Assumes nothing.
 use mathlib.Core.Path.{_≡_, refl, sym, ap, _∙_}
-use mathlib.Core.Bool.{xor}
-use mathlib.Core.List.{List, map, flatMap, flatten}
+use mathlib.Core.List.{List, map}
 use Prim.Native.Nat.{ℕ, _≤_}
-use Rattle.laws.specs.Below.{table, either, anyBelow, countBelow, one}
-use Rattle.laws.specs.Digits.{bigEndian}
-use Rattle.refusal.specs.Fault.{Fault, none, fault, refuse, _then_, firstBelow}
+use Rattle.laws.specs.Below.{table}
+use Rattle.refusal.specs.Fault.{Fault, none, fault, _then_}
 use Rattle.refusal.specs.Answer.{finished}
 use Rattle.refusal.proofs.Faults.{then-none, none-then, by-then}
 use Rattle.pool.specs.Pool.{Pair}
 use Rattle.pool.specs.Sheet.{pairsIn, pairAt, shuffleAt}
-use Rattle.pool.specs.Faults.{groupFault, idFault, pairFault, shuffleFault, fieldFault, headFault, pairFieldFault, shuffleFieldFault, endFault, sheetFault, roomFault}
+use Rattle.pool.specs.Faults.{sheetFault, roomFault}
 use Rattle.pool.specs.Faultless.{Faultless, FaultlessSheet}
 use Rattle.pool.proofs.Reading.{room-none, room-passed, room-fault, sheet-none, sheet-passed, sheet-pool, sheet-fault}
-use Rattle.donation.specs.Compatibility.{bloodTable, suits, has, shareBit, compatibility}
-use Rattle.donation.specs.Weight.{documentPoints, mismatches, mismatchPoints, agePoints, weight}
+use Rattle.donation.specs.Compatibility.{compatibility}
+use Rattle.donation.specs.Weight.{documentPoints, weight}
 use Rattle.donation.proofs.Compatible.{compatibility-most}
 use Rattle.weighing.proofs.Promised.{rightly}
-use Rattle.greedy.specs.Places.{among, meets}
-use Rattle.greedy.specs.Tally.{raise, nextRound}
-use Rattle.greedy.specs.Rounds.{join, byHalves, choosing, clear, clearingTally, rounds}
-use Rattle.exchange.specs.Subsets.{ascending, subsets, eachFirst, orders, cycles, along, edges, entry, productOf, sumOf, weigh, firstOf, heaviest, pairsAt, bestCycle, subsetWeight, evaluationTally}
-use Rattle.exchange.specs.Resolution.{resolved, recipientBy, donorBy, recipientTable, donorTable, total}
+use Rattle.exchange.specs.Subsets.{cycles, entry, pairsAt}
+use Rattle.exchange.specs.Resolution.{recipientTable, donorTable}
 use Rattle.exchange.specs.Input.{Input, noFloor, request}
-use Rattle.exchange.specs.Planning.{leftBy, plannedBy, planFrom}
+use Rattle.exchange.specs.Planning.{plannedBy, planFrom}
 use Rattle.exchange.specs.Algorithm1 as Algorithm1
 use Rattle.exchange.proofs.Inverse.{Invertible}
 use Rattle.exchange.proofs.Charged.{planned-apart}
@@ -32,12 +27,10 @@ use Rattle.exchange.proofs.Tallied.{tallied}
 use Rattle.exchange.proofs.Shuffled.{same-cycles}
 use Rattle.exchange.proofs.Partners.{table-at, algorithm-partners}
 use Rattle.exchange.proofs.Checked.{answers-rightly}
-use Rattle.text.specs.Text.{digitsWithin, decimal, line}
-use Rattle.partners.specs.Pairs.{partner, pairLine, pairLines}
 use Rattle.printout.specs.Printed.{PrintedPlan, planText, refusalText}
 use Rattle.buffers.specs.Most.{most}
 use Rattle.answering.specs.Answering.{planBy, poolInput, printedPlanOf, orRefusal, answerText, putting, answering}
-use Rattle.answering.specs.Promises.{BuiltIsPlanned, PlanGuarantee, SheetPlanned, AnswerFault, sheet, tooMany, AnsweringIsRight, ExampleAnswered}
+use Rattle.answering.specs.Promises.{BuiltIsPlanned, PlanGuarantee, SheetPlanned, AnswerFault, sheet, tooMany, AnsweringIsRight}
 use Rattle.answering.proofs.Pools.{shuffle-seated}
 
 pub built-is-planned : BuiltIsPlanned
@@ -129,12 +122,3 @@ answering-is-right b out o e =
       plans = λ s few. (plan b, sheet-planned b s, e ∙ ap (λ (t : List ℕ). putting t out) (plan-text b s few));
       refuses = λ unfit. let r = refusal-text b unfit in (r .0, r .1, r .2, e ∙ ap (λ (t : List ℕ). putting t out) (r .3));
     }
-
-pub example-answered : ExampleAnswered
-unfolding answerText orRefusal printedPlanOf planBy planText pairLines pairLine partner line decimal digitsWithin flatMap flatten table either anyBelow
-    countBelow one bigEndian refuse _then_ firstBelow pairsIn pairAt shuffleAt groupFault idFault pairFault shuffleFault fieldFault headFault
-    pairFieldFault shuffleFieldFault endFault sheetFault roomFault bloodTable suits has shareBit compatibility documentPoints mismatches
-    mismatchPoints agePoints weight among meets raise nextRound join byHalves choosing clear clearingTally rounds ascending subsets eachFirst orders
-    cycles along edges productOf sumOf weigh firstOf heaviest pairsAt bestCycle subsetWeight evaluationTally resolved recipientBy donorBy
-    recipientTable donorTable total leftBy plannedBy planFrom xor
-example-answered = refl

@@ -1,8 +1,8 @@
 -- What is promised of answering, as statements: the proofs are in `proofs/`, and the contract of `answer` carries `AnswersSheet`. Assumes nothing.
 use Prim.Native.Nat.{ℕ, _*_, _≤_, _<_}
 use mathlib.Core.Path.{_≡_}
-use mathlib.Core.List.{List, [], _∷_, _++_, map}
-use lib.ListN.{length, getD, replicate}
+use mathlib.Core.List.{List, map}
+use lib.ListN.{length, getD}
 use Rattle.laws.specs.Below.{table}
 use Rattle.refusal.specs.Answer.{finished, Outcome}
 use Rattle.pool.specs.Sheet.{pairsIn, pairAt, shuffleAt}
@@ -19,10 +19,9 @@ use Rattle.exchange.specs.Algorithm1 as Algorithm1
 use Rattle.exchange.specs.Faultless.{LongEnough}
 use Rattle.exchange.specs.Rivals.{ExchangeSetOf, weightIn}
 use Rattle.exchange.specs.Promises.{TallyOf}
-use Rattle.text.specs.Text.{bytesOf}
 use Rattle.printout.specs.Printed.{PrintedPlan, planText, refusalText}
 use Rattle.buffers.specs.Most.{most}
-use Rattle.answering.specs.Answering.{poolInput, answerText, putting, answering}
+use Rattle.answering.specs.Answering.{poolInput, putting, answering}
 
 -- tables that were built are planned, with any shuffle and any tables that are long enough: they have no fault 10
 abbrev pub BuiltIsPlanned : Type 0
@@ -74,16 +73,3 @@ pub record AnswersSheet (b out : List ℕ) (o : Outcome ℕ (List ℕ)) : Type 0
 
 abbrev pub AnsweringIsRight : Type 0
 AnsweringIsRight = (b out : List ℕ) (o : Outcome ℕ (List ℕ)) → o ≡ answering b out → AnswersSheet b out o
-
--- ## Document 01's example
-
--- a pair's field: the id's last byte, blood of donor and patient, and zeros
-abbrev pub examplePair : ℕ → ℕ → ℕ → List ℕ
-examplePair id donor patient = (2 ∷ 0 ∷ 32 ∷ 0 ∷ 0 ∷ 0 ∷ id ∷ donor ∷ patient ∷ 0 ∷ 0 ∷ []) ++ replicate 24 0
-
--- "01 0004 0001 0002; 02 0020 0000000B 01 02 00 00 and 24 zero bytes; 02 0020 0000000C 02 01 00 00 and 24 zero bytes; 03 0004 0000 0001"
-abbrev pub exampleSheet : List ℕ
-exampleSheet = (1 ∷ 0 ∷ 4 ∷ 0 ∷ 1 ∷ 0 ∷ 2 ∷ []) ++ (examplePair 11 1 2 ++ (examplePair 12 2 1 ++ (3 ∷ 0 ∷ 4 ∷ 0 ∷ 0 ∷ 0 ∷ 1 ∷ [])))
-
-abbrev pub ExampleAnswered : Type 0
-ExampleAnswered = answerText exampleSheet ≡ bytesOf "PLAN 2 1 2900\n11 12 12\n12 11 11\nCOUNTS 1 6 1\n"

@@ -22,7 +22,7 @@ pub record FaultlessTables (r : Request) : Type 0 where
   pub eachOnce : Shuffles r
   pub compatible : Compatibility (r .scope .pairs) (r .compatibilities)
 
--- a table of 20 records
+-- 20 records of zeros, to be written over
 abbrev pub noRecords : List Cycle
 noRecords = replicate 20 (record { first = 0; second = 0; third = 0 })
 

@@ -8,7 +8,7 @@ use mathlib.Core.List.{[], _∷_, map}
 use lib.Dec.{eqb}
 use Rattle.pool.specs.Pool.{Pair}
 use Rattle.donation.specs.Compatibility.{suits, entries, has, compatibility}
-use Rattle.donation.specs.Weight.{documentPoints, young, senior, weight}
+use Rattle.donation.specs.Weight.{documentPoints, weight}
 
 -- ## Blood, in words
 
@@ -74,9 +74,9 @@ coupled c i =
       patientAntibodies = 0;
     }
 
--- "0 mismatches, equal ages 1,450; 2 give 1,300; 3, young to senior 1,130; 4, the same 1,130; 5, senior to young 1,000"
+-- "Age group: 0 young, 1 senior"; "0 mismatches, equal ages 1,450; 2 give 1,300; 3, young to senior 1,130; 4, the same 1,130; 5, senior to young 1,000"
 abbrev pub EdgeExamples : Type 0
 EdgeExamples =
     map (λ (c : Couple). weight documentPoints (coupled c) 0 1)
-    (couple 7 young 7 young ∷ couple 3 senior 0 senior ∷ couple 7 young 0 senior ∷ couple 15 young 0 senior ∷ couple 31 senior 0 young ∷ [])
+    (couple 7 0 7 0 ∷ couple 3 1 0 1 ∷ couple 7 0 0 1 ∷ couple 15 0 0 1 ∷ couple 31 1 0 0 ∷ [])
     ≡ 1450 ∷ 1300 ∷ 1130 ∷ 1130 ∷ 1000 ∷ []

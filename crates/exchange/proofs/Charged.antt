@@ -9,7 +9,7 @@ use native.Mathlib.Decide.{decLt}
 use lib.ListN.{length, getD, length-append, length-map, List·getD-map, List·getD-eq-default}
 use borrow.Author.Tests.{lt-ltb, le-ltb}
 use Rattle.greedy.specs.Tally.{tally}
-use Rattle.greedy.specs.Places.{firstAt}
+use Rattle.greedy.specs.Promises.{firstAt}
 use Rattle.greedy.proofs.Counts.{times, NoneTwice, AllBelow, Alike, one-same, split-at, times-append, alike-length}
 use Rattle.greedy.proofs.Bound.{places, value, credit, Family, charge, charge-append, charge-once, charge-alike, subset-charge, credit-most, chosen-apart}
 use Rattle.exchange.specs.Subsets.{subsets, cycles, edges, productOf, sumOf, weigh, heaviest, pairsAt, bestCycle, subsetWeight, evaluationTally}

@@ -9,7 +9,7 @@ use lib.ListN.{length, getD, length-map}
 use Rattle.laws.specs.Lent.{filled}
 use Rattle.refusal.specs.Fault.{Fault, none, fault}
 use Rattle.refusal.specs.Answer.{Outcome, unless}
-use Rattle.greedy.specs.Places.{firstAt}
+use Rattle.greedy.specs.Promises.{firstAt}
 use Rattle.greedy.specs.Tally.{tally}
 use Rattle.greedy.specs.Rounds.{Left, rounds}
 use Rattle.greedy.proofs.Counts.{times, NoneTwice, AllBelow, Alike, one-same, one-eq, times-append, times-cons, alike-length}

@@ -10,7 +10,7 @@ use lib.ListN.{length, getD, length-append}
 use borrow.Author.Tests.{eqb-true, eqb-false}
 use Rattle.laws.specs.Below.{table}
 use Rattle.pool.specs.Faultless.{EachOnce}
-use Rattle.greedy.specs.Places.{firstAt}
+use Rattle.greedy.specs.Promises.{firstAt}
 use Rattle.greedy.proofs.Counts.{times, NoneTwice, AllBelow, one-eq, same, other, same?, times-append, pigeon, below-head, below-tail}
 use Rattle.exchange.specs.Subsets.{pairsAt}
 

@@ -9,9 +9,9 @@ use lib.Dec.{eqb, ltb}
 use lib.ListN.{length, getD, length-map, List·getD-eq-default}
 use borrow.Author.Tests.{ltb-true, ltb-false, lt-ltb, le-ltb, eqb-false, eq-eqb, ne-eqb}
 use Rattle.laws.specs.Below.{either}
-use Rattle.greedy.specs.Places.{meets, firstAt}
+use Rattle.greedy.specs.Places.{meets}
 use Rattle.greedy.specs.Rounds.{clear}
-use Rattle.greedy.specs.Promises.{greatest, choice, picks, cleared}
+use Rattle.greedy.specs.Promises.{firstAt, greatest, choice, picks, cleared}
 use Rattle.greedy.proofs.Counts.{meets-sym}
 use Rattle.greedy.proofs.Choosing.{greatest-first}
 use Rattle.exchange.specs.Subsets.{firstOf, heaviest}

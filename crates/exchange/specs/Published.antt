@@ -1,9 +1,9 @@
--- The published order and the cycles of subsets, said a second time, without the functions that list them. Assumes nothing.
-use Prim.Native.Nat.{ℕ, _≤_, _<_}
+-- The published order, the cycles of subsets and what a cycle weighs, said a second time, without the functions that list and fold them. Assumes nothing.
+use Prim.Native.Nat.{ℕ, _+_, _*_, _≤_, _<_}
 use mathlib.Core.Path.{_≡_}
 use mathlib.Core.List.{List, [], _∷_, List·Memᴰ}
 use lib.ListN.{length, getD}
-use Rattle.exchange.specs.Subsets.{subsets, cycles, heaviest}
+use Rattle.exchange.specs.Subsets.{subsets, cycles, weigh, heaviest}
 use Rattle.exchange.specs.Rivals.{Each}
 
 -- "u < v < w": places below n, each less than the next
@@ -42,6 +42,15 @@ CyclesOfTwo = (u v : ℕ) → cycles (u ∷ v ∷ []) ≡ (u ∷ v ∷ []) ∷ [
 
 abbrev pub CyclesOfTriple : Type 0
 CyclesOfTriple = (u v w : ℕ) → cycles (u ∷ v ∷ w ∷ []) ≡ (u ∷ v ∷ w ∷ []) ∷ (u ∷ w ∷ v ∷ []) ∷ []
+
+-- "A cycle weighs the product of its M entries times the sum of its W entries": of two pairs, and of three
+abbrev pub WeighTwo : Type 0
+WeighTwo = (m w : ℕ → ℕ → ℕ) (a b : ℕ) → weigh m w (a ∷ b ∷ []) ≡ m a b * m b a * (w a b + w b a)
+
+abbrev pub WeighThree : Type 0
+WeighThree =
+    (m w : ℕ → ℕ → ℕ) (a b c : ℕ)
+    → weigh m w (a ∷ b ∷ c ∷ []) ≡ m a b * m b c * m c a * (w a b + w b c + w c a)
 
 -- ## "The first wins a tie": of several cycles, or subsets, the heaviest is the first of greatest weight
 

@@ -12,10 +12,10 @@ use lib.Dec.{ltb}
 use lib.ListN.{length, getD, length-append, List·getD-eq-default}
 use borrow.Author.Tests.{ltb-true, ltb-false, le-ltb, le-leb, lt-leb}
 use Rattle.greedy.proofs.Counts.{times, shared, NoneTwice, AllBelow, Same, same, other, same?, times-append, shared-nil, shared-append, shared-join, shared-once, shared-both, shared-alike, shared-sym, meets-shared, Alike, pigeon}
-use Rattle.greedy.specs.Places.{meets, firstAt}
+use Rattle.greedy.specs.Places.{meets}
 use Rattle.greedy.specs.Tally.{Tally, nextRound}
 use Rattle.greedy.specs.Rounds.{choosing, clear, clearingTally, rounds}
-use Rattle.greedy.specs.Promises.{greatest, choice, Lowest, none, some, ChoiceIsLowest, picks, cleared, RoundsChoose, WeightsLeft}
+use Rattle.greedy.specs.Promises.{firstAt, greatest, choice, Lowest, none, some, ChoiceIsLowest, picks, cleared, RoundsChoose, WeightsLeft}
 use Rattle.greedy.proofs.Choosing.{First, greatest-first, choosing-number}
 
 -- ---- what a choice is

@@ -11,9 +11,8 @@ use lib.ListN.{length, getD, take, drop, length-append, length-drop, take-append
 use lib.Seq.{getD-append-add, length-take-le}
 use borrow.Author.Tests.{ltb-true, ltb-false, eq-eqb, ne-eqb, le-ltb}
 use Rattle.greedy.specs.Tally.{Tally, raise}
-use Rattle.greedy.specs.Promises.{HalvesGiveTheChoice, greatest, choice}
+use Rattle.greedy.specs.Promises.{firstAt, HalvesGiveTheChoice, greatest, choice}
 use Rattle.greedy.specs.Rounds.{Winner, winner, join, byHalves, choosing}
-use Rattle.greedy.specs.Places.{firstAt}
 
 -- ---- the first greatest
 

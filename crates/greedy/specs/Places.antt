@@ -1,6 +1,6 @@
 -- Places and subsets of places, as lists of numbers: document 01's terms. Assumes nothing.
-use Prim.Native.Nat.{ℕ, suc}
-use mathlib.Core.Bool.{Bool, false, cond}
+use Prim.Native.Nat.{ℕ}
+use mathlib.Core.Bool.{Bool, false}
 use mathlib.Core.List.{List, [], _∷_}
 use lib.Dec.{eqb}
 use Rattle.laws.specs.Below.{either}
@@ -9,11 +9,6 @@ use Rattle.laws.specs.Below.{either}
 unfoldable pub among : ℕ → List ℕ → Bool
 among p [] = false
 among p (q ∷ s) = either (eqb p q) (among p s)
-
--- where it first stands
-unfoldable pub firstAt : ℕ → List ℕ → ℕ
-firstAt p [] = 0
-firstAt p (q ∷ s) = cond (eqb p q) 0 (suc (firstAt p s))
 
 -- do the two share a place?
 unfoldable pub meets : List ℕ → List ℕ → Bool

@@ -1,19 +1,30 @@
--- What is promised of a round's choice, as statements: the proofs are in `proofs/`. Assumes nothing.
+-- What is promised of sharing a place and of a round's choice, as statements: the proofs are in `proofs/`. Assumes nothing.
 use Prim.Native.Nat.{ℕ, zero, suc, _≤_, _<_, max}
 use mathlib.Core.Path.{_≡_}
-use mathlib.Core.Bool.{cond}
-use mathlib.Core.List.{List, [], _∷_}
-use lib.Dec.{ltb}
+use mathlib.Core.Bool.{true, cond}
+use mathlib.Core.Logic.{_↔_}
+use mathlib.Core.List.{List, [], _∷_, List·Memᴰ}
+use lib.Dec.{eqb, ltb}
 use lib.ListN.{length, getD}
-use Rattle.greedy.specs.Places.{firstAt}
+use Rattle.greedy.specs.Places.{meets}
 use Rattle.greedy.specs.Tally.{Tally}
 use Rattle.greedy.specs.Rounds.{choosing, clear, rounds}
+
+-- ## Sharing a place: some place stands in both
+
+abbrev pub MeetsIsSharing : Type 0
+MeetsIsSharing = (s t : List ℕ) → (meets s t ≡ true) ↔ ((p : ℕ) × List·Memᴰ p s × List·Memᴰ p t)
 
 -- ## The choice
 
 unfoldable pub greatest : List ℕ → ℕ
 greatest [] = 0
 greatest (x ∷ ws) = max x (greatest ws)
+
+-- where a number first stands
+unfoldable pub firstAt : ℕ → List ℕ → ℕ
+firstAt p [] = 0
+firstAt p (q ∷ s) = cond (eqb p q) 0 (suc (firstAt p s))
 
 -- "the lowest-numbered subset of greatest weight; if that weight is 0 the choice is n, meaning none"
 unfoldable pub choice : ℕ → List (List ℕ) → List ℕ → ℕ

@@ -9,7 +9,7 @@ use lib.ListN.{length, getD, take, set, length-set}
 use lib.Seq.{take-all, take-suc-set}
 use Rattle.greedy.specs.Tally as Tallies
 use Rattle.greedy.specs.Tally.{raise, nextRound}
-use Rattle.greedy.specs.Rounds.{Chosen, chosenIn, clear, clearBefore, clearingTally, clearingTallyBefore, Left, left, rounds}
+use Rattle.greedy.specs.Rounds.{Chosen, clear, clearBefore, clearingTally, clearingTallyBefore, Left, left, rounds}
 use Rattle.greedy.proofs.Choosing.{choosing-tally}
 use Rattle.greedy.proofs.Tallied.{clear-length}
 use Rattle.exchange.specs.Input.{noFloor}

@@ -1,0 +1,41 @@
+-- Sheets and their answers, computed. Assumes nothing.
+use mathlib.Core.Path.{refl}
+use mathlib.Core.Bool.{xor}
+use mathlib.Core.List.{flatMap, flatten}
+use Rattle.laws.specs.Below.{table, either, anyBelow, countBelow, one}
+use Rattle.laws.specs.Digits.{bigEndian}
+use Rattle.refusal.specs.Fault.{refuse, _then_, firstBelow}
+use Rattle.pool.specs.Sheet.{pairsIn, pairAt, shuffleAt}
+use Rattle.pool.specs.Faults.{groupFault, idFault, pairFault, shuffleFault, fieldFault, headFault, pairFieldFault, shuffleFieldFault, endFault, sheetFault, roomFault}
+use Rattle.donation.specs.Compatibility.{bloodTable, suits, has, shareBit, compatibility}
+use Rattle.donation.specs.Weight.{documentPoints, mismatches, mismatchPoints, agePoints, weight}
+use Rattle.greedy.specs.Places.{among, meets}
+use Rattle.greedy.specs.Tally.{raise, nextRound}
+use Rattle.greedy.specs.Rounds.{join, byHalves, choosing, clear, clearingTally, rounds}
+use Rattle.exchange.specs.Subsets.{ascending, subsets, eachFirst, orders, cycles, along, edges, productOf, sumOf, weigh, firstOf, heaviest, pairsAt, bestCycle, subsetWeight, evaluationTally}
+use Rattle.exchange.specs.Resolution.{resolved, recipientBy, donorBy, recipientTable, donorTable, total}
+use Rattle.exchange.specs.Planning.{leftBy, plannedBy, planFrom}
+use Rattle.exchange.specs.Algorithm1 as Algorithm1
+use Rattle.text.specs.Text.{digitsWithin, decimal, line}
+use Rattle.partners.specs.Pairs.{partner, pairLine, pairLines}
+use Rattle.printout.specs.Printed.{planText}
+use Rattle.answering.specs.Answering.{planBy, printedPlanOf, orRefusal, answerText}
+use Rattle.answering.specs.Examples.{ExampleAnswered, TripleAnswered}
+
+pub example-answered : ExampleAnswered
+unfolding answerText orRefusal printedPlanOf planBy planText pairLines pairLine partner line decimal digitsWithin flatMap flatten table either anyBelow
+    countBelow one bigEndian refuse _then_ firstBelow pairsIn pairAt shuffleAt groupFault idFault pairFault shuffleFault fieldFault headFault
+    pairFieldFault shuffleFieldFault endFault sheetFault roomFault bloodTable suits has shareBit compatibility documentPoints mismatches
+    mismatchPoints agePoints weight among meets raise nextRound join byHalves choosing clear clearingTally rounds ascending subsets eachFirst orders
+    cycles along edges productOf sumOf weigh firstOf heaviest pairsAt bestCycle subsetWeight evaluationTally resolved recipientBy donorBy
+    recipientTable donorTable total leftBy plannedBy planFrom xor
+example-answered = refl
+
+pub triple-answered : TripleAnswered
+unfolding answerText orRefusal printedPlanOf planBy planText pairLines pairLine partner line decimal digitsWithin flatMap flatten table either anyBelow
+    countBelow one bigEndian refuse _then_ firstBelow pairsIn pairAt shuffleAt groupFault idFault pairFault shuffleFault fieldFault headFault
+    pairFieldFault shuffleFieldFault endFault sheetFault roomFault bloodTable suits has shareBit compatibility documentPoints mismatches
+    mismatchPoints agePoints weight among meets raise nextRound join byHalves choosing clear clearingTally rounds ascending subsets eachFirst orders
+    cycles along edges productOf sumOf weigh firstOf heaviest pairsAt bestCycle subsetWeight evaluationTally resolved recipientBy donorBy
+    recipientTable donorTable total leftBy plannedBy planFrom xor
+triple-answered = refl

@@ -1,0 +1,51 @@
+-- Two sheets and their answers, from bytes to printout: document 01's, and one of ours in which what the first leaves alike differs. Assumes nothing.
+use mathlib.Core.Path.{_≡_}
+use mathlib.Core.List.{List, [], _∷_, _++_, flatten}
+use Prim.Native.Nat.{ℕ}
+use lib.ListN.{replicate}
+use Rattle.text.specs.Text.{bytesOf}
+use Rattle.answering.specs.Answering.{answerText}
+
+-- ## Document 01's example
+
+-- a pair's field: the id's last byte, blood of donor and patient, and zeros
+abbrev pub examplePair : ℕ → ℕ → ℕ → List ℕ
+examplePair id donor patient = (2 ∷ 0 ∷ 32 ∷ 0 ∷ 0 ∷ 0 ∷ id ∷ donor ∷ patient ∷ 0 ∷ 0 ∷ []) ++ replicate 24 0
+
+-- "01 0004 0001 0002; 02 0020 0000000B 01 02 00 00 and 24 zero bytes; 02 0020 0000000C 02 01 00 00 and 24 zero bytes; 03 0004 0000 0001"
+abbrev pub exampleSheet : List ℕ
+exampleSheet = (1 ∷ 0 ∷ 4 ∷ 0 ∷ 1 ∷ 0 ∷ 2 ∷ []) ++ (examplePair 11 1 2 ++ (examplePair 12 2 1 ++ (3 ∷ 0 ∷ 4 ∷ 0 ∷ 0 ∷ 0 ∷ 1 ∷ [])))
+
+abbrev pub ExampleAnswered : Type 0
+ExampleAnswered = answerText exampleSheet ≡ bytesOf "PLAN 2 1 2900\n11 12 12\n12 11 11\nCOUNTS 1 6 1\n"
+
+-- ## A triple
+
+-- The pairs 1 and 2 are alike, so that the two cycles of 0, 1 and 2 weigh the same, and the shuffle decides; pair 3's antibody meets every donor's
+-- antigen. Donors and patients differ in blood and age. Worked out by hand:
+--
+--     1 → 0   antigens 0, 63 and 1: 3 mismatches, 100; both young, 50        1,150
+--     0 → 2   antigens 63 and 63: none, 400; both senior, 50                 1,450
+--     2 → 1   antigens 0, 63 and 63: 1 mismatch, 250; young to senior, 30    1,280
+--
+-- With the shuffle 1 3 0 2 the first cycle is 1, 0, 2. Without it, with it read backwards, or with its inverse, it would be 0, 1, 2.
+
+-- a field of 64 bits: entry 63 of the laboratory's list or not, and the last byte
+abbrev pub entries : ℕ → ℕ → List ℕ
+entries high low = high ∷ 0 ∷ 0 ∷ 0 ∷ 0 ∷ 0 ∷ 0 ∷ low ∷ []
+
+abbrev pub tripleSheet : List ℕ
+tripleSheet =
+    flatten
+    ((1 ∷ 0 ∷ 4 ∷ 0 ∷ 1 ∷ 0 ∷ 4 ∷ [])
+    ∷ (2 ∷ 0 ∷ 32 ∷ 0 ∷ 0 ∷ 0 ∷ 7 ∷ 1 ∷ 2 ∷ 1 ∷ 0 ∷ []) ∷ entries 128 0 ∷ entries 0 2 ∷ entries 0 0
+    ∷ (2 ∷ 0 ∷ 32 ∷ 0 ∷ 0 ∷ 1 ∷ 44 ∷ 0 ∷ 3 ∷ 0 ∷ 1 ∷ []) ∷ entries 128 1 ∷ entries 128 0 ∷ entries 0 0
+    ∷ (2 ∷ 0 ∷ 32 ∷ 0 ∷ 0 ∷ 0 ∷ 10 ∷ 0 ∷ 3 ∷ 0 ∷ 1 ∷ []) ∷ entries 128 1 ∷ entries 128 0 ∷ entries 0 0
+    ∷ (2 ∷ 0 ∷ 32 ∷ 0 ∷ 0 ∷ 0 ∷ 100 ∷ 0 ∷ 3 ∷ 0 ∷ 0 ∷ []) ∷ entries 0 0 ∷ entries 0 0 ∷ entries 128 0
+    ∷ (3 ∷ 0 ∷ 8 ∷ 0 ∷ 1 ∷ 0 ∷ 3 ∷ 0 ∷ 0 ∷ 0 ∷ 2 ∷ [])
+    ∷ [])
+
+abbrev pub TripleAnswered : Type 0
+TripleAnswered =
+    answerText tripleSheet
+    ≡ bytesOf "PLAN 4 1 3880\n7 300 10\n300 10 7\n10 7 300\n100 - -\nCOUNTS 24 162 2\n"
