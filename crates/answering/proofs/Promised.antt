@@ -3,6 +3,7 @@ use mathlib.Core.Path.{_≡_, refl, sym, ap, _∙_}
 use mathlib.Core.List.{List, map}
 use Prim.Native.Nat.{ℕ, _≤_}
 use Rattle.laws.specs.Below.{table}
+use Rattle.laws.proofs.Below.{getD-table}
 use Rattle.refusal.specs.Fault.{Fault, none, fault, _then_}
 use Rattle.refusal.specs.Answer.{finished}
 use Rattle.refusal.proofs.Faults.{then-none, none-then, by-then}
@@ -25,7 +26,7 @@ use Rattle.exchange.proofs.Charged.{planned-apart}
 use Rattle.exchange.proofs.Planned.{planned-set, rival-factor, all-count}
 use Rattle.exchange.proofs.Tallied.{tallied}
 use Rattle.exchange.proofs.Shuffled.{same-cycles}
-use Rattle.exchange.proofs.Partners.{table-at, algorithm-partners}
+use Rattle.exchange.proofs.Partners.{algorithm-partners}
 use Rattle.exchange.proofs.Checked.{answers-rightly}
 use Rattle.printout.specs.Printed.{PrintedPlan, planText, refusalText}
 use Rattle.buffers.specs.Most.{most}
@@ -67,7 +68,7 @@ module _ (n : ℕ) (pair : ℕ → Pair) (s : ℕ → ℕ) (w : Faultless n pair
   partners : Algorithm1.Partners q (donorTable n (plannedBy q)) (recipientTable n (plannedBy q))
   unfolding donorTable recipientTable
   partners = rw same
-      (algorithm-partners q (rw same at (planned-apart noFloor 3 n m v (table n s) seated)) _ _ (λ i h. table-at n _ i h) (λ i h. table-at n _ i h))
+      (algorithm-partners q (rw same at (planned-apart noFloor 3 n m v (table n s) seated)) _ _ (λ i h. getD-table n _ 0 i h) (λ i h. getD-table n _ 0 i h))
 
   plan-guarantee : PlanGuarantee q (printedPlanOf n pair s)
   unfolding printedPlanOf planBy planFrom

@@ -21,8 +21,8 @@ ExampleAnswered = answerText exampleSheet ≡ bytesOf "PLAN 2 1 2900\n11 12 12\n
 
 -- ## A triple
 
--- The pairs 1 and 2 are alike, so that the two cycles of 0, 1 and 2 weigh the same, and the shuffle decides; pair 3's antibody meets every donor's
--- antigen. Donors and patients differ in blood and age. Worked out by hand:
+-- The pairs 1 and 2 are alike, so that the two cycles of 0, 1 and 2 weigh the same, and the shuffle decides; pair 3's antibody meets every other
+-- donor's antigen. Donors and patients differ in blood and age. Worked out by hand:
 --
 --     1 → 0   antigens 0, 63 and 1: 3 mismatches, 100; both young, 50        1,150
 --     0 → 2   antigens 63 and 63: none, 400; both senior, 50                 1,450
@@ -31,17 +31,17 @@ ExampleAnswered = answerText exampleSheet ≡ bytesOf "PLAN 2 1 2900\n11 12 12\n
 -- With the shuffle 1 3 0 2 the first cycle is 1, 0, 2. Without it, with it read backwards, or with its inverse, it would be 0, 1, 2.
 
 -- a field of 64 bits: entry 63 of the laboratory's list or not, and the last byte
-abbrev pub entries : ℕ → ℕ → List ℕ
-entries high low = high ∷ 0 ∷ 0 ∷ 0 ∷ 0 ∷ 0 ∷ 0 ∷ low ∷ []
+abbrev pub tissue : ℕ → ℕ → List ℕ
+tissue high low = high ∷ 0 ∷ 0 ∷ 0 ∷ 0 ∷ 0 ∷ 0 ∷ low ∷ []
 
 abbrev pub tripleSheet : List ℕ
 tripleSheet =
     flatten
     ((1 ∷ 0 ∷ 4 ∷ 0 ∷ 1 ∷ 0 ∷ 4 ∷ [])
-    ∷ (2 ∷ 0 ∷ 32 ∷ 0 ∷ 0 ∷ 0 ∷ 7 ∷ 1 ∷ 2 ∷ 1 ∷ 0 ∷ []) ∷ entries 128 0 ∷ entries 0 2 ∷ entries 0 0
-    ∷ (2 ∷ 0 ∷ 32 ∷ 0 ∷ 0 ∷ 1 ∷ 44 ∷ 0 ∷ 3 ∷ 0 ∷ 1 ∷ []) ∷ entries 128 1 ∷ entries 128 0 ∷ entries 0 0
-    ∷ (2 ∷ 0 ∷ 32 ∷ 0 ∷ 0 ∷ 0 ∷ 10 ∷ 0 ∷ 3 ∷ 0 ∷ 1 ∷ []) ∷ entries 128 1 ∷ entries 128 0 ∷ entries 0 0
-    ∷ (2 ∷ 0 ∷ 32 ∷ 0 ∷ 0 ∷ 0 ∷ 100 ∷ 0 ∷ 3 ∷ 0 ∷ 0 ∷ []) ∷ entries 0 0 ∷ entries 0 0 ∷ entries 128 0
+    ∷ (2 ∷ 0 ∷ 32 ∷ 0 ∷ 0 ∷ 0 ∷ 7 ∷ 1 ∷ 2 ∷ 1 ∷ 0 ∷ []) ∷ tissue 128 0 ∷ tissue 0 2 ∷ tissue 0 0
+    ∷ (2 ∷ 0 ∷ 32 ∷ 0 ∷ 0 ∷ 1 ∷ 44 ∷ 0 ∷ 3 ∷ 0 ∷ 1 ∷ []) ∷ tissue 128 1 ∷ tissue 128 0 ∷ tissue 0 0
+    ∷ (2 ∷ 0 ∷ 32 ∷ 0 ∷ 0 ∷ 0 ∷ 10 ∷ 0 ∷ 3 ∷ 0 ∷ 1 ∷ []) ∷ tissue 128 1 ∷ tissue 128 0 ∷ tissue 0 0
+    ∷ (2 ∷ 0 ∷ 32 ∷ 0 ∷ 0 ∷ 0 ∷ 100 ∷ 0 ∷ 3 ∷ 0 ∷ 0 ∷ []) ∷ tissue 0 0 ∷ tissue 0 0 ∷ tissue 128 0
     ∷ (3 ∷ 0 ∷ 8 ∷ 0 ∷ 1 ∷ 0 ∷ 3 ∷ 0 ∷ 0 ∷ 0 ∷ 2 ∷ [])
     ∷ [])
 

@@ -1,7 +1,7 @@
 -- A cursor's number, and the next. Assumes nothing.
 use Prim.Native.Nat.{ℕ, zero, suc, _+_, _≤_, _<_}
 use mathlib.Core.Bool.{Bool, true, false, cond}
-use mathlib.Core.List.{List, [], _∷_, List·Memᴰ, List·Memᴰ·head, List·Memᴰ·tail}
+use mathlib.Core.List.{List, [], _∷_}
 use mathlib.Core.Path.{_≡_, refl, sym, ap, _∙_}
 use native.Mathlib.Omega.{arith}
 use native.Mathlib.Decide.{ℕ-discrete}
@@ -11,6 +11,7 @@ use lib.ListN.{length, getD}
 use Rattle.exchange.specs.Subsets.{upToThree, order, subsetCount}
 use Rattle.exchange.specs.Published.{Rising, Before, here, there, Precedes, larger, earlier, Sorted}
 use Rattle.exchange.specs.Rivals.{Each}
+use Rattle.exchange.proofs.Ordered.{mem-at}
 use Rattle.exchange.proofs.Published.{published}
 use Rattle.cursor.specs.Cursor.{OnSubset, places, placesOf, placesAt, standsAt, numberIn, nextPlaces, subsetAt}
 use Rattle.cursor.specs.declared.Places.{Places}
@@ -93,10 +94,6 @@ module _ (n : ℕ) (few : n ≤ 200) where
 
 -- ## A cursor in range stands at some subset
 
-mem-at : (s : List ℕ) (ss : List (List ℕ)) → List·Memᴰ s ss → (k : ℕ) × (k < length ss) × (getD ss k [] ≡ s)
-mem-at s (t ∷ ss) (List·Memᴰ·head e) = (0, omega arith, sym e)
-mem-at s (t ∷ ss) (List·Memᴰ·tail m) = let r = mem-at s ss m in (suc (r .0), omega (arith, r .1), r .2)
-
 module _ (n : ℕ) (p : Places) (range : OnSubset n p) where
   -- its subset, with the cursor at it
   record Stood : Type 0 where
@@ -128,6 +125,6 @@ module _ (n : ℕ) (p : Places) (range : OnSubset n p) where
   unfolding placesAt
   next-is =
       let t = stood in
-      let m = mem-at (subsetAt n p) (order (upToThree n)) (published 3 n .all (subsetAt n p) (t .rising) (t .least) (t .most)) in
+      let m = mem-at (order (upToThree n)) (subsetAt n p) (published 3 n .all (subsetAt n p) (t .rising) (t .least) (t .most)) in
       let e : p ≡ placesAt (upToThree n) (m .0) = t .back ∙ ap (placesOf n) (sym (m .2)) in
       follows n (m .0) (range .few) (m .1) p e ∙ sym (goes-on n (range .few) (m .0) (m .1) p e)

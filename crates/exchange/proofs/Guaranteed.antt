@@ -11,6 +11,7 @@ use lib.ListN.{length, getD, take, drop, length-map, length-append, length-drop,
 use lib.Seq.{take-at}
 use borrow.Author.Tests.{eq-eqb, ne-eqb, le-leb}
 use Rattle.laws.specs.Below.{Some}
+use Rattle.laws.proofs.Below.{length-table, getD-table}
 use Rattle.laws.specs.Lent.{filled}
 use Rattle.refusal.specs.Fault.{Fault, none, fault}
 use Rattle.refusal.specs.Answer.{Outcome, unless}
@@ -27,12 +28,12 @@ use Rattle.exchange.specs.Algorithm1 as Algorithm1
 use Rattle.exchange.specs.Rivals.{Each, Exchange, ExchangeSet}
 use Rattle.exchange.specs.Faultless.{FaultlessInput}
 use Rattle.exchange.specs.Promises.{planned, Guarantee, Guaranteed, PlanningIsRight, SameTally, SameLengths, LengthsStay}
-use Rattle.exchange.proofs.Inverse.{Invertible, invertible, length-table}
+use Rattle.exchange.proofs.Inverse.{Invertible, invertible}
 use Rattle.exchange.proofs.Charged.{weightsOf, weight-at, family, joined, planned-apart}
 use Rattle.exchange.proofs.Planned.{planned-set, planned-below, rival-credit, rival-factor, all-count, credited-most}
 use Rattle.exchange.proofs.Tallied.{tallied}
 use Rattle.exchange.proofs.Shuffled.{same-cycles}
-use Rattle.exchange.proofs.Partners.{table-at, consistent, algorithm-partners}
+use Rattle.exchange.proofs.Partners.{consistent, algorithm-partners}
 use Rattle.exchange.proofs.Checked.{checked, finished-is, answers-rightly}
 
 -- ---- a cycle and its record
@@ -169,12 +170,12 @@ module _ (n : ℕ) (M W s : List ℕ) (t : Lent) (k : FaultlessInput (request n 
   donors-at : (i : ℕ) → i < n → getD (new .donors) i 0 ≡ donorBy (flatMap edges cs) n i
   unfolding filledLent donorTable
   donors-at i h = filled-at (donorTable n cs) (t .donors) i (omega (arith, length-table n (λ j. donorBy (flatMap edges cs) n j)))
-      ∙ table-at n (λ j. donorBy (flatMap edges cs) n j) i h
+      ∙ getD-table n (λ j. donorBy (flatMap edges cs) n j) 0 i h
 
   recipients-at : (i : ℕ) → i < n → getD (new .recipients) i 0 ≡ recipientBy (flatMap edges cs) n i
   unfolding filledLent recipientTable
   recipients-at i h = filled-at (recipientTable n cs) (t .recipients) i (omega (arith, length-table n (λ j. recipientBy (flatMap edges cs) n j)))
-      ∙ table-at n (λ j. recipientBy (flatMap edges cs) n j) i h
+      ∙ getD-table n (λ j. recipientBy (flatMap edges cs) n j) 0 i h
 
   cs-chosen : cs ≡ map (pairsAt s) chosen
   cs-chosen = same-cycles 0 3 n m w s

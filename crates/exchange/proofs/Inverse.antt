@@ -6,9 +6,10 @@ use mathlib.Core.Path.{_≡_, refl, sym, ap, ap₂, _∙_}
 use native.Mathlib.Omega.{arith}
 use native.Mathlib.Decide.{decLt}
 use lib.Dec.{eqb}
-use lib.ListN.{length, getD, length-append}
+use lib.ListN.{length, getD}
 use borrow.Author.Tests.{eqb-true, eqb-false}
 use Rattle.laws.specs.Below.{table}
+use Rattle.laws.proofs.Below.{length-table}
 use Rattle.pool.specs.Faultless.{EachOnce}
 use Rattle.greedy.specs.Promises.{firstAt}
 use Rattle.greedy.proofs.Counts.{times, NoneTwice, AllBelow, one-eq, same, other, same?, times-append, pigeon, below-head, below-tail}
@@ -44,11 +45,6 @@ pub record Invertible (n : ℕ) (s : List ℕ) : Type 0 where
   pub seat-below : (a : ℕ) → a < n → firstAt a s < n
   pub seat-pair : (a : ℕ) → a < n → getD s (firstAt a s) 0 ≡ a
   pub place-seat : (p : ℕ) → p < n → firstAt (getD s p 0) s ≡ p
-
-pub length-table : {A : Type 0} (n : ℕ) (f : ℕ → A) → length (table n f) ≡ n
-unfolding table
-length-table zero f = refl
-length-table (suc n) f = omega (arith, length-append (table n f) (f n ∷ []), length-table n f)
 
 -- a table of different numbers, and not p
 times-table : (p n : ℕ) (f : ℕ → ℕ) → ((i : ℕ) → i < n → f i ≡ p → ⊥) → times p (table n f) ≡ 0

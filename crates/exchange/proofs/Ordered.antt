@@ -151,12 +151,13 @@ subsets-mem (suc (suc l)) n k s h q m = elim (decLe k (suc l)) [
 ]
 
 -- the number under which it stands
-mem-at : (xs : List (List ℕ)) (s : List ℕ) → List·Memᴰ s xs → (i : ℕ) × (getD xs i [] ≡ s)
-mem-at (x ∷ xs) s (List·Memᴰ·head e) = (0, sym e)
-mem-at (x ∷ xs) s (List·Memᴰ·tail m) = let r = mem-at xs s m in (suc (r .0), r .1)
+pub mem-at : (xs : List (List ℕ)) (s : List ℕ) → List·Memᴰ s xs → (i : ℕ) × (i < length xs) × (getD xs i [] ≡ s)
+mem-at (x ∷ xs) s (List·Memᴰ·head e) = (0, omega arith, sym e)
+mem-at (x ∷ xs) s (List·Memᴰ·tail m) = let r = mem-at xs s m in (suc (r .0), omega (arith, r .1), r .2)
 
 pub subset-at : (l n : ℕ) (c : List ℕ) → NoneTwice c → AllBelow n c → 2 ≤ length c → length c ≤ l
     → (i : ℕ) × (getD (subsets l n) i [] ≡ arrange 0 n c)
 subset-at l n c o b h k =
     let e : length (arrange 0 n c) ≡ length c = alike-length n (arrange 0 n c) c b (arrange-alike n c o b) in
-    mem-at (subsets l n) (arrange 0 n c) (subsets-mem l n (length (arrange 0 n c)) (arrange 0 n c) (omega arith) (omega arith) (arrange-mem 0 n c))
+    let r = mem-at (subsets l n) (arrange 0 n c) (subsets-mem l n (length (arrange 0 n c)) (arrange 0 n c) (omega arith) (omega arith) (arrange-mem 0 n c)) in
+    (r .0, r .2)

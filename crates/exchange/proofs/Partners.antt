@@ -11,7 +11,7 @@ use lib.Dec.{eqb, ltb}
 use lib.ListN.{length, getD, length-append, length-map, List·getD-append}
 use lib.Seq.{getD-at}
 use borrow.Author.Tests.{lt-ltb, le-ltb, eq-eqb, ne-eqb, leb-true, le-leb, lt-leb}
-use Rattle.laws.specs.Below.{table, ExactlyOne}
+use Rattle.laws.specs.Below.{ExactlyOne}
 use Rattle.greedy.specs.Places.{among}
 use Rattle.greedy.proofs.Counts.{times, NoneTwice, AllBelow, Alike, one-eq, same, other, same?, times-append, times-cons, among-times}
 use Rattle.exchange.specs.Subsets.{Edge, along, edges, pairsAt}
@@ -23,19 +23,8 @@ use Rattle.exchange.specs.Algorithm1.Partner.{somebody, nobody}
 use Rattle.exchange.specs.Promises.{GivingOrder, Consistent}
 use Rattle.exchange.specs.Rivals.{Each}
 use Rattle.exchange.proofs.Ordered.{each-append}
-use Rattle.exchange.proofs.Inverse.{length-table}
 use Rattle.exchange.proofs.Charged.{joined}
 use Rattle.exchange.proofs.Sets.{Inside, edges-inside, below-pool}
-
--- ---- tables
-
-pub table-at : (n : ℕ) (f : ℕ → ℕ) (i : ℕ) → i < n → getD (table n f) i 0 ≡ f i
-unfolding table
-table-at zero f i h = absurd (omega arith)
-table-at (suc n) f i h = elim (decLt i n) [
-  | yes k ↦ List·getD-append (table n f) (f n ∷ []) 0 i (omega (arith, length-table n f)) ∙ table-at n f i k
-  | no k ↦ let e : i ≡ n = omega arith in rw e (getD-at (table n f) (f n) [] 0 n (length-table n f))
-]
 
 -- ---- donors are recipients along the edges turned round
 

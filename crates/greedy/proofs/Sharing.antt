@@ -7,13 +7,9 @@ use native.Mathlib.Omega.{arith}
 use lib.Dec.{eqb}
 use borrow.Author.Tests.{eqb-true, eq-eqb}
 use Rattle.laws.specs.Below.{either}
+use Rattle.laws.proofs.Below.{either-true}
 use Rattle.greedy.specs.Places.{among, meets}
 use Rattle.greedy.specs.Promises.{MeetsIsSharing}
-
-either-true : (b : Bool) → either b true ≡ true
-unfolding either
-either-true true = refl
-either-true false = refl
 
 among-stands : (p : ℕ) (s : List ℕ) → among p s ≡ true → List·Memᴰ p s
 unfolding among either
