@@ -1,20 +1,12 @@
 -- Two sheets and their answers, from bytes to printout: document 01's, and one of ours in which what the first leaves alike differs. Assumes nothing.
 use mathlib.Core.Path.{_≡_}
-use mathlib.Core.List.{List, [], _∷_, _++_, flatten}
+use mathlib.Core.List.{List, [], _∷_, flatten}
 use Prim.Native.Nat.{ℕ}
-use lib.ListN.{replicate}
+use Rattle.pool.specs.Examples.{exampleSheet}
 use Rattle.text.specs.Text.{bytesOf}
 use Rattle.answering.specs.Answering.{answerText}
 
 -- ## Document 01's example
-
--- a pair's field: the id's last byte, blood of donor and patient, and zeros
-abbrev pub examplePair : ℕ → ℕ → ℕ → List ℕ
-examplePair id donor patient = (2 ∷ 0 ∷ 32 ∷ 0 ∷ 0 ∷ 0 ∷ id ∷ donor ∷ patient ∷ 0 ∷ 0 ∷ []) ++ replicate 24 0
-
--- "01 0004 0001 0002; 02 0020 0000000B 01 02 00 00 and 24 zero bytes; 02 0020 0000000C 02 01 00 00 and 24 zero bytes; 03 0004 0000 0001"
-abbrev pub exampleSheet : List ℕ
-exampleSheet = (1 ∷ 0 ∷ 4 ∷ 0 ∷ 1 ∷ 0 ∷ 2 ∷ []) ++ (examplePair 11 1 2 ++ (examplePair 12 2 1 ++ (3 ∷ 0 ∷ 4 ∷ 0 ∷ 0 ∷ 0 ∷ 1 ∷ [])))
 
 abbrev pub ExampleAnswered : Type 0
 ExampleAnswered = answerText exampleSheet ≡ bytesOf "PLAN 2 1 2900\n11 12 12\n12 11 11\nCOUNTS 1 6 1\n"

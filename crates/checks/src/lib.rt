@@ -60,18 +60,17 @@ fn groups(donor_blood: u8, patient_blood: u8, donor_age: u8, patient_age: u8) ->
     Verdict::Sound
 }
 
-// Has pair i the id of an earlier one?
-fn repeated(ids: &[u32], i: usize) -> bool
-    requires { ⌜ i < length (now ids) ⌝ }
-    ensures { λ r. ⌜ r ≡ anyBelow i (λ j. eqb (getD (now (ids .entry)) j 0) (getD (now (ids .entry)) i 0)) ⌝ }
+// Is this id among the first n?
+pub fn among(ids: &[u32], n: usize, id: u32) -> bool
+    requires { ⌜ n ≤ length (now ids) ⌝ }
+    ensures { λ r. ⌜ r ≡ anyBelow n (λ j. eqb (getD (now (ids .entry)) j 0) id) ⌝ }
 {
-    let id = ids[i];
-    let mut earlier: usize = 0;
-    while earlier < i {
-        if ids[earlier] == id {
+    let mut at: usize = 0;
+    while at < n {
+        if ids[at] == id {
             return true;
         }
-        earlier += 1;
+        at += 1;
     }
     false
 }
@@ -94,7 +93,7 @@ pub fn pair(
     match groups(donor_blood, patient_blood, donor_age, patient_age) {
         Verdict::Faulty(why) => Verdict::Faulty(why),
         Verdict::Sound => {
-            if repeated(ids, i) {
+            if among(ids, i, ids[i]) {
                 Verdict::Faulty(Refusal::RepeatedId)
             } else {
                 Verdict::Sound

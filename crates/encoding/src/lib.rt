@@ -10,7 +10,7 @@ ghost use Rattle.pool.specs.Sheet.{headField, pairField, shuffleField, startLen
 ghost use Rattle.encoding.specs.PairValue.{pairBy, groupBytes, tissueBytes};
 
 // Writes the k bytes of x from `at` on, high byte first; the last byte is stored first.
-fn put(out: &mut [u8], at: usize, k: usize, x: u64)
+pub fn put(out: &mut [u8], at: usize, k: usize, x: u64)
     requires { ⌜ at + k ≤ length (now out) ⌝ }
     ensures { λ _. ⌜ now (out .exit) ≡ stored at (bytes k x) (now (out .entry)) ⌝ }
 {
@@ -24,7 +24,7 @@ fn put(out: &mut [u8], at: usize, k: usize, x: u64)
 }
 
 // A field's start: its tag and its length.
-fn put_start(out: &mut [u8], at: usize, tag: u64, len: u64)
+pub fn put_start(out: &mut [u8], at: usize, tag: u64, len: u64)
     requires { ⌜ at + startLength ≤ length (now out) ⌝ }
     ensures { λ _. ⌜ now (out .exit) ≡ stored at (bytes 1 tag ++ bytes 2 len) (now (out .entry)) ⌝ }
 {

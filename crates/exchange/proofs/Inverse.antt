@@ -4,15 +4,13 @@ use mathlib.Core.Bool.{Bool, true, false, cond}
 use mathlib.Core.List.{List, [], _∷_, map}
 use mathlib.Core.Path.{_≡_, refl, sym, ap, ap₂, _∙_}
 use native.Mathlib.Omega.{arith}
-use native.Mathlib.Decide.{decLt}
 use lib.Dec.{eqb}
 use lib.ListN.{length, getD}
 use borrow.Author.Tests.{eqb-true, eqb-false}
-use Rattle.laws.specs.Below.{table}
-use Rattle.laws.proofs.Below.{length-table}
+use Rattle.laws.proofs.Below.{once-below}
 use Rattle.pool.specs.Faultless.{EachOnce}
 use Rattle.greedy.specs.Promises.{firstAt}
-use Rattle.greedy.proofs.Counts.{times, NoneTwice, AllBelow, one-eq, same, other, same?, times-append, pigeon, below-head, below-tail}
+use Rattle.greedy.proofs.Counts.{times, AllBelow, one-eq, same, other, same?, below-head, below-tail}
 use Rattle.exchange.specs.Subsets.{pairsAt}
 
 -- ---- where a number first stands
@@ -46,26 +44,6 @@ pub record Invertible (n : ℕ) (s : List ℕ) : Type 0 where
   pub seat-pair : (a : ℕ) → a < n → getD s (firstAt a s) 0 ≡ a
   pub place-seat : (p : ℕ) → p < n → firstAt (getD s p 0) s ≡ p
 
--- a table of different numbers, and not p
-times-table : (p n : ℕ) (f : ℕ → ℕ) → ((i : ℕ) → i < n → f i ≡ p → ⊥) → times p (table n f) ≡ 0
-unfolding table times
-times-table p zero f h = refl
-times-table p (suc n) f h = rw times-append (elim (same? p (f n)) [
-  | same e k ↦ absurd (h n (omega arith) (sym e))
-  | other e k ↦ omega (arith, times-table p n f (λ i z. h i (omega arith)))
-])
-
-once-table : (n : ℕ) (f : ℕ → ℕ) → ((i j : ℕ) → i < n → j < n → f i ≡ f j → i ≡ j) → NoneTwice (table n f)
-unfolding table times
-once-table zero f h p = omega arith
-once-table (suc n) f h p = rw times-append (elim (same? p (f n)) [
-  | same e k ↦ omega (arith, times-table p n f (λ i z q. omega (arith, h i n (omega arith) (omega arith) (q ∙ e))))
-  | other e k ↦ omega (arith, once-table n f (λ i j y z. h i j (omega arith) (omega arith)) p)
-])
-
-below-table : (b n : ℕ) (f : ℕ → ℕ) → ((i : ℕ) → i < n → f i < b) → AllBelow b (table n f)
-below-table b n f h p k = times-table p n f (λ i z q. omega (arith, h i z))
-
 module _ (n : ℕ) (s : List ℕ) (long : n ≤ length s) (each : EachOnce n (λ j. getD s j 0)) where
   seat-within : (a : ℕ) → a < n → firstAt a s < n
   seat-within a h = let o = each a h in omega (arith, o .below, firstAt-most a s (o .at) (omega (arith, o .below)) (o .there))
@@ -73,24 +51,8 @@ module _ (n : ℕ) (s : List ℕ) (long : n ≤ length s) (each : EachOnce n (λ
   seat-there : (a : ℕ) → a < n → getD s (firstAt a s) 0 ≡ a
   seat-there a h = firstAt-there a s (omega (arith, seat-within a h))
 
-  -- n places that hold 0 to n - 1, and one that holds another number, would be n + 1 different places below n
   within : (p : ℕ) → p < n → getD s p 0 < n
-  unfolding times
-  within p h = elim (decLt (getD s p 0) n) [
-    | yes k ↦ k
-    | no k ↦
-        let seats : List ℕ = table n (λ a. firstAt a s) in
-        let apart : times p seats ≡ 0 = times-table p n (λ a. firstAt a s) (λ a z e. omega (arith, seat-there a z, ap (λ (x : ℕ). getD s x 0) e)) in
-        let once : NoneTwice seats = once-table n (λ a. firstAt a s) (λ a b y z e. sym (seat-there a y) ∙ ap (λ (x : ℕ). getD s x 0) e ∙ seat-there b z) in
-        let below : AllBelow n seats = below-table n n (λ a. firstAt a s) seat-within in
-        absurd (omega (
-          arith,
-          length-table n (λ a. firstAt a s),
-          pigeon n (p ∷ seats)
-              (λ q. elim (same? q p) [ same e z ↦ omega (arith, ap (λ (x : ℕ). times x seats) e) | other e z ↦ omega (arith, once q) ])
-              (λ q y. elim (same? q p) [ same e z ↦ absurd (omega arith) | other e z ↦ omega (arith, below q y) ]),
-        ))
-  ]
+  within = once-below n (λ j. getD s j 0) each
 
   pub invertible : Invertible n s
   invertible = record {

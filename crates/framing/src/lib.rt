@@ -6,6 +6,7 @@ ghost use Prim.Native.Nat.{_+_, _≤_};
 ghost use lib.ListN.{length};
 ghost use Rattle.laws.specs.Digits.{bigEndian};
 ghost use Rattle.refusal.specs.Number.{faultAt};
+ghost use Rattle.pool.specs.Sheet.{firstPair, pairsIn};
 ghost use Rattle.pool.specs.Faults.{fieldFault, headFault};
 
 // The number in the k bytes from `at` on, high byte first.
@@ -43,6 +44,14 @@ pub fn field(b: &[u8], o: usize, tag: u64, len: usize) -> Verdict
     }
 }
 
+// N, as the head says.
+pub fn pairs_in(b: &[u8]) -> usize
+    requires { ⌜ firstPair ≤ length (now b) ⌝ }
+    ensures { λ r. ⌜ r ≡ pairsIn (now (b .entry)) ⌝ }
+{
+    number(b, layout::PAIRS_PLACE, 2) as usize
+}
+
 // The head: its field, then 3 and 4.
 pub fn head(b: &[u8]) -> Verdict
     ensures { λ r. ⌜ faultAt 0 r ≡ headFault (now (b .entry)) ⌝ }
@@ -56,7 +65,7 @@ pub fn head(b: &[u8]) -> Verdict
     if number(b, layout::VERSION_PLACE, 2) != layout::VERSION {
         return Verdict::Faulty(Refusal::WrongVersion);
     }
-    if number(b, layout::PAIRS_PLACE, 2) > 200 {
+    if pairs_in(b) > 200 {
         return Verdict::Faulty(Refusal::TooManyPairs);
     }
     Verdict::Sound

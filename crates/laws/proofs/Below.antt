@@ -2,15 +2,15 @@
 use mathlib.Core.Path.{_≡_, refl, sym, ap, ap₂, _∙_, subst}
 use mathlib.Core.Bool.{Bool, true, false}
 use mathlib.Core.List.{List, [], _∷_, _++_, map, map-append}
-use Prim.Native.Nat.{ℕ, zero, suc, _+_, _<_}
+use Prim.Native.Nat.{ℕ, zero, suc, _+_, _-_, _≤_, _<_}
 use native.Mathlib.Nat.{add-zero}
 use native.Mathlib.Numerals.{add-one}
 use native.Mathlib.Omega.{arith}
 use native.Mathlib.Decide.{decLt}
-use borrow.Author.Tests.{eqb-true, eqb-false, eq-eqb, ne-eqb}
-use lib.Dec.{eqb}
+use borrow.Author.Tests.{eqb-true, eqb-false, eq-eqb, ne-eqb, ltb-true, lt-ltb, le-ltb}
+use lib.Dec.{eqb, ltb}
 use lib.ListN.{length, getD, length-append, List·getD-append}
-use lib.Seq.{getD-at, ext-getD}
+use lib.Seq.{getD-at, getD-append-add, ext-getD}
 use Rattle.laws.specs.Below.{table, either, anyBelow, one, countBelow, Once}
 
 -- i < n + 1 is i < n, or n
@@ -22,6 +22,16 @@ below-suc {P} n h z i l = go (decLt i n)
     go (no k) =
         let e : n ≡ i = omega arith in
         subst P e z
+
+-- i < n + m is i < n, or n + j with j < m
+pub below-add : {P : ℕ → Type 0} (n m : ℕ) → ((i : ℕ) → i < n → P i) → ((j : ℕ) → j < m → P (n + j)) → (i : ℕ) → i < n + m → P i
+below-add {P} n m f g i l = go (decLt i n)
+  where
+    go : Dec (i < n) → P i
+    go (yes k) = f i k
+    go (no k) =
+        let e : n + (i - n) ≡ i = omega arith in
+        subst P e (g (i - n) (omega arith))
 
 -- a test that is both
 pub true-false : {A : Type 0} {t : Bool} → t ≡ true → t ≡ false → A
@@ -122,6 +132,31 @@ none-count (suc n) p e i l = go (none-count n p) (p n) refl
     go r true h = absurd (omega (arith, rw h at e))
     go r false h = below-suc {P = λ i. p i ≡ false} n (r (omega arith)) h i l
 
+-- everywhere
+one-most : (t : Bool) → one t ≤ 1
+unfolding one
+one-most true = omega arith
+one-most false = omega arith
+
+count-most : (n : ℕ) (p : ℕ → Bool) → countBelow n p ≤ n
+unfolding countBelow
+count-most zero p = omega arith
+count-most (suc n) p = omega (arith, count-most n p, one-most (p n))
+
+count-all : (n : ℕ) (p : ℕ → Bool) → countBelow n p ≡ n → (i : ℕ) → i < n → p i ≡ true
+unfolding countBelow one
+count-all zero p e i l = absurd (omega arith)
+count-all (suc n) p e i l = go (count-all n p) (p n) refl
+  where
+    go : (countBelow n p ≡ n → (i : ℕ) → i < n → p i ≡ true) → (t : Bool) → p n ≡ t → p i ≡ true
+    go r true h = below-suc {P = λ i. p i ≡ true} n (r (omega (arith, rw h at e))) h i l
+    go r false h = absurd (omega (arith, rw h at e, count-most n p))
+
+count-add : (n : ℕ) (p q r : ℕ → Bool) → ((i : ℕ) → one (p i) ≡ one (q i) + one (r i)) → countBelow n p ≡ countBelow n q + countBelow n r
+unfolding countBelow
+count-add zero p q r h = refl
+count-add (suc n) p q r h = omega (arith, count-add n p q r h, h n)
+
 -- ## Once: by counting, and without
 
 module _ (f : ℕ → ℕ) (v : ℕ) where
@@ -168,6 +203,30 @@ module _ (f : ℕ → ℕ) (v : ℕ) where
             only = below-suc {P = λ i. f i ≡ v → i ≡ w .at} n (w .only) (λ g. absurd (eqb-false (f n) v h g));
           }
 
+-- each of 0 .. n - 1 once among n numbers: these are all of them, and none is another
+module _ (n : ℕ) (f : ℕ → ℕ) where
+  below-next : (m i : ℕ) → one (ltb (f i) (suc m)) ≡ one (ltb (f i) m) + one (eqb (f i) m)
+  unfolding one
+  below-next m i = go (decLt (f i) m) (decLt m (f i))
+    where
+      go : Dec (f i < m) → Dec (m < f i) → one (ltb (f i) (suc m)) ≡ one (ltb (f i) m) + one (eqb (f i) m)
+      go (yes k) w = rw (lt-ltb (f i) (suc m) (omega arith), lt-ltb (f i) m k, ne-eqb (f i) m (λ e. omega arith))
+      go (no k) (yes l) = rw (le-ltb (f i) (suc m) (omega arith), le-ltb (f i) m (omega arith), ne-eqb (f i) m (λ e. omega arith))
+      go (no k) (no l) = rw (lt-ltb (f i) (suc m) (omega arith), le-ltb (f i) m (omega arith), eq-eqb (f i) m (omega arith))
+
+  count-below : (m : ℕ) → ((v : ℕ) → v < m → countBelow n (λ j. eqb (f j) v) ≡ 1) → countBelow n (λ j. ltb (f j) m) ≡ m
+  count-below zero h = count-none n (λ j. ltb (f j) 0) (λ i l. le-ltb (f i) 0 (omega arith))
+  count-below (suc m) h =
+      omega (
+        arith,
+        count-add n (λ j. ltb (f j) (suc m)) (λ j. ltb (f j) m) (λ j. eqb (f j) m) (below-next m),
+        count-below m (λ v l. h v (omega arith)),
+        h m (omega arith),
+      )
+
+  pub once-below : ((v : ℕ) → v < n → Once n f v) → (j : ℕ) → j < n → f j < n
+  once-below h j l = ltb-true (f j) n (count-all n (λ j. ltb (f j) n) (count-below n (λ v k. once-count f v n (h v k))) j l)
+
 -- ## table
 
 pub length-table : {A : Type 0} (n : ℕ) (f : ℕ → A) → length (table n f) ≡ n
@@ -193,6 +252,20 @@ pub table-getD : {A : Type 0} (d : A) (l : List A) (n : ℕ) (f : ℕ → A) →
 table-getD d l n f e h =
     ext-getD d (table n f) l (length-table n f ∙ sym e)
     (λ i k. let m : i < n = rw length-table at k in getD-table n f d i m ∙ h i m)
+
+-- two tables in a row
+module _ {A : Type 0} (n m : ℕ) (f g : ℕ → A) (d : A) where
+  pub length-tables : length (table n f ++ table m g) ≡ n + m
+  length-tables = length-append (table n f) (table m g) ∙ ap₂ (λ (x y : ℕ). x + y) (length-table n f) (length-table m g)
+
+  pub getD-first : (i : ℕ) → i < n → getD (table n f ++ table m g) i d ≡ f i
+  getD-first i l = List·getD-append (table n f) (table m g) d i (rw length-table l) ∙ getD-table n f d i l
+
+  pub getD-second : (j : ℕ) → j < m → getD (table n f ++ table m g) (n + j) d ≡ g j
+  getD-second j l =
+      ap (λ (k : ℕ). getD (table n f ++ table m g) (k + j) d) (sym (length-table n f))
+      ∙ getD-append-add (table n f) (table m g) j d
+      ∙ getD-table m g d j l
 
 pub map-table : {A B : Type 0} (g : A → B) (n : ℕ) (f : ℕ → A) → map g (table n f) ≡ table n (λ i. g (f i))
 unfolding table

@@ -10,4 +10,6 @@ pub mod Writing
 pub mod Read
 pub mod Written
 pub mod RoundTrip
+pub mod Joined
+pub mod Joining
 pub mod Examples

@@ -58,7 +58,7 @@ module _ (b : List ℕ) (h : EntriesBelow 256 b) where
         (ap (λ (x : ℕ). bytes 2 x ++ bytes 2 (bigEndian 2 b pairsPlace)) (sym (s .head .version))
         ∙ number-back 0 versionPlace 2 2 _ (omega arith) (bytes-bigEndian 2 b pairsPlace h (omega arith)))
 
-    pairs-back : flatMap pairField (table (pairsIn b) (pairAt b)) ≡ part b firstPair (pairSize * pairsIn b)
+    pub pairs-back : flatMap pairField (table (pairsIn b) (pairAt b)) ≡ part b firstPair (pairSize * pairsIn b)
     pairs-back = flatMap-part pairField pairSize length-pairField b firstPair (pairsIn b) (pairAt b) (λ i l. pair-back i (s .pair i l .field))
 
     numbers-back : flatMap (bytes 2) (table (pairsIn b) (shuffleAt b (pairsIn b))) ≡ part b (pairPlace (pairsIn b) + startLength) (2 * pairsIn b)

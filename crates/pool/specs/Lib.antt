@@ -8,4 +8,6 @@ pub mod Faults
 pub mod Calls
 pub mod Faultless
 pub mod Promises
+pub mod Joining
+pub mod Joinable
 pub mod Examples

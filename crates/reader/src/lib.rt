@@ -25,7 +25,7 @@ fn judge(b: &[u8], space: usize) -> Reading
     match scan::check(b) {
         Found::Fault(why, place) => Reading::Refused(why, place),
         Found::Nothing => {
-            let n = framing::number(b, layout::PAIRS_PLACE, 2) as usize;
+            let n = framing::pairs_in(b);
             if space < n {
                 Reading::Refused(Refusal::TooShort, 0)
             } else {

@@ -6,7 +6,7 @@ use lib.ListN.{getD}
 use Rattle.refusal.specs.Number.{numberOf}
 use Rattle.refusal.specs.Promises.{OwnNumbers}
 use Rattle.refusal.specs.declared.Refusal.{Refusal}
-use Rattle.refusal.specs.declared.Refusal.the-variants.{CutOff, WrongField, WrongVersion, TooManyPairs, LeftOver, OutOfRange, RepeatedId, NotAShuffle, TooShort, NotCompatibility}
+use Rattle.refusal.specs.declared.Refusal.the-variants.{CutOff, WrongField, WrongVersion, TooManyPairs, LeftOver, OutOfRange, RepeatedId, NotAShuffle, TooShort, NotCompatibility, SharedId, TooManyTogether}
 
 abbrev named : ℕ → Refusal
 named k =
@@ -22,6 +22,8 @@ named k =
     ∷ NotAShuffle
     ∷ TooShort
     ∷ NotCompatibility
+    ∷ SharedId
+    ∷ TooManyTogether
     ∷ []) k CutOff
 
 named-number : (a : Refusal) → named (numberOf a) ≡ a
@@ -35,6 +37,8 @@ named-number RepeatedId = refl
 named-number NotAShuffle = refl
 named-number TooShort = refl
 named-number NotCompatibility = refl
+named-number SharedId = refl
+named-number TooManyTogether = refl
 
 pub own-numbers : OwnNumbers
 own-numbers a b e = sym (named-number a) ∙ ap named e ∙ named-number b

@@ -1,4 +1,4 @@
-// The refusals of document 01 by name, and each one's number there ('Turned back, by whom it is caused').
+// The refusals of document 01 by name, and each one's number there ('Turned back, by whom it is caused'), with those that document 02 adds to its list.
 ghost use mathlib.Core.Path.{_≡_};
 ghost use Rattle.refusal.specs.Number.{numberOf};
 
@@ -22,6 +22,10 @@ pub enum Refusal {
     TooShort,
     // A compatibility entry is above 1, or a pair's own is not 0.
     NotCompatibility,
+    // The hospital again (document 02): an id is in both of two sheets that are joined.
+    SharedId,
+    // Whoever joins two sheets: they have more than 200 pairs together.
+    TooManyTogether,
 }
 
 // What a check of one thing finds.
@@ -45,5 +49,7 @@ pub fn number(why: Refusal) -> u8
         Refusal::NotAShuffle => 8,
         Refusal::TooShort => 9,
         Refusal::NotCompatibility => 10,
+        Refusal::SharedId => 11,
+        Refusal::TooManyTogether => 12,
     }
 }

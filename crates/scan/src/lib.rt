@@ -86,7 +86,7 @@ pub fn check(b: &[u8]) -> Found
         }
         Verdict::Sound => {}
     }
-    let n = framing::number(b, layout::PAIRS_PLACE, 2) as usize;
+    let n = framing::pairs_in(b);
     match pairs(b, n) {
         Found::Fault(why, place) => {
             return Found::Fault(why, place);

@@ -8,7 +8,7 @@ use lib.ListN.{length}
 use Rattle.refusal.specs.Fault.{none}
 use Rattle.refusal.specs.Number.{faultAt}
 use Rattle.refusal.proofs.Faults.{sound-none, faulty-then}
-use Rattle.pool.specs.Sheet.{headTag, headLength, firstPair, pairsIn}
+use Rattle.pool.specs.Sheet.{headTag, headLength, firstPair}
 use Rattle.pool.specs.Faults.{fieldFault, headFault}
 use Rattle.pool.proofs.Fields.{field-passed}
 use Rattle.framing.proofs.Fields.{other-version, too-many, head-none}
@@ -33,17 +33,17 @@ returns-2 : tie.Need-returns-2
 unfolding faultAt
 returns-2 c = sym (other-version _ (passed (c .before .before)) (λ e. c .if1 .taken (c .before .number .ensures ∙ e)))
 
-number-requires-2 : tie.Need-number-requires-2
-number-requires-2 c κs = (lit≤ tt, whole (c .before .before))
+pairs-in-requires : tie.Need-pairs-in-requires
+pairs-in-requires c κs = whole (c .before .before)
 
 returns-3 : tie.Need-returns-3
-unfolding faultAt pairsIn
+unfolding faultAt
 returns-3 c =
     let d = c .before .before in
     sym (too-many _ (passed (d .before .before)) (sym (d .before .number .ensures) ∙ d .if1 .left) (omega arith))
 
 returns-4 : tie.Need-returns-4
-unfolding faultAt pairsIn
+unfolding faultAt
 returns-4 c =
     let d = c .before .before in
     sym (head-none _ (passed (d .before .before)) (sym (d .before .number .ensures) ∙ d .if1 .left) (omega arith))
@@ -51,5 +51,5 @@ returns-4 c =
 pub head-spec : {M : Type 1} → statement M
 head-spec =
     tie.close
-    (tie.spec (λ c κs. search needs) (λ c. search needs) returns (λ c. search needs) number-requires returns-2 number-requires-2 returns-3
+    (tie.spec (λ c κs. search needs) (λ c. search needs) returns (λ c. search needs) number-requires returns-2 pairs-in-requires returns-3
     returns-4)

@@ -3,7 +3,6 @@ use Prim.Native.Nat.{_≤_}
 use mathlib.Core.Path.{_≡_, ap, _∙_}
 use native.Mathlib.Omega.{arith}
 use borrow.Author.Needs.{needs}
-use lib.Dec.{lit≤}
 use Rattle.refusal.specs.Fault.{none, fault, firstBelow}
 use Rattle.refusal.proofs.Faults.{sound-none, faulty-fault}
 use Rattle.pool.specs.Sheet.{pairsIn}
@@ -18,30 +17,29 @@ use Rattle.scan.proofs.check.Tie as tie
 abbrev start : tie.After-enum-told → tie.Start
 start c = c .before .before .before .before
 
-abbrev after-number : tie.After-enum-told2 → tie.After-number
-after-number c = c .before .before .before
+abbrev after-pairs-in : tie.After-enum-told2 → tie.After-pairs-in
+after-pairs-in c = c .before .before .before
 
 -- ## What is known past each match
 
 no-head : (c : tie.After-enum-told) → headFault (start c .args .b .now) ≡ none
 no-head c = sound-none 0 _ (c .before .before .head .ensures) (c .enum-told .given .1)
 
-many : (c : tie.After-number) → c .number .result ≡ pairsIn (start (c .before) .args .b .now)
-unfolding pairsIn
-many c = c .number .ensures
+many : (c : tie.After-pairs-in) → c .pairs-in .result ≡ pairsIn (start (c .before) .args .b .now)
+many c = c .pairs-in .ensures
 
-few : (c : tie.After-number) → c .number .result ≤ 200
+few : (c : tie.After-pairs-in) → c .pairs-in .result ≤ 200
 few c = rw (many c) (head-passed _ (no-head (c .before)) .few)
 
 no-pairs : (c : tie.After-enum-told2)
-    → firstBelow (after-number c .number .result)
-    (pairFieldFault (start (after-number c .before) .args .b .now))
+    → firstBelow (after-pairs-in c .pairs-in .result)
+    (pairFieldFault (start (after-pairs-in c .before) .args .b .now))
     ≡ none
 no-pairs c = nothing-none _ (c .before .before .pairs .ensures) (c .enum-told2 .given .1)
 
 no-shuffle : (c : tie.After-enum-told3)
-    → shuffleFieldFault (start (after-number (c .before .before .before .before) .before) .args .b .now)
-    (after-number (c .before .before .before .before) .number .result)
+    → shuffleFieldFault (start (after-pairs-in (c .before .before .before .before) .before) .args .b .now)
+    (after-pairs-in (c .before .before .before .before) .pairs-in .result)
     ≡ none
 no-shuffle c = sound-none _ _ (c .before .before .shuffle-field .ensures) (c .enum-told3 .given .1)
 
@@ -51,8 +49,8 @@ returns : tie.Need-returns
 unfolding foundFault
 returns c = at-head _ (faulty-fault 0 _ (c .before .before .before .head .ensures) _ (c .before .why .given .1))
 
-number-requires : tie.Need-number-requires
-number-requires c κs = (lit≤ tt, head-passed _ (no-head c) .field .whole)
+pairs-in-requires : tie.Need-pairs-in-requires
+pairs-in-requires c κs = head-passed _ (no-head c) .field .whole
 
 pairs-requires : tie.Need-pairs-requires
 pairs-requires c κs = few c
@@ -65,10 +63,10 @@ returns-2 c =
     at-pairs _ _ (many n) (no-head (n .before)) (found-fault _ (p .pairs .ensures) _ _ (c .before .why2 .given .1))
 
 pair-place-requires : tie.Need-pair-place-requires
-pair-place-requires c κs = omega (arith, few (after-number c))
+pair-place-requires c κs = omega (arith, few (after-pairs-in c))
 
 shuffle-field-requires : tie.Need-shuffle-field-requires
-shuffle-field-requires c κs = few (after-number (c .before))
+shuffle-field-requires c κs = few (after-pairs-in (c .before))
 
 returns-3 : tie.Need-returns-3
 unfolding foundFault
@@ -76,14 +74,14 @@ returns-3 c =
     let d = c .before .before .before in
     let p = d .before in
     let e = p .before in
-    let n = after-number e in
+    let n = after-pairs-in e in
     rw (p .pair-place .ensures)
     (at-shuffle _ _ (many n) (no-head (n .before)) (no-pairs e) (faulty-fault _ _ (d .shuffle-field .ensures) _ (c .before .why3 .given .1)))
 
 sheet-length-requires : tie.Need-sheet-length-requires
 sheet-length-requires c κs =
     let after-enum-told2 = c .before .before .before .before in
-    few (after-number after-enum-told2)
+    few (after-pairs-in after-enum-told2)
 
 returns-4 : tie.Need-returns-4
 unfolding foundFault
@@ -91,7 +89,7 @@ returns-4 c =
     let w = c .before in
     let d = w .before in
     let e = d .before .before .before .before in
-    let n = after-number e in
+    let n = after-pairs-in e in
     ap (fault 5) (w .sheet-length .ensures)
     ∙ left-over _ _ (many n) (no-head (n .before)) (no-pairs e) (no-shuffle d) (omega (arith, w .sheet-length .ensures, c .if1 .taken))
 
@@ -101,12 +99,12 @@ returns-5 c =
     let w = c .before in
     let d = w .before in
     let e = d .before .before .before .before in
-    let n = after-number e in
+    let n = after-pairs-in e in
     nothing-over _ _ (many n) (no-head (n .before)) (no-pairs e) (no-shuffle d) (omega (arith, w .sheet-length .ensures, c .if1 .left))
 
 pub check-spec : {M : Type 1} → statement M
 check-spec =
     tie.close
-    (tie.spec (λ c κs. search needs) (λ c. search needs) returns (λ c. search needs) number-requires pairs-requires (λ c. search needs)
+    (tie.spec (λ c κs. search needs) (λ c. search needs) returns (λ c. search needs) pairs-in-requires pairs-requires (λ c. search needs)
     returns-2 (λ c. search needs) pair-place-requires shuffle-field-requires (λ c. search needs) returns-3 (λ c. search needs)
     sheet-length-requires returns-4 returns-5)

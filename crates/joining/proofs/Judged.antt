@@ -1,0 +1,69 @@
+-- What joining finds wrong, by how far its checks came. Assumes nothing.
+use Prim.Native.Nat.{ℕ, _+_, _≤_, _<_}
+use mathlib.Core.Path.{_≡_, sym, ap, ap₂, _∙_}
+use mathlib.Core.Bool.{Bool, true, false}
+use mathlib.Core.List.{List}
+use borrow.Author.Tests.{lt-ltb, le-ltb}
+use lib.Dec.{eqb, ltb}
+use lib.ListN.{length}
+use Rattle.laws.specs.Below.{anyBelow}
+use Rattle.refusal.specs.Fault.{none, fault, refuse, _then_}
+use Rattle.refusal.specs.Number.{faultAt}
+use Rattle.refusal.specs.declared.Refusal.the-variants.{SharedId, TooManyTogether, TooShort}
+use Rattle.refusal.specs.declared.Verdict.the-variants.{Sound, Faulty}
+use Rattle.refusal.proofs.Faults.{none-then, fault-then, none-refuse, fault-refuse}
+use Rattle.pool.specs.Sheet.{sheetLength, pairsIn, pairAt}
+use Rattle.pool.specs.Faults.{sheetFault, roomFault}
+use Rattle.pool.specs.Joining.{joinedSheet, sharedFault, togetherFault, bothFault, joinFault}
+use Rattle.pool.proofs.Joined.{length-joined}
+
+-- ## Two sheets of n and of m pairs: 11, 12, 9. `again` is whether an id is in both
+
+module _ (a b : List ℕ) (space n m : ℕ) (few : n ≡ pairsIn a) (more : m ≡ pairsIn b) (again : Bool)
+    (e : again ≡ anyBelow m (λ j. anyBelow n (λ i. eqb (pairAt a i .id) (pairAt b j .id)))) where
+  shared-is : sharedFault a b ≡ refuse 11 0 again
+  unfolding sharedFault
+  shared-is = rw (← few, ← more) (ap (refuse 11 0) (sym e))
+
+  pub both-shared : again ≡ true → faultAt 0 (Faulty SharedId) ≡ bothFault a b space
+  unfolding faultAt bothFault
+  both-shared h = sym (fault-then _ _ (shared-is ∙ fault-refuse 11 0 _ h))
+
+  module _ (apart : again ≡ false) where
+    past-shared : bothFault a b space ≡ (refuse 12 0 (ltb 200 (n + m)) then roomFault space (sheetLength (n + m)))
+    unfolding bothFault togetherFault
+    past-shared =
+        none-then _ _ (shared-is ∙ none-refuse 11 0 _ apart)
+        ∙ rw (length-joined, few, more)
+
+    pub both-many : 200 < n + m → faultAt 0 (Faulty TooManyTogether) ≡ bothFault a b space
+    unfolding faultAt
+    both-many l = sym (past-shared ∙ fault-then _ _ (fault-refuse 12 0 _ (lt-ltb 200 _ l)))
+
+    module _ (l : n + m ≤ 200) where
+      past-many : bothFault a b space ≡ roomFault space (sheetLength (n + m))
+      past-many = past-shared ∙ none-then _ _ (none-refuse 12 0 _ (le-ltb 200 _ l))
+
+      pub both-short : space < sheetLength (n + m) → faultAt 0 (Faulty TooShort) ≡ bothFault a b space
+      unfolding faultAt roomFault
+      both-short s = sym (past-many ∙ fault-refuse 9 0 _ (lt-ltb space _ s))
+
+      pub both-sound : sheetLength (n + m) ≤ space → faultAt 0 Sound ≡ bothFault a b space
+      unfolding faultAt roomFault
+      both-sound s = sym (past-many ∙ none-refuse 9 0 _ (le-ltb space _ s))
+
+-- ## The first sheet's own, the second's own, those of both
+
+module _ (a b : List ℕ) (space : ℕ) where
+  pub first-own : {k o : ℕ} → sheetFault a ≡ fault k o → fault k o ≡ joinFault a b space
+  unfolding joinFault
+  first-own e = sym (fault-then _ _ e)
+
+  module _ (f : sheetFault a ≡ none) where
+    pub second-own : {k o : ℕ} → sheetFault b ≡ fault k o → fault k o ≡ joinFault a b space
+    unfolding joinFault
+    second-own e = sym (none-then _ _ f ∙ fault-then _ _ e)
+
+    pub none-own : sheetFault b ≡ none → bothFault a b space ≡ joinFault a b space
+    unfolding joinFault
+    none-own g = sym (none-then _ _ f ∙ none-then _ _ g)

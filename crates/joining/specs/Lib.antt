@@ -1,0 +1,2 @@
+-- What joining answers in document 01's numbers.
+pub mod Answers

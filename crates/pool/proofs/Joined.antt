@@ -1,0 +1,256 @@
+-- The sheet of two sheets: it has no fault, and holds the pairs and the shuffles of both. Assumes nothing.
+use mathlib.Core.Path.{_≡_, refl, sym, ap, ap₂, _∙_}
+use mathlib.Core.List.{List, [], _++_, map, map-append, map-id, map-map, append-nil, append-assoc}
+use Prim.Native.Nat.{ℕ, _+_, _^_, _≤_, _<_}
+use native.Mathlib.Nat.{add-zero, add-assoc, add-comm}
+use native.Mathlib.Omega.{arith}
+use lib.ListN.{length, getD, length-append}
+use Rattle.laws.specs.Below.{table, Once}
+use Rattle.laws.proofs.Below.{below-add, length-table, length-tables, getD-first, getD-second, table-getD, map-table, once-below}
+use Rattle.laws.proofs.Digits.{bigEndian-lt}
+use Rattle.pool.specs.Pool.{Pair, Pool}
+use Rattle.pool.specs.Sheet.{sheetOf, sheetLength, pairsIn, pairAt, shuffleAt, poolOf}
+use Rattle.pool.specs.Joining.{joinedPool, joinedSheet}
+use Rattle.pool.specs.Faultless.{InRange, Unlike, EachOnce, Faultless, FaultlessSheet}
+use Rattle.pool.specs.Joinable.{Joinable, Holds, Joined, Bytes, pairsTogether, JoinedInAnyGrouping}
+use Rattle.pool.proofs.Lengths.{length-sheetOf}
+use Rattle.pool.proofs.Reading.{sheet-pool}
+use Rattle.pool.proofs.Read.{sheet-back}
+use Rattle.pool.proofs.Written.{Fits, written, sheet-written, says-pairs, says-pair, says-number, says-pool, written-faultless}
+
+-- ## Numbers that are first those of s, then those of t raised by n
+
+module _ (n m : ℕ) (s t u : ℕ → ℕ) (low : (i : ℕ) → i < n → u i ≡ s i) (high : (j : ℕ) → j < m → u (n + j) ≡ t j + n) where
+  -- v stands once among the first, and none of the second is so small
+  once-low : (v : ℕ) → v < n → Once n s v → Once (n + m) u v
+  once-low v k w =
+      record {
+        at = w .at;
+        below = omega (arith, w .below);
+        there = low (w .at) (w .below) ∙ w .there;
+        only =
+            below-add {P = λ i. u i ≡ v → i ≡ w .at} n m
+            (λ i l e. w .only i l (sym (low i l) ∙ e))
+            (λ j l e. absurd (omega (arith, high j l, e)));
+      }
+
+  -- v stands once among the second, and the first are all smaller
+  once-high : ((i : ℕ) → i < n → s i < n) → (v : ℕ) → Once m t v → Once (n + m) u (n + v)
+  once-high small v w =
+      record {
+        at = n + w .at;
+        below = omega (arith, w .below);
+        there = omega (arith, high (w .at) (w .below), w .there);
+        only =
+            below-add {P = λ i. u i ≡ n + v → i ≡ n + w .at} n m
+            (λ i l e. absurd (omega (arith, low i l, small i l, e)))
+            (λ j l e. ap (λ (k : ℕ). n + k) (w .only j l (omega (arith, high j l, e))));
+      }
+
+  each-joined : EachOnce n s → EachOnce m t → EachOnce (n + m) u
+  each-joined f g =
+      below-add {P = Once (n + m) u} n m (λ v k. once-low v k (f v k)) (λ v k. once-high (once-below n s f) v (g v k))
+
+-- ## The pool of two sheets, entry by entry
+
+module _ (a b : List ℕ) where
+  -- its pairs and its shuffle, as lists
+  abbrev pairList : List Pair
+  pairList = table (pairsIn a) (pairAt a) ++ table (pairsIn b) (pairAt b)
+
+  abbrev numberList : List ℕ
+  numberList = table (pairsIn a) (shuffleAt a (pairsIn a)) ++ table (pairsIn b) (λ j. shuffleAt b (pairsIn b) j + pairsIn a)
+
+  pub joined-lists : joinedPool (poolOf a) (poolOf b) ≡ record { pairs = pairList; shuffle = numberList }
+  unfolding joinedPool poolOf
+  joined-lists =
+      let raised : map (λ v. v + length (table (pairsIn a) (pairAt a))) (table (pairsIn b) (shuffleAt b (pairsIn b)))
+      ≡ table (pairsIn b) (λ j. shuffleAt b (pairsIn b) j + pairsIn a) =
+      ap (λ (k : ℕ). map (λ v. v + k) (table (pairsIn b) (shuffleAt b (pairsIn b)))) (length-table (pairsIn a) (pairAt a))
+      ∙ map-table (λ v. v + pairsIn a) (pairsIn b) (shuffleAt b (pairsIn b)) in
+      λ k. record { pairs = pairList; shuffle = table (pairsIn a) (shuffleAt a (pairsIn a)) ++ raised k }
+
+  -- and as functions
+  abbrev pub pairOf : ℕ → Pair
+  pairOf i = getD pairList i (pairAt a 0)
+
+  abbrev pub numberOf : ℕ → ℕ
+  numberOf j = getD numberList j 0
+
+  first-pair : (i : ℕ) → i < pairsIn a → pairOf i ≡ pairAt a i
+  first-pair = getD-first (pairsIn a) (pairsIn b) (pairAt a) (pairAt b) (pairAt a 0)
+
+  second-pair : (j : ℕ) → j < pairsIn b → pairOf (pairsIn a + j) ≡ pairAt b j
+  second-pair = getD-second (pairsIn a) (pairsIn b) (pairAt a) (pairAt b) (pairAt a 0)
+
+  first-number : (i : ℕ) → i < pairsIn a → numberOf i ≡ shuffleAt a (pairsIn a) i
+  first-number = getD-first (pairsIn a) (pairsIn b) _ (λ j. shuffleAt b (pairsIn b) j + pairsIn a) 0
+
+  second-number : (j : ℕ) → j < pairsIn b → numberOf (pairsIn a + j) ≡ shuffleAt b (pairsIn b) j + pairsIn a
+  second-number = getD-second (pairsIn a) (pairsIn b) (shuffleAt a (pairsIn a)) (λ j. shuffleAt b (pairsIn b) j + pairsIn a) 0
+
+  joined-pool : joinedPool (poolOf a) (poolOf b) ≡ record { pairs = table (pairsTogether a b) pairOf; shuffle = table (pairsTogether a b) numberOf }
+  joined-pool =
+      let e1 : table (pairsTogether a b) pairOf ≡ pairList = table-getD _ pairList _ _ (length-tables _ _ _ _ (pairAt a 0)) (λ i l. refl) in
+      let e2 : table (pairsTogether a b) numberOf ≡ numberList = table-getD _ numberList _ _ (length-tables _ _ _ _ 0) (λ i l. refl) in
+      joined-lists ∙ sym (λ k. record { pairs = e1 k; shuffle = e2 k })
+
+  pub joined-written : joinedSheet a b ≡ written (pairsTogether a b) pairOf numberOf
+  unfolding joinedSheet
+  joined-written = ap sheetOf joined-pool ∙ sheet-written (pairsTogether a b) pairOf numberOf
+
+  pub length-joined : length (joinedSheet a b) ≡ sheetLength (pairsTogether a b)
+  unfolding joinedSheet
+  length-joined =
+      ap (λ (p : Pool). length (sheetOf p)) joined-pool
+      ∙ length-sheetOf _ (length-table _ numberOf ∙ sym (length-table _ pairOf))
+      ∙ ap sheetLength (length-table _ pairOf)
+
+  -- ## It has no fault
+
+  module _ (w : Joinable a b) where
+    joined-in-range : (i : ℕ) → i < pairsTogether a b → InRange (pairOf i)
+    joined-in-range =
+        below-add {P = λ i. InRange (pairOf i)} (pairsIn a) (pairsIn b)
+        (λ i l. rw (first-pair i l) (w .first .pair i l .inRange))
+        (λ j l. rw (second-pair j l) (w .second .pair j l .inRange))
+
+    joined-unlike : Unlike (pairsTogether a b) pairOf
+    joined-unlike i j k l = go i j k l
+      where
+        id-of : (x y : Pair) → x ≡ y → x .id ≡ y .id
+        id-of x y e = ap (λ (q : Pair). q .id) e
+
+        go : (i j : ℕ) → j < i → i < pairsTogether a b → pairOf j .id ≡ pairOf i .id → ⊥
+        go i j k l =
+            below-add {P = λ i. (j : ℕ) → j < i → pairOf j .id ≡ pairOf i .id → ⊥} (pairsIn a) (pairsIn b)
+            (λ i l j k e. sheet-pool a (w .first) .unlike i j k l
+            (sym (id-of _ _ (first-pair j (omega arith))) ∙ e ∙ id-of _ _ (first-pair i l)))
+            (λ i l j k e. below-add {P = λ j. j < pairsIn a + i → pairOf j .id ≡ pairOf (pairsIn a + i) .id → ⊥} (pairsIn a) (pairsIn b)
+            (λ j m k e. w .apart j i m l (sym (id-of _ _ (first-pair j m)) ∙ e ∙ id-of _ _ (second-pair i l)))
+            (λ j m k e. sheet-pool b (w .second) .unlike i j (omega arith) l
+            (sym (id-of _ _ (second-pair j m)) ∙ e ∙ id-of _ _ (second-pair i l))) j (omega arith) k e) i l j k
+
+    joined-faultless : Faultless (pairsTogether a b) pairOf numberOf
+    joined-faultless =
+        record {
+          few = w .few;
+          inRange = joined-in-range;
+          unlike = joined-unlike;
+          eachOnce =
+              each-joined (pairsIn a) (pairsIn b) (shuffleAt a (pairsIn a)) (shuffleAt b (pairsIn b)) numberOf first-number second-number
+              (w .first .shuffle .eachOnce) (w .second .shuffle .eachOnce);
+        }
+
+  -- ## It holds the pairs and the shuffles of both
+
+  module _ (ha : Bytes a) (hb : Bytes b) (w : Joinable a b) where
+    bytes-fit : (c : List ℕ) → Bytes c → (i : ℕ) → Fits (pairAt c i)
+    unfolding pairAt
+    bytes-fit c h i =
+        record {
+          id = bigEndian-lt c _ 4 h;
+          donorAntigens = bigEndian-lt c _ 8 h;
+          patientAntigens = bigEndian-lt c _ 8 h;
+          patientAntibodies = bigEndian-lt c _ 8 h;
+        }
+
+    joined-fits : (i : ℕ) → i < pairsTogether a b → Fits (pairOf i)
+    joined-fits =
+        below-add {P = λ i. Fits (pairOf i)} (pairsIn a) (pairsIn b)
+        (λ i l. rw (first-pair i l) (bytes-fit a ha i))
+        (λ j l. rw (second-pair j l) (bytes-fit b hb j))
+
+    -- a shuffle's numbers are below its N, and so these are below 200
+    joined-small : (j : ℕ) → j < pairsTogether a b → numberOf j < 256 ^ 2
+    joined-small j l = omega (arith, w .few, once-below (pairsTogether a b) numberOf (joined-faultless w .eachOnce) j l)
+
+    sheet-joined : FaultlessSheet (joinedSheet a b)
+    sheet-joined = rw joined-written (written-faultless _ pairOf numberOf (joined-faultless w) joined-fits joined-small)
+
+    pub pool-joined : poolOf (joinedSheet a b) ≡ joinedPool (poolOf a) (poolOf b)
+    pool-joined =
+        ap poolOf joined-written ∙ says-pool _ pairOf numberOf (joined-faultless w) joined-fits joined-small ∙ sym joined-pool
+
+    pub pairs-joined : pairsIn (joinedSheet a b) ≡ pairsTogether a b
+    pairs-joined = ap pairsIn joined-written ∙ says-pairs _ pairOf numberOf (joined-faultless w) joined-fits joined-small
+
+    pair-joined : (i : ℕ) → i < pairsTogether a b → pairAt (joinedSheet a b) i ≡ pairOf i
+    pair-joined i l =
+        ap (λ (c : List ℕ). pairAt c i) joined-written
+        ∙ says-pair _ pairOf numberOf (joined-faultless w) joined-fits joined-small i l
+
+    number-joined : (j : ℕ) → j < pairsTogether a b → shuffleAt (joinedSheet a b) (pairsIn (joinedSheet a b)) j ≡ numberOf j
+    number-joined j l =
+        ap₂ (λ (c : List ℕ) (n : ℕ). shuffleAt c n j) joined-written pairs-joined
+        ∙ says-number _ pairOf numberOf (joined-faultless w) joined-fits joined-small j l
+
+    joined-holds : Holds a b (joinedSheet a b)
+    joined-holds =
+        record {
+          many = pairs-joined;
+          firstPairs = λ i l. pair-joined i (omega arith) ∙ first-pair i l;
+          secondPairs = λ j l. pair-joined (pairsIn a + j) (omega arith) ∙ second-pair j l;
+          firstNumbers = λ i l. number-joined i (omega arith) ∙ first-number i l;
+          secondNumbers = λ j l. number-joined (pairsIn a + j) (omega arith) ∙ second-number j l;
+        }
+
+-- ## With no pairs on one side it is the other sheet
+
+abbrev nobody : Pool
+nobody = record { pairs = []; shuffle = [] }
+
+empty-pool : (a : List ℕ) → pairsIn a ≡ 0 → poolOf a ≡ nobody
+unfolding poolOf table
+empty-pool a e = rw e
+
+nobody-first : (q : Pool) → joinedPool nobody q ≡ q
+unfolding joinedPool
+nobody-first q =
+    let e : map (λ v. v + 0) (q .shuffle) ≡ q .shuffle =
+    ap (λ (f : ℕ → ℕ). map f (q .shuffle)) (λ k v. add-zero v k) ∙ map-id (q .shuffle) in
+    λ k. record { pairs = q .pairs; shuffle = e k }
+
+nobody-second : (p : Pool) → joinedPool p nobody ≡ p
+unfolding joinedPool
+nobody-second p = λ k. record { pairs = append-nil (p .pairs) k; shuffle = append-nil (p .shuffle) k }
+
+module _ (a b : List ℕ) (ha : Bytes a) (hb : Bytes b) (w : Joinable a b) where
+  pub is-joined : Joined a b (joinedSheet a b)
+  unfolding joinedSheet
+  is-joined =
+      record {
+        accepted = sheet-joined a b ha hb w;
+        holds = joined-holds a b ha hb w;
+        firstEmpty =
+            λ e.
+            ap sheetOf (ap (λ (p : Pool). joinedPool p (poolOf b)) (empty-pool a e) ∙ nobody-first (poolOf b)) ∙ sheet-back b hb (w .second);
+        secondEmpty =
+            λ e.
+            ap sheetOf (ap (joinedPool (poolOf a)) (empty-pool b e) ∙ nobody-second (poolOf a)) ∙ sheet-back a ha (w .first);
+      }
+
+-- ## Three sheets
+
+-- raised by n and then by m is raised by both
+raised-twice : (n m : ℕ) (s : List ℕ) → map (λ v. v + (m + n)) s ≡ map (λ v. v + m) (map (λ v. v + n) s)
+raised-twice n m s =
+    ap (λ (f : ℕ → ℕ). map f s) (λ k v. (let e : v + (m + n) ≡ v + n + m = omega arith in e) k) ∙ sym (map-map (λ v. v + m) (λ v. v + n) s)
+
+pub joined-three : (p q r : Pool) → joinedPool (joinedPool p q) r ≡ joinedPool p (joinedPool q r)
+unfolding joinedPool
+joined-three p q r =
+    let n = length (p .pairs) in
+    let m = length (q .pairs) in
+    let e : (p .shuffle ++ map (λ v. v + n) (q .shuffle)) ++ map (λ v. v + length (p .pairs ++ q .pairs)) (r .shuffle)
+    ≡ p .shuffle ++ map (λ v. v + n) (q .shuffle ++ map (λ v. v + m) (r .shuffle)) =
+    rw (length-append, map-append, append-assoc, raised-twice m n (r .shuffle)) refl in
+    λ k. record { pairs = append-assoc (p .pairs) (q .pairs) (r .pairs) k; shuffle = e k }
+
+pub joined-in-any-grouping : JoinedInAnyGrouping
+unfolding joinedSheet
+joined-in-any-grouping a b c ha hb hc w v =
+    ap sheetOf
+    (ap (λ (p : Pool). joinedPool p (poolOf c)) (pool-joined a b ha hb w)
+    ∙ joined-three (poolOf a) (poolOf b) (poolOf c)
+    ∙ sym (ap (joinedPool (poolOf a)) (pool-joined b c hb hc v)))

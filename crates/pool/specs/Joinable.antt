@@ -1,0 +1,86 @@
+-- What joining promises, without the search for a fault and with no lists joined: which sheets are joined, what each refusal says, and what the joined sheet
+-- holds, entry by entry. The contract of `joining` carries `JoinsRightly`. Assumes nothing.
+use Prim.Native.Nat.{ℕ, _+_, _≤_, _<_}
+use mathlib.Core.Path.{_≡_}
+use mathlib.Core.List.{List}
+use lib.ListN.{length, take, drop}
+use Rattle.refusal.specs.Answer.{finished, refused, Outcome, outcome}
+use Rattle.pool.specs.Sheet.{sheetLength, pairsIn, pairAt, shuffleAt, poolOf}
+use Rattle.pool.specs.Tables.{Tables, filledTables}
+use Rattle.pool.specs.Calls.{reading}
+use Rattle.pool.specs.Joining.{joinedPool, joinedSheet, joining}
+use Rattle.pool.specs.Faultless.{FaultlessSheet, SheetFault, TablesHold}
+use Rattle.pool.specs.Promises.{EntriesBelow}
+
+-- no id is in both: a pair of the one and a pair of the other have different ids
+abbrev pub Apart : List ℕ → List ℕ → Type 0
+Apart a b = (i j : ℕ) → i < pairsIn a → j < pairsIn b → pairAt a i .id ≡ pairAt b j .id → ⊥
+
+-- how many pairs they have together
+abbrev pub pairsTogether : List ℕ → List ℕ → ℕ
+pairsTogether a b = pairsIn a + pairsIn b
+
+-- two sheets with none of the faults: each accepted, no id in both, at most 200 pairs together
+pub record Joinable (a b : List ℕ) : Type 0 where
+  pub first : FaultlessSheet a
+  pub second : FaultlessSheet b
+  pub apart : Apart a b
+  pub few : pairsTogether a b ≤ 200
+
+-- fault k at place o, of joining into a buffer of so many bytes: it is there, and none that is looked for before it. A sheet's own is never 9
+pub data JoinFault (a b : List ℕ) (space : ℕ) : ℕ → ℕ → Type 0 where
+  first : (k o : ℕ) → SheetFault a k o → JoinFault a b space k o
+  second : (k o : ℕ) → FaultlessSheet a → SheetFault b k o → JoinFault a b space k o
+  sharedId :
+      FaultlessSheet a
+      → FaultlessSheet b
+      → (i j : ℕ)
+      → i < pairsIn a
+      → j < pairsIn b
+      → pairAt a i .id ≡ pairAt b j .id
+      → JoinFault a b space 11 0
+  tooManyTogether : FaultlessSheet a → FaultlessSheet b → Apart a b → 200 < pairsTogether a b → JoinFault a b space 12 0
+  bufferTooShort : Joinable a b → space < sheetLength (pairsTogether a b) → JoinFault a b space 9 0
+
+-- sheet c holds the pairs and the shuffle of a, and after them those of b
+pub record Holds (a b c : List ℕ) : Type 0 where
+  pub many : pairsIn c ≡ pairsTogether a b
+  pub firstPairs : (i : ℕ) → i < pairsIn a → pairAt c i ≡ pairAt a i
+  pub secondPairs : (j : ℕ) → j < pairsIn b → pairAt c (pairsIn a + j) ≡ pairAt b j
+  pub firstNumbers : (i : ℕ) → i < pairsIn a → shuffleAt c (pairsIn c) i ≡ shuffleAt a (pairsIn a) i
+  pub secondNumbers : (j : ℕ) → j < pairsIn b → shuffleAt c (pairsIn c) (pairsIn a + j) ≡ shuffleAt b (pairsIn b) j + pairsIn a
+
+-- sheet c is that of a and b: an accepted sheet that holds both, and "joining with a sheet of N = 0 gives the other sheet"
+pub record Joined (a b c : List ℕ) : Type 0 where
+  pub accepted : FaultlessSheet c
+  pub holds : Holds a b c
+  pub firstEmpty : pairsIn a ≡ 0 → c ≡ b
+  pub secondEmpty : pairsIn b ≡ 0 → c ≡ a
+
+-- of the answer and what is left in the buffer `out`: what has none of the faults is joined, and nothing else is; a refusal names a fault that is there, and
+-- "leaves all lent memory unchanged"; the bytes written are those of the joined sheet, and what lies past them is unchanged
+pub record JoinsRightly (a b out : List ℕ) (o : Outcome ℕ (List ℕ)) : Type 0 where
+  pub accepts : Joinable a b → sheetLength (pairsTogether a b) ≤ length out → o .answer ≡ finished (sheetLength (pairsTogether a b))
+  pub accepted : (m : ℕ) → o .answer ≡ finished m → (m ≡ sheetLength (pairsTogether a b)) × Joinable a b × (m ≤ length out)
+  pub refuses : (k place : ℕ) → o .answer ≡ refused k place → JoinFault a b (length out) k place × (o .lent ≡ out)
+  pub joins : (m : ℕ) → o .answer ≡ finished m → Joined a b (take m (o .lent)) × (drop m (o .lent) ≡ drop m out)
+
+-- what the types of the slices give: a sheet's entries are bytes
+abbrev pub Bytes : List ℕ → Type 0
+Bytes = EntriesBelow 256
+
+-- two sheets that are joined, read back: the pool that both say together, into any tables that can hold it
+abbrev pub JoinedIsRead : Type 0
+JoinedIsRead =
+    (a b out : List ℕ) (m : ℕ) (t : Tables)
+    → Bytes a
+    → Bytes b
+    → joining a b out .answer ≡ finished m
+    → TablesHold (pairsTogether a b) t
+    → reading (take m (joining a b out .lent)) t
+    ≡ outcome (finished (pairsTogether a b)) (filledTables (joinedPool (poolOf a) (poolOf b)) t)
+
+-- three sheets joined, the first two first or the last two first, are the same sheet
+abbrev pub JoinedInAnyGrouping : Type 0
+JoinedInAnyGrouping =
+    (a b c : List ℕ) → Bytes a → Bytes b → Bytes c → Joinable a b → Joinable b c → joinedSheet (joinedSheet a b) c ≡ joinedSheet a (joinedSheet b c)
