@@ -4,19 +4,16 @@ use refusal::Refusal;
 use refusal::Verdict;
 use scan::Found;
 ghost use mathlib.Core.Path.{_≡_};
-ghost use mathlib.Core.List.{flatMap};
-ghost use Prim.Native.Nat.{_+_, _*_, _≤_};
+ghost use Prim.Native.Nat.{_≤_};
 ghost use lib.Dec.{eqb};
 ghost use lib.ListN.{length};
-ghost use Rattle.laws.specs.Below.{table, anyBelow};
-ghost use Rattle.laws.specs.Digits.{bytes};
-ghost use Rattle.laws.specs.Lent.{filled, stored};
+ghost use Rattle.laws.specs.Below.{anyBelow};
 ghost use Rattle.refusal.specs.Answer.{outcome};
 ghost use Rattle.refusal.specs.Number.{faultAt};
-ghost use Rattle.pool.specs.Sheet.{pairField, pairSize, pairPlace, sheetLength, pairsIn, pairAt, shuffleAt};
+ghost use Rattle.pool.specs.Sheet.{pairPlace, pairAt};
 ghost use Rattle.pool.specs.Faultless.{FaultlessSheet};
-ghost use Rattle.pool.specs.Joining.{joinedSheet, bothFault, joinFault, joining};
-ghost use Rattle.pool.specs.Joinable.{pairsTogether, Joinable, JoinsRightly};
+ghost use Rattle.pool.specs.Joining.{bothFault, joinFault, joining};
+ghost use Rattle.pool.specs.Joinable.{JoinsRightly};
 ghost use Rattle.scan.specs.Answers.{foundFault};
 ghost use Rattle.joining.specs.Answers.{answerOf};
 
@@ -88,63 +85,6 @@ fn judge(first: &[u8], second: &[u8], space: usize) -> Found
     }
 }
 
-// Writes these bytes from `at` on.
-fn put_bytes(out: &mut [u8], at: usize, piece: &[u8])
-    requires { ⌜ at + length (now piece) ≤ length (now out) ⌝ }
-    ensures { λ _. ⌜ now (out .exit) ≡ stored at (now (piece .entry)) (now (out .entry)) ⌝ }
-{
-    let mut i: usize = 0;
-    while i < piece.len() {
-        out[at + i] = piece[i];
-        i += 1;
-    }
-}
-
-// Writes the fields of the n pairs of a sheet from `at` on, as they stand there.
-fn put_pairs(out: &mut [u8], at: usize, sheet: &[u8], n: usize)
-    requires { ⌜ FaultlessSheet (now sheet) × (n ≡ pairsIn (now sheet)) × (at + pairSize * n ≤ length (now out)) ⌝ }
-    ensures { λ _. ⌜ now (out .exit) ≡ stored at (flatMap pairField (table n (pairAt (now (sheet .entry))))) (now (out .entry)) ⌝ }
-{
-    let from = layout::FIRST_PAIR;
-    let to = layout::pair_place(n);
-    put_bytes(out, at, &sheet[from..to]);
-}
-
-// Writes the numbers of the shuffle of a sheet of n pairs from `at` on, `more` added to each.
-fn put_raised(out: &mut [u8], at: usize, sheet: &[u8], n: usize, more: usize)
-    requires { ⌜ (n ≤ 200) × (more ≤ 200) × (sheetLength n ≤ length (now sheet)) × (at + 2 * n ≤ length (now out)) ⌝ }
-    ensures { λ _.
-        let s = table n (λ j. shuffleAt (now (sheet .entry)) n j + more) in
-        ⌜ now (out .exit) ≡ stored at (flatMap (bytes 2) s) (now (out .entry)) ⌝ }
-{
-    let from = layout::pair_place(n) + layout::START_LENGTH;
-    let mut j: usize = 0;
-    while j < n {
-        let drawn = framing::number(sheet, from + 2 * j, 2);
-        encoding::put(out, at + 2 * j, 2, drawn + more as u64);
-        j += 1;
-    }
-}
-
-// Writes the sheet of two sheets, and gives its length.
-fn put_joined(out: &mut [u8], first: &[u8], second: &[u8]) -> usize
-    requires { ⌜ Joinable (now first) (now second) × (sheetLength (pairsTogether (now first) (now second)) ≤ length (now out)) ⌝ }
-    ensures { λ r.
-        let sheet = joinedSheet (now (first .entry)) (now (second .entry)) in
-        ⌜ (r ≡ length sheet) × (now (out .exit) ≡ filled sheet (now (out .entry))) ⌝ }
-{
-    let n = framing::pairs_in(first);
-    let m = framing::pairs_in(second);
-    encoding::put_head(out, (n + m) as u64);
-    put_pairs(out, layout::FIRST_PAIR, first, n);
-    put_pairs(out, layout::pair_place(n), second, m);
-    let at = layout::pair_place(n + m);
-    encoding::put_start(out, at, layout::SHUFFLE_TAG, (2 * (n + m)) as u64);
-    put_raised(out, at + layout::START_LENGTH, first, n, 0);
-    put_raised(out, at + layout::START_LENGTH + 2 * n, second, m, n);
-    layout::sheet_length(n + m)
-}
-
 // Joins the second sheet to the first, as one sheet in the lent buffer.
 pub fn join(first: &[u8], second: &[u8], out: &mut [u8]) -> Joining
     ensures { λ r.
@@ -155,6 +95,6 @@ pub fn join(first: &[u8], second: &[u8], out: &mut [u8]) -> Joining
 {
     match judge(first, second, out.len()) {
         Found::Fault(why, place) => Joining::Refused(why, place),
-        Found::Nothing => Joining::Length(put_joined(out, first, second)),
+        Found::Nothing => Joining::Length(appending::put_joined(out, first, second)),
     }
 }

@@ -1,4 +1,4 @@
--- `joining::put_raised` meets its contract. The loop's invariant: j numbers of two bytes are written from `at` on. Assumes nothing.
+-- `appending::put_raised` meets its contract. The loop's invariant: j numbers of two bytes are written from `at` on. Assumes nothing.
 use Prim.Native.Nat.{ℕ, _+_, _-_, _*_, _^_, _≤_, _<_}
 use mathlib.Core.Path.{_≡_, ap, _∙_}
 use native.Mathlib.Omega.{arith}
@@ -8,8 +8,8 @@ use Rattle.laws.specs.Lent.{stored}
 use Rattle.laws.proofs.Digits.{length-bytes, bigEndian-lt}
 use Rattle.laws.proofs.Lent.{Pieces, pieces-none, pieces-more, pieces-all}
 use Rattle.pool.specs.Sheet.{shuffleAt}
-use Rattle.joining.proofs.put_raised.Statement.{statement}
-use Rattle.joining.proofs.put_raised.Tie as tie
+use Rattle.appending.proofs.put_raised.Statement.{statement}
+use Rattle.appending.proofs.put_raised.Tie as tie
 
 abbrev Inv-loop : tie.InvT-loop
 Inv-loop out₀ at sheet n more from j₀ out j = (j ≤ n) × Pieces at j (bytes 2) (λ k. shuffleAt sheet n k + more) out₀ out

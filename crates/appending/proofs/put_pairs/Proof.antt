@@ -1,12 +1,12 @@
--- `joining::put_pairs` meets its contract: the bytes of the pairs' fields are what writing the pairs gives. Assumes nothing.
+-- `appending::put_pairs` meets its contract: the bytes of the pairs' fields are what writing the pairs gives. Assumes nothing.
 use mathlib.Core.Path.{_≡_, ap, _∙_}
 use mathlib.Core.List.{List}
 use Prim.Native.Nat.{ℕ}
 use borrow.Author.Needs.{needs}
 use Rattle.laws.specs.Lent.{stored}
-use Rattle.joining.proofs.Pieces.{pairs-there}
-use Rattle.joining.proofs.put_pairs.Statement.{statement}
-use Rattle.joining.proofs.put_pairs.Tie as tie
+use Rattle.appending.proofs.Pieces.{pairs-there}
+use Rattle.appending.proofs.put_pairs.Statement.{statement}
+use Rattle.appending.proofs.put_pairs.Tie as tie
 
 returns : tie.Need-returns
 returns c =

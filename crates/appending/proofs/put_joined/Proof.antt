@@ -1,4 +1,4 @@
--- `joining::put_joined` meets its contract: each piece goes where the one before it ends. Assumes nothing.
+-- `appending::put_joined` meets its contract: each piece goes where the one before it ends. Assumes nothing.
 use Prim.Native.Nat.{ℕ, _+_, _≤_}
 use mathlib.Core.Path.{_≡_, sym, ap, _∙_}
 use native.Mathlib.Omega.{arith}
@@ -6,9 +6,9 @@ use borrow.Author.Needs.{needs}
 use lib.ListN.{length}
 use Rattle.pool.specs.Sheet.{sheetLength}
 use Rattle.pool.proofs.Joined.{length-joined}
-use Rattle.joining.proofs.Pieces.{joined-written}
-use Rattle.joining.proofs.put_joined.Statement.{statement}
-use Rattle.joining.proofs.put_joined.Tie as tie
+use Rattle.appending.proofs.Pieces.{joined-written}
+use Rattle.appending.proofs.put_joined.Statement.{statement}
+use Rattle.appending.proofs.put_joined.Tie as tie
 
 -- moments, each seen from a later one
 abbrev raised : tie.After-put-raised-arg2 → tie.After-put-raised

@@ -1,0 +1,2 @@
+-- `Pieces`: the pieces of a joined sheet.
+pub mod Pieces
