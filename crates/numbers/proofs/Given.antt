@@ -9,6 +9,9 @@ use Rattle.reader.specs.declared.Reading.the-variants as Reading
 use Rattle.writer.specs.Answers as Writer
 use Rattle.writer.specs.declared.Writing.{Writing}
 use Rattle.writer.specs.declared.Writing.the-variants as Writing
+use Rattle.joining.specs.Answers as Joiner
+use Rattle.joining.specs.declared.Joining.{Joining}
+use Rattle.joining.specs.declared.Joining.the-variants as Joining
 use Rattle.weighing.specs.Answers as Weighing
 use Rattle.weighing.specs.declared.Building.{Building}
 use Rattle.weighing.specs.declared.Building.the-variants as Building
@@ -19,7 +22,7 @@ use Rattle.planner.specs.declared.Planning.the-variants as Planning
 use Rattle.printout.specs.Answers as Printout
 use Rattle.printout.specs.declared.Printing.{Printing}
 use Rattle.printout.specs.declared.Printing.the-variants as Printing
-use Rattle.numbers.specs.Numbers.{readNumbers, writeNumbers, buildNumbers, planNumbers, printNumbers}
+use Rattle.numbers.specs.Numbers.{readNumbers, writeNumbers, joinNumbers, buildNumbers, planNumbers, printNumbers}
 
 pub read-refused : (r : Reading) (why : Refusal) (o : ℕ) → r ≡ Reading.Refused why o → (k : ℕ) → k ≡ numberOf why
     → record { refusal = k; place = o; pairs = 0 } ≡ readNumbers (Reader.answerOf r)
@@ -38,6 +41,15 @@ write-refused r why e k f = rw (e, f)
 pub write-finished : (r : Writing) (n : ℕ) → r ≡ Writing.Length n → record { refusal = 0; length = n } ≡ writeNumbers (Writer.answerOf r)
 unfolding writeNumbers Writer.answerOf
 write-finished r n e = rw e
+
+pub join-refused : (r : Joining) (why : Refusal) (o : ℕ) → r ≡ Joining.Refused why o → (k : ℕ) → k ≡ numberOf why
+    → record { refusal = k; place = o; length = 0 } ≡ joinNumbers (Joiner.answerOf r)
+unfolding joinNumbers Joiner.answerOf
+join-refused r why o e k f = rw (e, f)
+
+pub join-finished : (r : Joining) (n : ℕ) → r ≡ Joining.Length n → record { refusal = 0; place = 0; length = n } ≡ joinNumbers (Joiner.answerOf r)
+unfolding joinNumbers Joiner.answerOf
+join-finished r n e = rw e
 
 pub build-refused : (r : Building) (why : Refusal) → r ≡ Building.Refused why → (k : ℕ) → k ≡ numberOf why
     → record { refusal = k } ≡ buildNumbers (Weighing.answerOf r)

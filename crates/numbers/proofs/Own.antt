@@ -14,6 +14,9 @@ use Rattle.reader.specs.declared.Reading.the-variants as Reading
 use Rattle.writer.specs.Answers as Writer
 use Rattle.writer.specs.declared.Writing.{Writing}
 use Rattle.writer.specs.declared.Writing.the-variants as Writing
+use Rattle.joining.specs.Answers as Joiner
+use Rattle.joining.specs.declared.Joining.{Joining}
+use Rattle.joining.specs.declared.Joining.the-variants as Joining
 use Rattle.weighing.specs.Answers as Weighing
 use Rattle.weighing.specs.declared.Building.{Building}
 use Rattle.weighing.specs.declared.Building.the-variants as Building
@@ -24,7 +27,7 @@ use Rattle.printout.specs.Answers as Printout
 use Rattle.printout.specs.declared.Printing.{Printing}
 use Rattle.printout.specs.declared.Printing.the-variants as Printing
 use Rattle.numbers.specs.declared.PlanAnswer.{PlanAnswer}
-use Rattle.numbers.specs.Numbers.{readNumbers, writeNumbers, buildNumbers, planNumbers, printNumbers}
+use Rattle.numbers.specs.Numbers.{readNumbers, writeNumbers, joinNumbers, buildNumbers, planNumbers, printNumbers}
 use Rattle.numbers.specs.Promises.{Numbered, NumberedAt0, Own, OneAnswer}
 
 -- ## What each call answers
@@ -49,15 +52,23 @@ at-0 why k o e = let f : k ≡ numberOf why = cc in let g : o ≡ 0 = cc in (rw 
 of-finished : {Result : Type 0} (x : Result) → NumberedAt0 (finished x)
 of-finished x k o e = let z : _≡_ {A = ℕ} 0 1 = cc in absurd (omega arith)
 
+of-refused : {Result : Type 0} (why : Refusal) (place : ℕ) → Numbered {Result = Result} (refused (numberOf why) place)
+of-refused why place k o e = let f : k ≡ numberOf why = cc in rw f (from-one why)
+
 pub read-numbered : (r : Reading) → Numbered (Reader.answerOf r)
 unfolding Reader.answerOf
 read-numbered (Reading.Pairs n) k o e = of-finished n k o e .0
-read-numbered (Reading.Refused why place) k o e = let f : k ≡ numberOf why = cc in rw f (from-one why)
+read-numbered (Reading.Refused why place) k o e = of-refused why place k o e
 
 pub write-numbered : (r : Writing) → NumberedAt0 (Writer.answerOf r)
 unfolding Writer.answerOf
 write-numbered (Writing.Length n) = of-finished n
 write-numbered (Writing.Refused why) = at-0 why
+
+pub join-numbered : (r : Joining) → Numbered (Joiner.answerOf r)
+unfolding Joiner.answerOf
+join-numbered (Joining.Length n) k o e = of-finished n k o e .0
+join-numbered (Joining.Refused why place) k o e = of-refused why place k o e
 
 pub build-numbered : (r : Building) → NumberedAt0 (Weighing.answerOf r)
 unfolding Weighing.answerOf
@@ -96,6 +107,13 @@ own-write (finished m) (refused k o) p q e = not-0 (q k o refl .0) (ap (λ x. x 
 own-write (refused k o) (finished n) p q e = not-0 (p k o refl .0) (sym (ap (λ x. x .refusal) e))
 own-write (refused k o) (refused l u) p q e = same-refusal (ap (λ x. x .refusal) e) (p k o refl .1) (q l u refl .1)
 
+own-join : Own Numbered joinNumbers
+unfolding joinNumbers
+own-join (finished m) (finished n) p q e = ap (λ x. finished (x .length)) e
+own-join (finished m) (refused k o) p q e = not-0 (q k o refl) (ap (λ x. x .refusal) e)
+own-join (refused k o) (finished n) p q e = not-0 (p k o refl) (sym (ap (λ x. x .refusal) e))
+own-join (refused k o) (refused l u) p q e = ap (λ x. refused (x .refusal) (x .place)) e
+
 own-build : Own NumberedAt0 buildNumbers
 unfolding buildNumbers
 own-build (finished u) (finished v) p q e = refl
@@ -121,4 +139,4 @@ own-print (refused k o) (finished n) p q e = not-0 (p k o refl .0) (sym (ap (λ 
 own-print (refused k o) (refused l u) p q e = same-refusal (ap (λ x. x .refusal) e) (p k o refl .1) (q l u refl .1)
 
 pub one-answer : OneAnswer
-one-answer = record { read = own-read; write = own-write; build = own-build; plan = own-plan; print = own-print }
+one-answer = record { read = own-read; write = own-write; join = own-join; build = own-build; plan = own-plan; print = own-print }

@@ -5,6 +5,7 @@ use Rattle.refusal.specs.Answer.{Answer, finished, refused}
 use Rattle.exchange.specs.Planning.{Plan}
 use Rattle.numbers.specs.declared.ReadAnswer.{ReadAnswer}
 use Rattle.numbers.specs.declared.WriteAnswer.{WriteAnswer}
+use Rattle.numbers.specs.declared.JoinAnswer.{JoinAnswer}
 use Rattle.numbers.specs.declared.BuildAnswer.{BuildAnswer}
 use Rattle.numbers.specs.declared.PlanAnswer.{PlanAnswer}
 use Rattle.numbers.specs.declared.PrintAnswer.{PrintAnswer}
@@ -18,6 +19,11 @@ readNumbers (refused k o) = record { refusal = k; place = o; pairs = 0 }
 unfoldable pub writeNumbers : Answer ℕ → WriteAnswer
 writeNumbers (finished n) = record { refusal = 0; length = n }
 writeNumbers (refused k o) = record { refusal = k; length = 0 }
+
+-- the joined sheet's length, or the number and its place
+unfoldable pub joinNumbers : Answer ℕ → JoinAnswer
+joinNumbers (finished n) = record { refusal = 0; place = 0; length = n }
+joinNumbers (refused k o) = record { refusal = k; place = o; length = 0 }
 
 -- "planning and building give the number"
 unfoldable pub buildNumbers : Answer (Unit {0}) → BuildAnswer

@@ -3,13 +3,13 @@
 use Prim.Native.Nat.{ℕ, _≤_}
 use mathlib.Core.Path.{_≡_}
 use Rattle.refusal.specs.Answer.{Answer, refused}
-use Rattle.numbers.specs.Numbers.{readNumbers, writeNumbers, buildNumbers, planNumbers, printNumbers}
+use Rattle.numbers.specs.Numbers.{readNumbers, writeNumbers, joinNumbers, buildNumbers, planNumbers, printNumbers}
 
 -- a refusal has a number from 1 on: no finished call has its numbers
 abbrev pub Numbered : {Result : Type 0} → Answer Result → Type 0
 Numbered a = (k o : ℕ) → a ≡ refused k o → 1 ≤ k
 
--- and its place is 0, as in every call but reading
+-- and its place is 0, as in every call but reading and joining
 abbrev pub NumberedAt0 : {Result : Type 0} → Answer Result → Type 0
 NumberedAt0 a = (k o : ℕ) → a ≡ refused k o → (1 ≤ k) × (o ≡ 0)
 
@@ -21,6 +21,7 @@ Own {Result} Are numbers = (a b : Answer Result) → Are a → Are b → numbers
 pub record OneAnswer : Type 0 where
   pub read : Own Numbered readNumbers
   pub write : Own NumberedAt0 writeNumbers
+  pub join : Own Numbered joinNumbers
   pub build : Own NumberedAt0 buildNumbers
   pub plan : Own NumberedAt0 planNumbers
   pub print : Own NumberedAt0 printNumbers

@@ -1,5 +1,6 @@
 // The answers of the library's calls as structs of numbers, for the C boundary (include/vadivuzhen.h). In each `refusal` is document 01's number, or 0
 // where the call finished; a field that the answer does not use is 0.
+use joining::Joining;
 use planner::Planning;
 use printout::Printing;
 use reader::Reading;
@@ -10,10 +11,11 @@ ghost use mathlib.Core.Path.{_≡_};
 ghost use Rattle.refusal.specs.Number.{numberOf};
 ghost use Rattle.reader.specs.Answers.{answerOf as Reader·answerOf};
 ghost use Rattle.writer.specs.Answers.{answerOf as Writer·answerOf};
+ghost use Rattle.joining.specs.Answers.{answerOf as Joiner·answerOf};
 ghost use Rattle.weighing.specs.Answers.{answerOf as Weighing·answerOf};
 ghost use Rattle.planner.specs.Answers.{answerOf as Planner·answerOf};
 ghost use Rattle.printout.specs.Answers.{answerOf as Printout·answerOf};
-ghost use Rattle.numbers.specs.Numbers.{readNumbers, writeNumbers, buildNumbers, planNumbers, printNumbers};
+ghost use Rattle.numbers.specs.Numbers.{readNumbers, writeNumbers, joinNumbers, buildNumbers, planNumbers, printNumbers};
 
 // N of the sheet, or the refusal's place.
 #[repr(C)]
@@ -27,6 +29,14 @@ pub struct ReadAnswer {
 #[repr(C)]
 pub struct WriteAnswer {
     pub refusal: u32,
+    pub length: usize,
+}
+
+// The joined sheet's length, or the refusal's place.
+#[repr(C)]
+pub struct JoinAnswer {
+    pub refusal: u32,
+    pub place: usize,
     pub length: usize,
 }
 
@@ -88,6 +98,23 @@ pub fn write_numbers(answer: Writing) -> WriteAnswer
         Writing::Length(length) => WriteAnswer {
             refusal: 0,
             length: length,
+        },
+    }
+}
+
+pub fn join_numbers(answer: Joining) -> JoinAnswer
+    ensures { λ r. ⌜ r ≡ joinNumbers (Joiner·answerOf answer) ⌝ }
+{
+    match answer {
+        Joining::Refused(why, at) => JoinAnswer {
+            refusal: number_of(why),
+            place: at,
+            length: 0,
+        },
+        Joining::Length(bytes) => JoinAnswer {
+            refusal: 0,
+            place: 0,
+            length: bytes,
         },
     }
 }

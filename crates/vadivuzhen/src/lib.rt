@@ -1,6 +1,7 @@
 // The library's calls with a C boundary (include/vadivuzhen.h). Each hands its arguments on, and answers in numbers (crate `numbers`).
 use cycle::Cycle;
 use numbers::BuildAnswer;
+use numbers::JoinAnswer;
 use numbers::PlanAnswer;
 use numbers::PrintAnswer;
 use numbers::ReadAnswer;
@@ -9,6 +10,8 @@ ghost use mathlib.Core.Path.{_≡_};
 ghost use Rattle.pool.specs.Lent.{lentFields, lentTables};
 ghost use Rattle.pool.specs.Calls.{reading, writing};
 ghost use Rattle.pool.specs.Promises.{ReadsRightly, WritesRightly};
+ghost use Rattle.pool.specs.Joining.{joining};
+ghost use Rattle.pool.specs.Joinable.{JoinsRightly};
 ghost use Rattle.donation.specs.Weight.{documentPoints};
 ghost use Rattle.graph.specs.Lent.{lentGraph};
 ghost use Rattle.weighing.specs.Building.{building};
@@ -20,7 +23,7 @@ ghost use Rattle.exchange.specs.Promises.{PlansRightly};
 ghost use Rattle.printout.specs.Printed.{printedPlan};
 ghost use Rattle.printout.specs.Calls.{printingPlan, printingRefusal};
 ghost use Rattle.printout.specs.Promises.{PrintsPlan, PrintsRefused};
-ghost use Rattle.numbers.specs.Numbers.{readNumbers, writeNumbers, buildNumbers, planNumbers, printNumbers};
+ghost use Rattle.numbers.specs.Numbers.{readNumbers, writeNumbers, joinNumbers, buildNumbers, planNumbers, printNumbers};
 ghost use Rattle.numbers.specs.Promises.{Numbered, NumberedAt0};
 
 // Each contract says: the numbers are those of the answer that is due, and of no other; all that was lent is left as is due; and the call's promise holds
@@ -100,6 +103,18 @@ pub extern "C" fn vadivuzhen_write(
         out,
     );
     numbers::write_numbers(answer)
+}
+
+// Joins the second sheet to the first, as one sheet in the lent buffer.
+#[no_mangle]
+pub extern "C" fn vadivuzhen_join(first: &[u8], second: &[u8], out: &mut [u8]) -> JoinAnswer
+    ensures { λ r.
+        let due = joining (now (first .entry)) (now (second .entry)) (now (out .entry)) in
+        ⌜ (r ≡ joinNumbers (due .answer)) × Numbered (due .answer) ⌝
+        ∗ ⌜ now (out .exit) ≡ due .lent ⌝
+        ∗ ⌜ JoinsRightly (now (first .entry)) (now (second .entry)) (now (out .entry)) due ⌝ }
+{
+    numbers::join_numbers(joining::join(first, second, out))
 }
 
 // Builds the tables M and W from the first n entries of a pool's fields.
