@@ -1,7 +1,7 @@
 /* Vadivuzhen: plans kidney exchanges among patient-donor pairs.
  *
  * From a pool sheet to a printed plan: vadivuzhen_read, vadivuzhen_build, vadivuzhen_plan, vadivuzhen_print_plan; examples/plan.c goes that way.
- * vadivuzhen_write makes a sheet from a pool, vadivuzhen_print_refusal prints what was refused.
+ * vadivuzhen_write makes a sheet from a pool, vadivuzhen_join one sheet of two, vadivuzhen_print_refusal prints what was refused.
  *
  * Every function is proved, for all bytes, tables and lengths, to answer a result or one of the refusals below, to do nothing undefined and to return.
  * No call has to be prepared by a check: each checks its own input. What is proved of each call stands with it. The proofs are of the source; the
@@ -56,8 +56,11 @@ enum vadivuzhen_refusal {
     /* the hospital */
     VADIVUZHEN_OUT_OF_RANGE = 6,    /* a blood group is above 3 or an age group above 1 */
     VADIVUZHEN_REPEATED_ID = 7,     /* an id is that of an earlier pair */
+    VADIVUZHEN_SHARED_ID = 11,      /* an id is in both of the sheets to be joined */
     /* whoever drew the shuffle */
     VADIVUZHEN_NOT_A_SHUFFLE = 8,   /* the shuffle does not have each of 0 to N - 1 exactly once */
+    /* whoever joins two sheets */
+    VADIVUZHEN_TOO_MANY_TOGETHER = 12, /* they have more than 200 pairs together */
     /* the calling program */
     VADIVUZHEN_TOO_SHORT = 9,       /* a lent buffer or table is too short */
     VADIVUZHEN_NOT_COMPATIBILITY = 10 /* a compatibility entry is above 1, or a pair's own is not 0 */
@@ -131,6 +134,26 @@ VADIVUZHEN_ANSWERS struct vadivuzhen_write_answer vadivuzhen_write(
     const uint64_t *patient_antigens, size_t patient_antigens_length,
     const uint64_t *patient_antibodies, size_t patient_antibodies_length,
     const uint16_t *shuffle, size_t shuffle_length,
+    uint8_t *out, size_t out_length);
+
+struct vadivuzhen_join_answer {
+    uint32_t refusal;
+    size_t place;  /* of a sheet's own refusal, 1 to 8: its place in that sheet, as vadivuzhen_read gives it; of 11, 12 and 9, 0 */
+    size_t length; /* of the joined sheet, in bytes */
+};
+
+/* Joins two sheets into one, in the buffer `out`: the first's pairs, then the second's, and the first's shuffle, then the second's with the first's N added
+ * to each number. A sheet with no pairs gives the other one. The two sheets may be the same memory.
+ * Fills VADIVUZHEN_SHEET(n) bytes, with n the pairs of both together, which is the answer's length; VADIVUZHEN_SHEET(VADIVUZHEN_MOST_PAIRS) always suffices.
+ * Refuses 1 to 8, the first sheet's own, as vadivuzhen_read finds it; 1 to 8, the second's own; 11, where an id is in both; 12, where they have more than
+ * 200 pairs together; 9, where `out` is shorter than the joined sheet. The answer does not say which sheet a refusal from 1 to 8 is about: who needs to
+ * know reads the first sheet alone, with vadivuzhen_read and tables of 200 entries; if that is refused, it was the first.
+ * Proved: two sheets are joined if and only if both have none of the faults, no id is in both, they have at most 200 pairs together and `out` can hold the
+ * sheet. What is written is again an accepted sheet, which says the first's pairs, then the second's, and the shuffle as above; with no pairs on one side it
+ * is the other sheet, byte for byte. */
+VADIVUZHEN_ANSWERS struct vadivuzhen_join_answer vadivuzhen_join(
+    const uint8_t *first, size_t first_length,
+    const uint8_t *second, size_t second_length,
     uint8_t *out, size_t out_length);
 
 /* ---- Compatibility and weight ---- */

@@ -14,11 +14,12 @@ static uint32_t ids[2];
 static uint8_t donor_blood[2], patient_blood[2], donor_age[2], patient_age[2];
 static uint64_t donor_antigens[2], patient_antigens[2], patient_antibodies[2];
 static uint16_t shuffle[2];
+static uint8_t sheet[VADIVUZHEN_SHEET(2)];
 
 /* The sheet on standard input, read and written again. */
 static void there_and_back(void)
 {
-    uint8_t sheet[VADIVUZHEN_SHEET(2)], again[VADIVUZHEN_SHEET(2) + 1];
+    uint8_t again[VADIVUZHEN_SHEET(2) + 1];
     size_t length = fread(sheet, 1, sizeof sheet, stdin);
     struct vadivuzhen_read_answer read = vadivuzhen_read(
         sheet, length, ids, 2, donor_blood, 2, patient_blood, 2, donor_age, 2, patient_age, 2,
@@ -36,6 +37,98 @@ static void there_and_back(void)
         2, ids, 2, donor_blood, 2, patient_blood, 2, donor_age, 2, patient_age, 2,
         donor_antigens, 2, patient_antigens, 2, patient_antibodies, 2, shuffle, 2, again, length - 1);
     check(written.refusal == VADIVUZHEN_TOO_SHORT && written.length == 0, "a buffer one byte short is refused");
+}
+
+/* A sheet of n pairs with ids from `id` on, bloods O and AB, one bit of the donor's antigens set, and the shuffle 0 to n - 1. Gives its length. */
+static size_t sheet_of(uint8_t *out, size_t n, uint8_t id)
+{
+    const uint8_t head[] = {1, 0, 4, 0, 1, 0, (uint8_t)n}, pair[] = {2, 0, 32, 0, 0, 0, 0, 0, 3, 1, 0, 0, 0, 0, 0, 0, 0, 0, 1},
+                  last[] = {3, (uint8_t)(2 * n >> 8), (uint8_t)(2 * n)};
+    memset(out, 0, VADIVUZHEN_SHEET(n));
+    memcpy(out, head, sizeof head);
+    for (size_t i = 0; i < n; i++) {
+        memcpy(out + 7 + 35 * i, pair, sizeof pair);
+        out[7 + 35 * i + 6] = (uint8_t)(id + i);
+        out[7 + 35 * n + 3 + 2 * i + 1] = (uint8_t)i;
+    }
+    memcpy(out + 7 + 35 * n, last, sizeof last);
+    return VADIVUZHEN_SHEET(n);
+}
+
+/* Where sheets are joined, with room to see that no byte too many is written. */
+static uint8_t out[VADIVUZHEN_SHEET(VADIVUZHEN_MOST_PAIRS) + 1];
+
+static struct vadivuzhen_join_answer join(const uint8_t *first, size_t first_length, const uint8_t *second, size_t second_length, size_t out_length)
+{
+    memset(out, 99, sizeof out);
+    return vadivuzhen_join(first, first_length, second, second_length, out, out_length);
+}
+
+/* Is `out` as it was from that byte on? */
+static int untouched_from(size_t at)
+{
+    while (at < sizeof out && out[at] == 99)
+        at++;
+    return at == sizeof out;
+}
+
+static int joined(struct vadivuzhen_join_answer answer, size_t length)
+{
+    return answer.refusal == VADIVUZHEN_FINISHED && answer.place == 0 && answer.length == length && untouched_from(length);
+}
+
+static int refused(struct vadivuzhen_join_answer answer, uint32_t number, size_t place)
+{
+    return answer.refusal == number && answer.place == place && answer.length == 0 && untouched_from(0);
+}
+
+/* The sheet on standard input and addenda. */
+static void joins(void)
+{
+    static const uint8_t head[] = {1, 0, 4, 0, 1, 0, 3}, last[] = {3, 0, 6, 0, 0, 0, 1, 0, 2}, turned[] = {3, 0, 8, 0, 0, 0, 1, 0, 3, 0, 2};
+    uint8_t none[VADIVUZHEN_SHEET(0)], one[VADIVUZHEN_SHEET(1)], two[VADIVUZHEN_SHEET(2)];
+    size_t length = sizeof sheet, no_length = sheet_of(none, 0, 0), one_length = sheet_of(one, 1, 13), two_length = sheet_of(two, 2, 13);
+
+    check(joined(join(sheet, length, one, one_length, sizeof out), 121), "an addendum of one pair is joined, and not a byte more is written");
+    check(memcmp(out, head, 7) == 0 && memcmp(out + 7, sheet + 7, 70) == 0 && memcmp(out + 77, one + 7, 35) == 0 && memcmp(out + 112, last, 9) == 0,
+          "three pairs, the first sheet's first, and the shuffle 0 1 2");
+    check(joined(join(sheet, length, one, one_length, 121), 121), "a buffer just long enough will do");
+
+    two[80 + 1] = 1;
+    two[80 + 3] = 0;
+    check(joined(join(sheet, length, two, two_length, sizeof out), 158), "an addendum of two pairs is joined");
+    check(out[6] == 4 && memcmp(out + 7, sheet + 7, 70) == 0 && memcmp(out + 77, two + 7, 70) == 0 && memcmp(out + 147, turned, 11) == 0,
+          "its shuffle 1 0 becomes 3 2");
+
+    check(joined(join(sheet, length, none, no_length, sizeof out), length) && memcmp(out, sheet, length) == 0, "an addendum of no pairs gives the sheet");
+    check(joined(join(none, no_length, sheet, length, sizeof out), length) && memcmp(out, sheet, length) == 0, "and so it does on the other side");
+    check(joined(join(none, no_length, none, no_length, 10), 10) && memcmp(out, none, 10) == 0, "two sheets of no pairs give one of no pairs");
+}
+
+/* What joining refuses, in its order: where there are two faults, the first is told. */
+static void joins_refused(void)
+{
+    uint8_t one[VADIVUZHEN_SHEET(1)], wrong[VADIVUZHEN_SHEET(2)];
+    static uint8_t many[VADIVUZHEN_SHEET(VADIVUZHEN_MOST_PAIRS)];
+    size_t length = sizeof sheet, one_length = sheet_of(one, 1, 13), many_length = sheet_of(many, 199, 13);
+
+    memcpy(wrong, sheet, length);
+    wrong[42 + 7] = 4;
+    check(refused(join(wrong, length, one, 46, 0), VADIVUZHEN_OUT_OF_RANGE, 42), "the first sheet's own refusal comes first, with its place there");
+    check(refused(join(sheet, length, one, 46, 0), VADIVUZHEN_CUT_OFF, 42), "then the second's, with its place there");
+    one[6] = 201;
+    check(refused(join(sheet, length, one, one_length, 0), VADIVUZHEN_TOO_MANY_PAIRS, 0), "201 pairs in a sheet are its own refusal");
+
+    sheet_of(one, 1, 12);
+    check(refused(join(sheet, length, one, one_length, 0), VADIVUZHEN_SHARED_ID, 0), "the id of the first sheet's last pair is refused");
+    check(refused(join(sheet, length, sheet, length, sizeof out), VADIVUZHEN_SHARED_ID, 0), "a sheet with itself is refused");
+    check(refused(join(sheet, length, many, many_length, 0), VADIVUZHEN_TOO_MANY_TOGETHER, 0), "201 pairs together are refused, before the buffer");
+    many[7 + 35 * 198 + 6] = 11;
+    check(refused(join(sheet, length, many, many_length, 0), VADIVUZHEN_SHARED_ID, 0), "and after an id in both");
+
+    many_length = sheet_of(many, 198, 13);
+    check(refused(join(sheet, length, many, many_length, 7409), VADIVUZHEN_TOO_SHORT, 0), "a buffer one byte short is refused");
+    check(joined(join(sheet, length, many, many_length, 7410), 7410) && out[6] == 200 && out[7409] == 199, "200 pairs together are joined");
 }
 
 /* Document 01's k10, with the shuffle 2 0 1, in tables that are longer than they need to be. */
@@ -84,7 +177,8 @@ static void numbers(void)
 {
     check(VADIVUZHEN_CUT_OFF == 1 && VADIVUZHEN_WRONG_FIELD == 2 && VADIVUZHEN_WRONG_VERSION == 3 && VADIVUZHEN_TOO_MANY_PAIRS == 4
               && VADIVUZHEN_LEFT_OVER == 5 && VADIVUZHEN_OUT_OF_RANGE == 6 && VADIVUZHEN_REPEATED_ID == 7 && VADIVUZHEN_NOT_A_SHUFFLE == 8
-              && VADIVUZHEN_TOO_SHORT == 9 && VADIVUZHEN_NOT_COMPATIBILITY == 10,
+              && VADIVUZHEN_TOO_SHORT == 9 && VADIVUZHEN_NOT_COMPATIBILITY == 10 && VADIVUZHEN_SHARED_ID == 11
+              && VADIVUZHEN_TOO_MANY_TOGETHER == 12,
           "the refusals' numbers");
     check(sizeof(struct vadivuzhen_cycle) == 6, "a record is three numbers of 16 bits");
 }
@@ -92,6 +186,8 @@ static void numbers(void)
 int main(void)
 {
     there_and_back();
+    joins();
+    joins_refused();
     a_record();
     texts();
     numbers();
