@@ -11,7 +11,8 @@
 //! way to call it from Rust. It adds types in which wrong lengths cannot be
 //! said: a [`Pool`] has none of the faults of a pool, [`Tables`] are N rows of
 //! N, and a [`Plan`] has all that planning leaves, with the ids to print it by.
-//! Nothing here is proved but what is called; [`raw`] has the calls themselves.
+//! [`join()`] makes one sheet of two, such as a sheet and its addendum. Nothing
+//! here is proved but what is called; [`raw`] has the calls themselves.
 //!
 //! "Document 01", which the comments cite, is the scope agreed with the buyer.
 //!
@@ -74,12 +75,14 @@ compile_error!(
     "libvadivuzhen.a, which this crate links, is for x86-64 Linux with 64-bit pointers: compile for such a target, like x86_64-unknown-linux-gnu"
 );
 
+mod join;
 mod plan;
 mod pool;
 pub mod raw;
 mod refused;
 mod tables;
 
+pub use crate::join::join;
 pub use crate::plan::{Plan, Tally};
 pub use crate::pool::{Age, Blood, Pair, Pool, LONGEST_SHEET, MOST_PAIRS};
 pub use crate::raw::Cycle;

@@ -69,6 +69,19 @@ pub struct WriteAnswer {
     pub length: usize,
 }
 
+/// What [`join`] answers.
+#[repr(C)]
+#[derive(Clone, Copy, Debug, Default, PartialEq, Eq, Hash)]
+#[must_use = "the call may have refused"]
+pub struct JoinAnswer {
+    /// Document 01's number of the refusal, or 0.
+    pub refusal: u32,
+    /// The offset that goes with a sheet's own refusal, in that sheet.
+    pub place: usize,
+    /// The joined sheet's length in bytes.
+    pub length: usize,
+}
+
 /// What [`build`] answers.
 #[repr(C)]
 #[derive(Clone, Copy, Debug, Default, PartialEq, Eq, Hash)]
@@ -228,6 +241,26 @@ pub fn write(n: usize, fields: Fields<'_>, shuffle: &[u16], out: &mut [u8]) -> W
     }
 }
 
+/// Joins two sheets into one in the lent buffer: the first's pairs, then the
+/// second's, and the first's shuffle, then the second's with the first's N
+/// added to each number.
+///
+/// The first sheet's own refusal comes first, then the second's. The answer
+/// does not say which sheet it is about; [`read`] says it of the first alone.
+pub fn join(first: &[u8], second: &[u8], out: &mut [u8]) -> JoinAnswer {
+    // SAFETY: as in `read`.
+    unsafe {
+        vadivuzhen_join(
+            first.as_ptr(),
+            first.len(),
+            second.as_ptr(),
+            second.len(),
+            out.as_mut_ptr(),
+            out.len(),
+        )
+    }
+}
+
 /// Builds M and W of `n` pairs into the lent tables: `n` rows of `n`, row i
 /// holding donor i.
 pub fn build(n: usize, fields: Fields<'_>, m: &mut [u8], w: &mut [u16]) -> BuildAnswer {
@@ -374,6 +407,15 @@ extern "C" {
         out: *mut u8,
         out_length: usize,
     ) -> WriteAnswer;
+
+    fn vadivuzhen_join(
+        first: *const u8,
+        first_length: usize,
+        second: *const u8,
+        second_length: usize,
+        out: *mut u8,
+        out_length: usize,
+    ) -> JoinAnswer;
 
     fn vadivuzhen_build(
         n: usize,

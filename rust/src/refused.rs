@@ -32,6 +32,10 @@ pub enum Refusal {
     TooShort = 9,
     /// 10: a compatibility is above 1, or a pair's own is not 0.
     NotCompatibility = 10,
+    /// 11: an id is in both of the sheets to be joined.
+    SharedId = 11,
+    /// 12: two sheets have more than 200 pairs together.
+    TooManyTogether = 12,
 }
 
 impl Refusal {
@@ -47,6 +51,8 @@ impl Refusal {
         Refusal::NotAShuffle,
         Refusal::TooShort,
         Refusal::NotCompatibility,
+        Refusal::SharedId,
+        Refusal::TooManyTogether,
     ];
 
     /// Document 01's number. It is not 0, which in an answer means that the
@@ -89,9 +95,9 @@ impl Error for UnknownRefusal {}
 pub struct Refused {
     /// Why.
     pub why: Refusal,
-    /// In reading the offset of the field at fault, for
-    /// [`LeftOver`](Refusal::LeftOver) that of the first byte too many; else
-    /// 0.
+    /// Of a sheet that was read or joined the offset of the field at fault,
+    /// for [`LeftOver`](Refusal::LeftOver) that of the first byte too many;
+    /// else 0.
     pub place: usize,
 }
 
@@ -150,6 +156,14 @@ impl fmt::Display for Refused {
             Refusal::NotCompatibility => write!(
                 f,
                 "a compatibility is above 1, or a pair's own is not 0; mend the table"
+            ),
+            Refusal::SharedId => write!(
+                f,
+                "a pair of the second sheet has the id of one of the first; ask the hospital for an id of its own"
+            ),
+            Refusal::TooManyTogether => write!(
+                f,
+                "the two sheets have more than 200 pairs together; join smaller ones"
             ),
         }
     }

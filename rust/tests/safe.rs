@@ -1,7 +1,7 @@
 //! The safe types: what they refuse, and that a refusal says what to do.
 
 use vadivuzhen::{
-    Age, Blood, Cycle, Pair, Pool, Refusal, Refused, Tables, UnknownRefusal, LONGEST_SHEET,
+    join, Age, Blood, Cycle, Pair, Pool, Refusal, Refused, Tables, UnknownRefusal, LONGEST_SHEET,
 };
 
 /// The pair of that id; any two of these suit each other.
@@ -19,7 +19,13 @@ fn pair(id: u32) -> Pair {
 }
 
 fn pool(n: u16) -> Pool {
-    let pairs: Vec<Pair> = (0..n).map(|id| pair(id.into())).collect();
+    pool_from(0, n)
+}
+
+/// A pool of `n` pairs with ids from `id` on; the shuffle is from the last to
+/// the first.
+fn pool_from(id: u32, n: u16) -> Pool {
+    let pairs: Vec<Pair> = (id..).take(n.into()).map(pair).collect();
     let shuffle: Vec<u16> = (0..n).rev().collect();
     Pool::new(&pairs, &shuffle).expect("a sound pool")
 }
@@ -75,6 +81,53 @@ fn a_sheet_is_refused_at_its_field() {
     let mut blood = sheet;
     blood[42 + 7] = 4;
     assert_eq!(read(&blood), refused(Refusal::OutOfRange, 42));
+}
+
+#[test]
+fn two_sheets_are_joined() {
+    for (m, n) in [(0, 0), (0, 3), (3, 0), (2, 1), (2, 2), (100, 100), (1, 199)] {
+        let (first, second) = (pool(m), pool_from(1_000, n));
+        let sheet = join(&first.write(), &second.write()).expect("two sound sheets");
+        let joined = Pool::read(&sheet).expect("a joined sheet");
+        assert!(joined.pairs().eq(first.pairs().chain(second.pairs())));
+        let raised = second.shuffle().iter().map(|number| m + number);
+        let shuffle: Vec<u16> = first.shuffle().iter().copied().chain(raised).collect();
+        assert_eq!(joined.shuffle(), shuffle);
+        assert_eq!(joined.write(), sheet);
+    }
+    let (sheet, none) = (pool(5).write(), pool(0).write());
+    assert_eq!(join(&sheet, &none), Ok(sheet.clone()));
+    assert_eq!(join(&none, &sheet), Ok(sheet));
+    assert_eq!(join(&none, &none), Ok(none));
+}
+
+#[test]
+fn the_first_fault_of_joining_is_told() {
+    let (sheet, addendum) = (pool(2).write(), pool_from(2, 1).write());
+    let refusal = |first: &[u8], second: &[u8]| join(first, second).expect_err("a fault");
+    // The first sheet's own, whatever the second is; then the second's own.
+    let mut longer = sheet.clone();
+    longer.push(0);
+    let left_over = refused(Refusal::LeftOver, 84);
+    assert_eq!(refusal(&longer, &[]), left_over);
+    assert_eq!(refusal(&addendum, &longer), left_over);
+    assert_eq!(
+        refusal(&sheet, &addendum[..46]),
+        refused(Refusal::CutOff, 42)
+    );
+
+    let shared = refused(Refusal::SharedId, 0);
+    assert_eq!(refusal(&sheet, &sheet), shared);
+    // The last pair's id in the one, the first's in the other.
+    let (low, high) = (pool_from(10, 4).write(), pool_from(13, 3).write());
+    assert_eq!(refusal(&low, &high), shared);
+    assert_eq!(refusal(&high, &low), shared);
+    // Before too many pairs comes an id in both.
+    assert_eq!(refusal(&sheet, &pool_from(1, 199).write()), shared);
+    let together = refused(Refusal::TooManyTogether, 0);
+    assert_eq!(refusal(&sheet, &pool_from(2, 199).write()), together);
+    let whole = join(&sheet, &pool_from(2, 198).write());
+    assert_eq!(whole.map(|whole| whole.len()), Ok(LONGEST_SHEET));
 }
 
 #[test]
@@ -153,7 +206,7 @@ fn a_plan_is_printed_with_its_own_pairs_ids() {
 
 #[test]
 fn every_refusal_has_its_number_and_says_what_to_do() {
-    assert_eq!(Refusal::ALL.len(), 10);
+    assert_eq!(Refusal::ALL.len(), 12);
     for (&why, number) in Refusal::ALL.iter().zip(1..) {
         assert_eq!(why.number(), number);
         assert_eq!(Refusal::try_from(number), Ok(why));
@@ -163,14 +216,14 @@ fn every_refusal_has_its_number_and_says_what_to_do() {
         assert!(told.starts_with(&format!("refusal {number}: ")));
         assert!(told.contains("; "), "{told}");
     }
-    let longest = refused(Refusal::NotCompatibility, usize::MAX);
-    assert_eq!(longest.print(), format!("REFUSED 10 {}\n", usize::MAX));
+    let longest = refused(Refusal::TooManyTogether, usize::MAX);
+    assert_eq!(longest.print(), format!("REFUSED 12 {}\n", usize::MAX));
 }
 
 #[test]
 fn a_number_of_no_refusal_is_said_to_be_unknown() {
     // 0 is a call that finished; later requests go up to 22.
-    for number in (11..=22).chain([0, 23, 256 + 1, u32::MAX]) {
+    for number in (13..=22).chain([0, 23, 256 + 1, u32::MAX]) {
         let unknown = Refusal::try_from(number).expect_err("no refusal");
         assert_eq!(unknown, UnknownRefusal(number));
         assert!(unknown.to_string().starts_with(&format!("{number} is ")));
