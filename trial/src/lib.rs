@@ -1,10 +1,11 @@
 //! An independent planner of kidney exchanges.
 //!
-//! Everything here is written from document 01 (the scope) alone, and shares
-//! no line with the proved library. The two are run side by side on the same
-//! inputs; wherever they answer differently, one of them has misread the
-//! document. So this crate prefers the plain way of saying a thing to the
-//! clever one, and says each thing where the document says it:
+//! Everything here is written from document 01 (the scope) and document 02
+//! (the later requests) alone, and shares no line with the proved library. The
+//! two are run side by side on the same inputs; wherever they answer
+//! differently, one of them has misread a document. So this crate prefers the
+//! plain way of saying a thing to the clever one, and says each thing where
+//! the document says it:
 //!
 //! | module         | document 01                                        |
 //! |----------------|----------------------------------------------------|
@@ -16,6 +17,10 @@
 //! | [`tally`]      | 'Tally', and demand 3's closed form of it          |
 //! | [`planner`]    | 'Rounds' and 'Resolution'                          |
 //! | [`printout`]   | the printout of the program `plan`                 |
+//!
+//! | module         | document 02                                        |
+//! |----------------|----------------------------------------------------|
+//! | [`mod@join`]   | W-201: late registrations join the sheet           |
 //!
 //! Beside the planner by rounds stand four others:
 //!
@@ -55,6 +60,7 @@
 pub mod algorithm1;
 pub mod best;
 pub mod gates;
+pub mod join;
 pub mod planner;
 pub mod pool;
 pub mod printout;
@@ -68,6 +74,7 @@ pub mod tally;
 
 pub use crate::algorithm1::algorithm1;
 pub use crate::best::best;
+pub use crate::join::join;
 pub use crate::planner::{plan, Plan, Room};
 pub use crate::pool::{Fields, Pool};
 pub use crate::printout::printed;

@@ -248,6 +248,19 @@ pub fn pool(random: &mut Random, n: usize, kind: PoolKind) -> Pool {
     pool
 }
 
+/// Pools of these sizes, no id being in two of them.
+pub fn pools_apart<const POOLS: usize>(
+    random: &mut Random,
+    sizes: [usize; POOLS],
+    kind: PoolKind,
+) -> [Pool; POOLS] {
+    let mut ids = random.ids(sizes.iter().sum());
+    sizes.map(|n| Pool {
+        ids: ids.split_off(ids.len() - n),
+        ..pool(random, n, kind)
+    })
+}
+
 /// A way to damage a sheet.
 #[derive(Clone, Copy, Debug, PartialEq, Eq, Hash)]
 pub enum Damage {
@@ -487,6 +500,16 @@ mod tests {
             crate::planner::check(n, &tables.m, &tables.w, &pool.shuffle, room)
                 .expect("no fault in the tables");
         });
+    }
+
+    #[test]
+    fn pools_apart_share_no_id() {
+        let pools = pools_apart(&mut Random::new(4), [100, 0, 150], PoolKind::Any);
+        assert_eq!(pools.each_ref().map(Pool::len), [100, 0, 150]);
+        let mut ids: Vec<u32> = pools.into_iter().flat_map(|pool| pool.ids).collect();
+        ids.sort();
+        ids.dedup();
+        assert_eq!(ids.len(), 250);
     }
 
     #[test]

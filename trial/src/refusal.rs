@@ -1,4 +1,4 @@
-//! Refusals: document 01's numbers and places.
+//! Refusals: document 01's numbers and places, and those that document 02 adds.
 
 use std::fmt;
 
@@ -26,11 +26,15 @@ pub enum Reason {
     TooShort = 9,
     /// 10: an entry of M is above 1, or M(i, i) is not 0.
     Entry = 10,
+    /// 11: an id is in both of the sheets to be joined.
+    SharedId = 11,
+    /// 12: two sheets have more than 200 pairs together.
+    TooManyTogether = 12,
 }
 
 impl Reason {
     /// All reasons, by number.
-    pub const ALL: [Reason; 10] = [
+    pub const ALL: [Reason; 12] = [
         Reason::CutOff,
         Reason::NotDue,
         Reason::Version,
@@ -41,6 +45,8 @@ impl Reason {
         Reason::Shuffle,
         Reason::TooShort,
         Reason::Entry,
+        Reason::SharedId,
+        Reason::TooManyTogether,
     ];
 
     /// Document 01's number.
@@ -57,7 +63,7 @@ impl Reason {
     }
 }
 
-/// What reading and writing answer when they turn an input back.
+/// What reading, writing and joining answer when they turn an input back.
 ///
 /// Building and planning give a bare [`Reason`], since theirs has no place.
 #[derive(Clone, Copy, Debug, PartialEq, Eq, Hash)]
@@ -65,7 +71,7 @@ pub struct Refusal {
     /// Why.
     pub reason: Reason,
     /// The offset in the sheet of the field that is at fault; for 5 that of
-    /// the first byte too many, for 9 and in the writer 0.
+    /// the first byte too many, for 9, 11, 12 and in the writer 0.
     pub place: usize,
 }
 

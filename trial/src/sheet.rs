@@ -121,7 +121,11 @@ pub fn write(
     room: usize,
 ) -> Result<Vec<u8>, Refusal> {
     check_written(n, fields, shuffle, room).map_err(|reason| reason.at(0))?;
+    Ok(bytes(n, fields, shuffle))
+}
 
+/// The sheet of a pool of `n` pairs that has no fault.
+pub(crate) fn bytes(n: usize, fields: Fields<'_>, shuffle: &[u16]) -> Vec<u8> {
     let mut sheet = Vec::with_capacity(length(n));
     start_field(&mut sheet, TAG_HEAD, HEAD);
     sheet.extend(VERSION.to_be_bytes());
@@ -139,7 +143,7 @@ pub fn write(
     }
     start_field(&mut sheet, TAG_SHUFFLE, 2 * n);
     sheet.extend(shuffle[..n].iter().flat_map(|number| number.to_be_bytes()));
-    Ok(sheet)
+    sheet
 }
 
 /// The writer's checks, in order.
