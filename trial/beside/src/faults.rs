@@ -17,10 +17,17 @@ pub struct Fault<T> {
 /// The faults of some input.
 pub struct Faults<T>(Vec<Fault<T>>);
 
-impl<T: Clone> Faults<T> {
+impl<T: Clone + 'static> Faults<T> {
     fn add(&mut self, name: String, apply: impl Fn(&mut T) + 'static) {
         let apply = Box::new(apply);
         self.0.push(Fault { name, apply });
+    }
+
+    /// Adds the faults of a part of the input.
+    fn add_of<P: 'static>(&mut self, whose: &str, part: fn(&mut T) -> &mut P, faults: Faults<P>) {
+        for Fault { name, apply } in faults.0 {
+            self.add(format!("{whose}{name}"), move |input| apply(part(input)));
+        }
     }
 
     /// Tries a sound input, and then with any two faults after each other.
@@ -74,31 +81,37 @@ fn put<T>(table: &mut [T], at: usize, entry: T) {
     }
 }
 
-/// What a sheet of `n` pairs is read from and into.
-#[derive(Clone)]
-pub struct Reading {
-    /// The sheet.
-    pub sheet: Vec<u8>,
-    /// The lengths of the lent tables.
-    pub lengths: [usize; TABLES],
+/// Puts the id at an offset of one sheet over that at an offset of another, as
+/// far as they reach.
+fn put_id(from: &[u8], at: usize, to: &mut [u8], there: usize) {
+    for byte in 0..4 {
+        if let Some(&id) = from.get(at + byte) {
+            put(to, there + byte, id);
+        }
+    }
 }
 
-/// Faults of reading a sheet of `n` pairs.
-pub fn of_reading(n: usize) -> Faults<Reading> {
+/// Where the id of pair `i` stands.
+fn offset_of_id(i: usize) -> usize {
+    offset_of_pair(i) + START
+}
+
+/// A sheet's own faults, where it has `n` pairs.
+fn of_sheet(n: usize) -> Faults<Vec<u8>> {
     let mut faults = Faults(Vec::new());
     for end in 0..length(n) {
-        faults.add(format!("cut at {end}"), move |input: &mut Reading| {
-            input.sheet.truncate(end)
+        faults.add(format!("cut at {end}"), move |sheet: &mut Vec<u8>| {
+            sheet.truncate(end)
         });
     }
     for more in [1, 3, 40] {
-        faults.add(format!("{more} bytes more"), move |input| {
-            input.sheet.extend(vec![3; more])
+        faults.add(format!("{more} bytes more"), move |sheet| {
+            sheet.extend(vec![3; more])
         });
     }
     let mut set = |name: &str, at: usize, byte: u8| {
-        faults.add(format!("{name} at {at} is {byte}"), move |input| {
-            put(&mut input.sheet, at, byte)
+        faults.add(format!("{name} at {at} is {byte}"), move |sheet| {
+            put(sheet, at, byte)
         });
     };
     let fields = (0..=n).map(offset_of_pair).chain([0]);
@@ -127,28 +140,86 @@ pub fn of_reading(n: usize) -> Faults<Reading> {
     }
     for i in 0..n {
         for j in i + 1..n {
-            let (from, to) = (offset_of_pair(i) + START, offset_of_pair(j) + START);
-            faults.add(format!("pair {j} has the id of {i}"), move |input| {
-                for byte in 0..4 {
-                    if let Some(&id) = input.sheet.get(from + byte) {
-                        put(&mut input.sheet, to + byte, id);
-                    }
-                }
+            let (from, to) = (offset_of_id(i), offset_of_id(j));
+            faults.add(format!("pair {j} has the id of {i}"), move |sheet| {
+                put_id(&sheet.clone(), from, sheet, to)
             });
             let (from, to) = (numbers + 2 * i + 1, numbers + 2 * j + 1);
-            faults.add(format!("place {j} has the number of {i}"), move |input| {
-                if let Some(&number) = input.sheet.get(from) {
-                    put(&mut input.sheet, to, number);
+            faults.add(format!("place {j} has the number of {i}"), move |sheet| {
+                if let Some(&number) = sheet.get(from) {
+                    put(sheet, to, number);
                 }
             });
         }
     }
+    faults
+}
+
+/// What a sheet of `n` pairs is read from and into.
+#[derive(Clone)]
+pub struct Reading {
+    /// The sheet.
+    pub sheet: Vec<u8>,
+    /// The lengths of the lent tables.
+    pub lengths: [usize; TABLES],
+}
+
+/// Faults of reading a sheet of `n` pairs.
+pub fn of_reading(n: usize) -> Faults<Reading> {
+    let mut faults = Faults(Vec::new());
+    faults.add_of("", |input: &mut Reading| &mut input.sheet, of_sheet(n));
     for table in 0..TABLES {
         for short in shorter(n) {
             faults.add(format!("table {table} has {short}"), move |input| {
                 input.lengths[table] = short
             });
         }
+    }
+    faults
+}
+
+/// What two sheets are joined from and into.
+#[derive(Clone)]
+pub struct Joining {
+    /// The first sheet.
+    pub first: Vec<u8>,
+    /// The second sheet.
+    pub second: Vec<u8>,
+    /// The length of the buffer.
+    pub room: usize,
+}
+
+/// Faults of joining a sheet of `m` pairs and one of `n`. So that there are too
+/// many together, the first gives way to `one`, or the second to `other`.
+pub fn of_joining(m: usize, n: usize, [one, other]: [Vec<u8>; 2]) -> Faults<Joining> {
+    let mut faults = Faults(Vec::new());
+    faults.add_of(
+        "first: ",
+        |input: &mut Joining| &mut input.first,
+        of_sheet(m),
+    );
+    faults.add_of("second: ", |input| &mut input.second, of_sheet(n));
+    for i in 0..m {
+        for j in 0..n {
+            let (from, to) = (offset_of_id(i), offset_of_id(j));
+            faults.add(
+                format!("second's pair {j} has the id of first's {i}"),
+                move |input| put_id(&input.first, from, &mut input.second, to),
+            );
+        }
+    }
+    // The buffer would hold all their pairs.
+    let room = length(2 * MOST_PAIRS);
+    faults.add("first has many pairs".to_string(), move |input| {
+        input.first = one.clone();
+        input.room = room;
+    });
+    faults.add("second has many pairs".to_string(), move |input| {
+        input.second = other.clone();
+        input.room = room;
+    });
+    for short in shorter(length(m + n)) {
+        faults.add(format!("room is {short}"), move |input| input.room = short);
     }
     faults
 }

@@ -2,13 +2,14 @@
 //! size and kind are taken from the seed too, so that seeds in a row go
 //! through all of them.
 
-use crate::faults::{of_fields, of_planning, of_reading, Fields, Reading};
-use crate::lent::same;
+use crate::faults::{of_fields, of_joining, of_planning, of_reading, Fields, Joining, Reading};
+use crate::lent::{same, Answered, Outcome};
 use crate::plans::{made, plans, prints, prints_refusal, Input};
-use crate::sheets::{builds, enough, more, reads, there_and_back, writes, TABLES};
+use crate::sheets::{builds, enough, joins, more, reads, there_and_back, writes, TABLES};
 use crate::Cases;
+use reference::pool::MOST_PAIRS;
 use reference::printout::{self, Printed};
-use reference::random::{damaged, pool, tables, PoolKind, Random, TableKind};
+use reference::random::{damaged, pool, pools_apart, tables, PoolKind, Random, TableKind};
 use reference::sheet::{self, length};
 use reference::{best, build, Pool, Reason, Room, Tables, Tally};
 
@@ -25,7 +26,7 @@ pub struct Group {
 }
 
 /// All groups.
-pub const ALL: [Group; 14] = [
+pub const ALL: [Group; 16] = [
     Group {
         name: "plans",
         trials: SIZES * KINDS * 3,
@@ -81,6 +82,12 @@ pub const ALL: [Group; 14] = [
         run: damaged_sheets,
     },
     Group {
+        name: "joins",
+        trials: 201 * 50,
+        due: &[0, 1, 2, 3, 4, 5, 6, 7, 8, 9, 11, 12],
+        run: joined_sheets,
+    },
+    Group {
         name: "faults-of-reading",
         trials: 4,
         due: &[0, 1, 2, 3, 4, 5, 6, 7, 8, 9],
@@ -91,6 +98,12 @@ pub const ALL: [Group; 14] = [
         trials: 14,
         due: &[0, 4, 6, 7, 8, 9],
         run: faults_of_writing,
+    },
+    Group {
+        name: "faults-of-joining",
+        trials: FAULTY_TWO.len() as u64,
+        due: &[0, 1, 2, 3, 4, 5, 6, 7, 8, 9, 11, 12],
+        run: faults_of_joining,
     },
     Group {
         name: "faults-of-building",
@@ -119,7 +132,7 @@ pub const ALL: [Group; 14] = [
     Group {
         name: "safe-crate",
         trials: 2_000,
-        due: &[0, 1, 2, 3, 4, 5, 6, 7, 8],
+        due: &[0, 1, 2, 3, 4, 5, 6, 7, 8, 11, 12],
         run: safe_crate,
     },
 ];
@@ -253,6 +266,91 @@ fn damaged_sheets(_: u64, random: &mut Random, cases: &mut Cases) -> Result<(), 
     Ok(())
 }
 
+/// A sheet of `n` pairs and another, sound or with damages. Often they have
+/// just 200 pairs together, or one more; at times they share an id.
+fn two_sheets(random: &mut Random, n: usize) -> [Vec<u8>; 2] {
+    let rest = MOST_PAIRS - n;
+    let other = match random.below(4) {
+        0 => random.between(0, 3),
+        1 => rest,
+        2 => (rest + 1).min(MOST_PAIRS),
+        _ => random.between(0, MOST_PAIRS),
+    };
+    let kind = random.one_of(&PoolKind::ALL);
+    let mut pools = pools_apart(random, [n, other], kind);
+    if random.chance(1, 4) {
+        share_id(random, &mut pools);
+    }
+    pools.map(|pool| {
+        let sheet = sheet_of(&pool);
+        match random.below(6) {
+            0 => damaged(random, pool.len(), &sheet),
+            _ => sheet,
+        }
+    })
+}
+
+/// Gives a pair of the last pool the id of one of the first, if both have any.
+fn share_id(random: &mut Random, pools: &mut [Pool]) {
+    if let [first, .., last] = pools {
+        if !first.is_empty() && !last.is_empty() {
+            let (from, to) = (random.below(first.len()), random.below(last.len()));
+            last.ids[to] = first.ids[from];
+        }
+    }
+}
+
+/// Two sheets joined into buffers of many lengths, and read back; and three of
+/// them in both groupings.
+fn joined_sheets(seed: u64, random: &mut Random, cases: &mut Cases) -> Result<(), String> {
+    let n = (seed % 201) as usize;
+    let [first, second] = two_sheets(random, n);
+    let joined = joins(random, &first, &second, sheet::LONGEST)?;
+    if let Ok(sheet) = &joined {
+        let lengths = [MOST_PAIRS; TABLES];
+        same("the joined sheet, read", reads(random, sheet, lengths)?, 0)?;
+    }
+    cases.add(joined.err().map_or(0, Reason::number));
+
+    // What the joined sheet would have, if both are sound and not too long.
+    let due = (first.len() + second.len()).saturating_sub(length(0));
+    let fewer = random.below(due + 1);
+    for room in [due + more(random), due, due.saturating_sub(1), fewer, 0] {
+        let answer = joins(random, &first, &second, room)?;
+        cases.add(answer.err().map_or(0, Reason::number));
+    }
+    cases.add(regrouped(random)?);
+    Ok(())
+}
+
+/// Three sheets joined in both groupings: where one is made so is the other,
+/// and they are the same sheet. Which refusal is told may differ.
+fn regrouped(random: &mut Random) -> Answered {
+    let most = random.one_of(&[3, 66, 90]);
+    let sizes = [(); 3].map(|()| random.between(0, most));
+    let mut pools = pools_apart(random, sizes, PoolKind::Any);
+    if random.chance(1, 6) {
+        let two = random.one_of(&[(0, 2), (1, 3), (0, 3)]);
+        share_id(random, &mut pools[two.0..two.1]);
+    }
+    let [a, b, c] = pools.map(|pool| sheet_of(&pool));
+    let mut joined = |first: &[u8], second: &[u8]| joins(random, first, second, sheet::LONGEST);
+    let left = match joined(&a, &b)? {
+        Ok(ab) => joined(&ab, &c)?,
+        refused => refused,
+    };
+    let right = match joined(&b, &c)? {
+        Ok(bc) => joined(&a, &bc)?,
+        refused => refused,
+    };
+    same(
+        "a sheet of three, regrouped",
+        left.as_ref().ok(),
+        right.as_ref().ok(),
+    )?;
+    Ok(left.err().map_or(0, Reason::number))
+}
+
 fn faults_of_reading(seed: u64, random: &mut Random, cases: &mut Cases) -> Result<(), String> {
     let n = (seed % 4) as usize;
     let sound = Reading {
@@ -278,6 +376,37 @@ fn faults_of_writing(seed: u64, random: &mut Random, cases: &mut Cases) -> Resul
     let sound = Fields { n, pool, room };
     of_fields(n, room).any_two(&sound, cases, |input| {
         writes(random, input.n, &input.pool, input.room[0])
+    })
+}
+
+/// Sizes of two sheets for any two faults.
+const FAULTY_TWO: [[usize; 2]; 10] = [
+    [0, 0],
+    [0, 1],
+    [1, 0],
+    [1, 1],
+    [0, 2],
+    [2, 0],
+    [2, 1],
+    [1, 2],
+    [2, 2],
+    [3, 3],
+];
+
+fn faults_of_joining(seed: u64, random: &mut Random, cases: &mut Cases) -> Result<(), String> {
+    let [m, n] = FAULTY_TWO[(seed % FAULTY_TWO.len() as u64) as usize];
+    // Beside one pair 200 are too many, beside none those of another sheet.
+    let sizes = [m, n, MOST_PAIRS, MOST_PAIRS];
+    let kind = random.one_of(&PoolKind::ALL);
+    let [first, second, one, other] = pools_apart(random, sizes, kind).map(|pool| sheet_of(&pool));
+    let sound = Joining {
+        first,
+        second,
+        room: length(m + n),
+    };
+    of_joining(m, n, [one, other]).any_two(&sound, cases, |input| {
+        let answer = joins(random, &input.first, &input.second, input.room)?;
+        Ok(answer.err().map_or(0, Reason::number))
     })
 }
 
@@ -392,8 +521,24 @@ fn printed_refusals(seed: u64, random: &mut Random, cases: &mut Cases) -> Result
     Ok(())
 }
 
+/// Two sheets joined by the safe crate, which lends the room itself.
+fn safely_joined(random: &mut Random, cases: &mut Cases) -> Outcome {
+    let n = random.between(0, MOST_PAIRS);
+    let [first, second] = two_sheets(random, n);
+    let joined = reference::join(&first, &second, sheet::LONGEST);
+    let refusal = joined.as_ref().err();
+    cases.add(refusal.map_or(0, |refusal| refusal.reason.number()));
+    let safely = vadivuzhen::join(&first, &second);
+    same(
+        "the joined sheet",
+        safely.map_err(|refused| (refused.why.number(), refused.place)),
+        joined.map_err(|refusal| (refusal.reason.number().into(), refusal.place)),
+    )
+}
+
 /// Sheets through the safe crate, from the bytes to the printout.
 fn safe_crate(_: u64, random: &mut Random, cases: &mut Cases) -> Result<(), String> {
+    safely_joined(random, cases)?;
     let (_, sheet) = any_sheet(random);
     let (number, text) = match reference::read(&sheet) {
         Ok(pool) if pool.len() > 40 => return Ok(()),

@@ -1,9 +1,9 @@
-//! Reading, writing and building beside the reference.
+//! Reading, writing, joining and building beside the reference.
 
 use crate::lent::{same, Answered, Lent, Outcome};
 use reference::random::Random;
-use reference::{sheet, Pool};
-use vadivuzhen::raw::{self, BuildAnswer, ReadAnswer, WriteAnswer};
+use reference::{sheet, Pool, Reason};
+use vadivuzhen::raw::{self, BuildAnswer, JoinAnswer, ReadAnswer, WriteAnswer};
 
 /// How many tables a sheet is read into.
 pub const TABLES: usize = 9;
@@ -171,6 +171,45 @@ pub fn writes(random: &mut Random, n: usize, pool: &Pool, room: usize) -> Answer
             same("the place", 0, place)?;
             out.unchanged("the buffer")?;
             Ok(number)
+        }
+    }
+}
+
+/// Joins two sheets into a buffer of `room` bytes, and gives the sheet on which
+/// both agree, or the refusal.
+pub fn joins(
+    random: &mut Random,
+    first: &[u8],
+    second: &[u8],
+    room: usize,
+) -> Result<Result<Vec<u8>, Reason>, String> {
+    let mut lent_first = Lent::of(random, first);
+    let mut lent_second = Lent::of(random, second);
+    let mut out = Lent::empty(random, room);
+    let answer = raw::join(lent_first.read(), lent_second.read(), out.fill());
+    lent_first.unchanged("the first sheet")?;
+    lent_second.unchanged("the second sheet")?;
+
+    match reference::join(first, second, room) {
+        Ok(bytes) => {
+            let expected = JoinAnswer {
+                length: bytes.len(),
+                ..JoinAnswer::default()
+            };
+            same("the answer", answer, expected)?;
+            out.filled("the joined sheet", &bytes)?;
+            Ok(Ok(bytes))
+        }
+        Err(refusal) => {
+            let (number, place) = refusal.pair();
+            let expected = JoinAnswer {
+                refusal: number.into(),
+                place,
+                length: 0,
+            };
+            same("the answer", answer, expected)?;
+            out.unchanged("the buffer")?;
+            Ok(Err(refusal.reason))
         }
     }
 }
