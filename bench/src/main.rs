@@ -1,10 +1,11 @@
-//! Times reading, building and planning by the proved library, and beside its
-//! planning the same gates in plain Rust, and a planner that counts nothing.
+//! Times reading, building, planning and joining by the proved library; beside
+//! its planning the same gates in plain Rust, and a planner that counts
+//! nothing; and beside its joining the same in plain Rust.
 //!
 //! `cargo run --release [-- SIZE..]` prints Markdown.
 
-use reference::random::{pool, PoolKind, Random};
-use reference::{gates, sheet, straight, subsets, Room, Tally};
+use reference::random::{pool, pools_apart, PoolKind, Random};
+use reference::{gates, sheet, straight, subsets, Pool, Room, Tally};
 use std::fs;
 use std::hint::black_box;
 use std::time::Duration;
@@ -25,6 +26,10 @@ const TOO_OFTEN: usize = 2_000;
 /// times as work on this many pairs takes longer.
 const PAIRS_TO_TIME: usize = 50;
 
+/// Two sheets of any size are joined so soon that it is repeated at least so
+/// often.
+const JOINS_TO_TIME: u32 = 20;
+
 fn main() {
     let mut sizes: Vec<usize> = std::env::args()
         .skip(1)
@@ -35,9 +40,11 @@ fn main() {
     }
     let timed: Vec<Timed> = sizes.into_iter().map(timed).collect();
     println!("Machine: {}, {} cores.", cpu(), cores());
-    println!("Pools: dense, from seed {SEED}. The library's buffers are made once and not cleared between runs; (a) and (b) make theirs anew in each run. Times are the thread's processor time in milliseconds: the median of all runs, and in brackets the least.");
+    println!("Pools: dense, from seed {SEED}. The library's buffers are made once and not cleared between runs; (a), (b) and (c) make theirs anew in each run. Times are the thread's processor time in milliseconds: the median of all runs, and in brackets the least.");
     println!();
     print_times(&timed);
+    println!();
+    print_joins(&timed);
     println!();
     print_gates(&timed);
 }
@@ -85,6 +92,8 @@ struct Timed {
     plan: Times,
     gates: Times,
     straight: Times,
+    join: Times,
+    plain_join: Times,
 }
 
 impl Timed {
@@ -95,12 +104,20 @@ impl Timed {
     }
 }
 
+/// The sheet of a sound pool.
+fn sheet_of(pool: &Pool) -> Vec<u8> {
+    reference::write(pool.len(), pool.fields(), &pool.shuffle, sheet::LONGEST)
+        .expect("a sound pool is written")
+}
+
 /// Times all work on a pool of `n` pairs, taking turns, so that whatever else
 /// the machine does falls on all alike.
 fn timed(n: usize) -> Timed {
-    let pool = pool(&mut Random::new(SEED), n, PoolKind::Dense);
-    let sheet = reference::write(n, pool.fields(), &pool.shuffle, sheet::LONGEST)
-        .expect("a sound pool is written");
+    let sheet = sheet_of(&pool(&mut Random::new(SEED), n, PoolKind::Dense));
+    let halves = [n / 2, n - n / 2];
+    let [first, second] =
+        pools_apart(&mut Random::new(SEED), halves, PoolKind::Dense).map(|half| sheet_of(&half));
+    let mut joined = vec![0; sheet.len()];
 
     let mut ids = vec![0; n];
     let [mut donor_blood, mut patient_blood, mut donor_age, mut patient_age] =
@@ -120,6 +137,8 @@ fn timed(n: usize) -> Timed {
         plan: Times::default(),
         gates: Times::default(),
         straight: Times::default(),
+        join: Times::default(),
+        plain_join: Times::default(),
     };
     let often = 1 + (PAIRS_TO_TIME / n.max(1)).pow(3) as u32;
     let start = processor_time();
@@ -179,6 +198,19 @@ fn timed(n: usize) -> Timed {
             .add(often, || straight::plan(n, &m, &w, &shuffle, room))
             .expect("a straight plan");
 
+        let joins = often.max(JOINS_TO_TIME);
+        let join = timed.join.add(joins, || {
+            raw::join(black_box(&first), black_box(&second), &mut joined)
+        });
+        let plainly_joined = timed
+            .plain_join
+            .add(joins, || {
+                reference::join(black_box(&first), black_box(&second), sheet.len())
+            })
+            .expect("two sheets joined");
+        assert_eq!((join.refusal, join.length), (0, joined.len()));
+        assert_eq!(joined, plainly_joined);
+
         // All three made the same plan, and those that count counted alike.
         assert_eq!((read.refusal, build.refusal, plan.refusal), (0, 0, 0));
         assert_eq!(by_gates, by_straight);
@@ -216,6 +248,20 @@ fn print_times(timed: &[Timed]) {
             t.straight.cell(),
             ratio(&t.plan, &t.gates),
             ratio(&t.plan, &t.straight),
+        );
+    }
+}
+
+fn print_joins(timed: &[Timed]) {
+    println!("| pairs | join, two sheets of half the pairs each | (c) the same in plain Rust | join / (c) |");
+    println!("|--:|--:|--:|--:|");
+    for t in timed {
+        println!(
+            "| {} | {} | {} | {} |",
+            t.n,
+            t.join.cell(),
+            t.plain_join.cell(),
+            ratio(&t.join, &t.plain_join),
         );
     }
 }
