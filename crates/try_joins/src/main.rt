@@ -1,0 +1,264 @@
+// Sheets to try, and what joining them says (document 02, W-201): document 01's example with an addendum of one pair and of two, no pairs on either
+// side, the limits, and each refusal in its order. What it prints is held to the file 'stdout'. Every lent byte holds 99 before a call.
+use joining::Joining;
+use refusal::Refusal;
+ghost use Prim.Native.Nat.{_≤_};
+
+fn print(text: &[u8]) {
+    io::write_all(1, text);
+}
+
+fn print_number(n: usize) {
+    print(b" ");
+    io::print_decimal(1, n as u64);
+}
+
+// The byte at a place, and 0 past the end.
+fn byte(sheet: &[u8], at: usize) -> usize
+    ensures { λ r. ⌜ r ≤ 255 ⌝ }
+{
+    if at < sheet.len() { wide(sheet[at]) } else { 0 }
+}
+
+fn wide(x: u8) -> usize
+    ensures { λ r. ⌜ r ≤ 255 ⌝ }
+{
+    x as usize
+}
+
+// Sets the byte at a place, if there is one.
+fn set(sheet: &mut [u8], at: usize, to: usize) {
+    if at < sheet.len() {
+        sheet[at] = (to % 256) as u8;
+    }
+}
+
+// The field of pair i, with this id, and its number in the shuffle of n; all else is 0.
+fn set_pair(sheet: &mut [u8], n: usize, i: usize, id: usize, drawn: usize)
+    requires { ⌜ (n ≤ 201) × (i ≤ 201) ⌝ }
+{
+    let at = 7 + 35 * i;
+    set(sheet, at, 2);
+    set(sheet, at + 2, 32);
+    set(sheet, at + 6, id);
+    set(sheet, 7 + 35 * n + 4 + 2 * i, drawn);
+}
+
+// A sheet of n pairs with ids from `id` on, in zeros. The shuffle goes up from 0, or, where `turned`, down to it.
+fn fill(sheet: &mut [u8], n: usize, id: usize, turned: bool)
+    requires { ⌜ (n ≤ 201) × (id ≤ 1000) ⌝ }
+{
+    set(sheet, 0, 1);
+    set(sheet, 2, 4);
+    set(sheet, 4, 1);
+    set(sheet, 6, n);
+    let mut i: usize = 0;
+    while i < n {
+        let drawn = if turned { n - 1 - i } else { i };
+        set_pair(sheet, n, i, id + i, drawn);
+        i += 1;
+    }
+    let last = 7 + 35 * n;
+    set(sheet, last, 3);
+    set(sheet, last + 1, 2 * n / 256);
+    set(sheet, last + 2, 2 * n);
+}
+
+// Document 01's example: ids 11 and 12, A to B and B to A.
+fn example() -> [u8; 84] {
+    let mut sheet = [0u8; 84];
+    fill(&mut sheet, 2, 11, false);
+    set(&mut sheet, 14, 1);
+    set(&mut sheet, 15, 2);
+    set(&mut sheet, 49, 2);
+    set(&mut sheet, 50, 1);
+    sheet
+}
+
+// Where the last byte of pair i's id stands, or that of its number in the shuffle of n.
+fn place(n: usize, i: usize, shuffle: bool) -> usize
+    requires { ⌜ (n ≤ 255) × (i ≤ 255) ⌝ }
+{
+    if shuffle {
+        11 + 35 * n + 2 * i
+    } else {
+        13 + 35 * i
+    }
+}
+
+// The ids of n pairs, or the shuffle: the last byte of each, or of many only of the first and the last.
+fn print_row(sheet: &[u8], n: usize, shuffle: bool)
+    requires { ⌜ n ≤ 255 ⌝ }
+{
+    print(b" |");
+    let mut i: usize = 0;
+    while i < n {
+        if n < 6 || i == 0 || i + 1 == n {
+            print_number(byte(sheet, place(n, i, shuffle)));
+        }
+        i += 1;
+    }
+}
+
+// What is in the buffer: N, the ids, the shuffle, and what stands past the sheet.
+fn print_sheet(out: &[u8], length: usize) {
+    let n = byte(out, 6);
+    print(b" |");
+    print_number(n);
+    print(b" pairs");
+    print_row(out, n, false);
+    print_row(out, n, true);
+    if length < out.len() {
+        print(b" |");
+        print_number(byte(out, length));
+    }
+}
+
+fn print_refusal(why: Refusal, place: usize) {
+    print(b" refused");
+    print_number(wide(refusal::number(why)));
+    print(b" at");
+    print_number(place);
+}
+
+// Joins two sheets; prints the answer, and what stands then in the buffer: the sheet, or the first byte and the last.
+fn try_joining(name: &[u8], first: &[u8], second: &[u8], out: &mut [u8]) {
+    let answer = joining::join(first, second, out);
+    print(name);
+    match answer {
+        Joining::Length(length) => {
+            print_number(length);
+            print(b" bytes");
+            print_sheet(out, length);
+        }
+        Joining::Refused(why, place) => {
+            print_refusal(why, place);
+            if 0 < out.len() {
+                let last = out.len() - 1;
+                print(b" |");
+                print_number(byte(out, 0));
+                print_number(byte(out, last));
+            }
+        }
+    }
+    print(b"\n");
+}
+
+// Joins two sheets, and says whether the buffer begins with the sheet that is due.
+fn try_same(name: &[u8], first: &[u8], second: &[u8], due: &[u8]) {
+    let mut out = [99u8; 200];
+    try_joining(name, first, second, &mut out);
+    let size = due.len();
+    if size <= 200 {
+        if check::same(due, &out[..size]) {
+            print(b"  the same sheet\n");
+        }
+    }
+}
+
+// Document 01's example, with addenda of one pair and of two.
+fn try_addenda() {
+    let sheet = example();
+    let mut one = [0u8; 47];
+    fill(&mut one, 1, 13, false);
+    let mut two = [0u8; 84];
+    fill(&mut two, 2, 13, true);
+    let mut out = [99u8; 122];
+    try_joining(b"an addendum of one pair:", &sheet, &one, &mut out);
+    let mut more = [99u8; 159];
+    try_joining(
+        b"an addendum of two pairs, shuffle 1 0:",
+        &sheet,
+        &two,
+        &mut more,
+    );
+}
+
+// With a sheet of no pairs.
+fn try_empty() {
+    let sheet = example();
+    let mut none = [0u8; 10];
+    fill(&mut none, 0, 0, false);
+    try_same(b"no pairs in the addendum:", &sheet, &none, &sheet);
+    try_same(b"no pairs in the first:", &none, &sheet, &sheet);
+    try_same(b"no pairs in either:", &none, &none, &none);
+}
+
+// Buffers that are just long enough, a byte too short, and none.
+fn try_buffers() {
+    let sheet = example();
+    let mut one = [0u8; 47];
+    fill(&mut one, 1, 13, false);
+    let mut out = [99u8; 121];
+    try_joining(b"a buffer just long enough:", &sheet, &one, &mut out);
+    let mut short = [99u8; 120];
+    try_joining(b"a buffer a byte too short:", &sheet, &one, &mut short);
+    let mut nothing = [99u8; 0];
+    try_joining(b"no buffer:", &sheet, &one, &mut nothing);
+}
+
+// 200 pairs together.
+fn try_200() {
+    let mut first = [0u8; 3710];
+    fill(&mut first, 100, 0, true);
+    let mut second = [0u8; 3710];
+    fill(&mut second, 100, 100, false);
+    let mut out = [99u8; 7411];
+    try_joining(b"100 and 100 pairs:", &first, &second, &mut out);
+}
+
+// 201 pairs together, the last of the second with this id, into a buffer that would hold them and into none.
+fn try_201(name: &[u8], id: usize) {
+    let mut first = [0u8; 3710];
+    fill(&mut first, 100, 0, true);
+    let mut second = [0u8; 3747];
+    fill(&mut second, 101, 100, false);
+    set(&mut second, 13 + 35 * 100, id);
+    let mut out = [99u8; 7447];
+    try_joining(name, &first, &second, &mut out);
+    let mut nothing = [99u8; 0];
+    try_joining(b"  no buffer:", &first, &second, &mut nothing);
+}
+
+// A fault of the first sheet, of the second, and of both. The buffer is too short as well.
+fn try_own_faults() {
+    let sheet = example();
+    let mut wrong = example();
+    set(&mut wrong, 49, 4);
+    let mut long = [0u8; 48];
+    fill(&mut long, 1, 13, false);
+    let mut out = [99u8; 9];
+    try_joining(b"blood 4 in the first:", &wrong, &sheet, &mut out);
+    try_joining(b"a byte too many in the second:", &sheet, &long, &mut out);
+    try_joining(b"both:", &wrong, &long, &mut out);
+    try_joining(b"both, the other way round:", &long, &wrong, &mut out);
+}
+
+// The id of the first's last pair, in a sheet with a byte too many and in one without.
+fn try_shared() {
+    let sheet = example();
+    let mut one = [0u8; 47];
+    fill(&mut one, 1, 12, false);
+    let mut long = [0u8; 48];
+    fill(&mut long, 1, 12, false);
+    let mut out = [99u8; 122];
+    try_joining(
+        b"an id in both, and a byte too many:",
+        &sheet,
+        &long,
+        &mut out,
+    );
+    try_joining(b"an id in both:", &sheet, &one, &mut out);
+    try_joining(b"a sheet with itself:", &sheet, &sheet, &mut out);
+}
+
+fn main() {
+    try_addenda();
+    try_empty();
+    try_buffers();
+    try_200();
+    try_201(b"100 and 101 pairs:", 200);
+    try_201(b"100 and 101 pairs, an id in both:", 99);
+    try_own_faults();
+    try_shared();
+}
