@@ -62,7 +62,7 @@ put-raised-requires-2 c κs =
     )
 
 sheet-length-requires : tie.Need-sheet-length-requires
-sheet-length-requires c κs = few (c .before .before .before)
+sheet-length-requires c κs = omega (arith, few (c .before .before .before))
 
 returns : tie.Need-returns
 returns c =
