@@ -1,6 +1,6 @@
 -- The pieces of a joined sheet: the pairs' fields as they stand, and what is written one after another. Assumes nothing.
 use Prim.Native.Nat.{ℕ, _+_, _-_, _*_, _≤_}
-use mathlib.Core.Path.{_≡_, refl, sym, ap, ap₂, _∙_}
+use mathlib.Core.Path.{_≡_, sym, ap, ap₂, _∙_}
 use mathlib.Core.List.{List, _++_, append-assoc, flatMap}
 use native.Mathlib.Nat.{zero-add, add-zero}
 use native.Mathlib.Omega.{arith}
@@ -12,7 +12,6 @@ use Rattle.laws.proofs.Below.{length-tables, table-cong}
 use Rattle.laws.proofs.Digits.{length-bytes}
 use Rattle.laws.proofs.Lists.{part, flatMap-append, length-flatMap-table}
 use Rattle.laws.proofs.Lent.{stored-then, stored-filled}
-use Rattle.pool.specs.Pool.{Pool}
 use Rattle.pool.specs.Sheet.{shuffleTag, shuffleLength, field, headField, pairField, shuffleField, sheetOf, startLength, firstPair, pairSize, pairPlace, sheetLength, pairsIn, pairAt, shuffleAt}
 use Rattle.pool.specs.Faultless.{FaultlessSheet}
 use Rattle.pool.specs.Joining.{joinedSheet}

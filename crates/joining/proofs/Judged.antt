@@ -1,11 +1,10 @@
 -- What joining finds wrong, by how far its checks came. Assumes nothing.
 use Prim.Native.Nat.{ℕ, _+_, _≤_, _<_}
-use mathlib.Core.Path.{_≡_, sym, ap, ap₂, _∙_}
+use mathlib.Core.Path.{_≡_, sym, ap, _∙_}
 use mathlib.Core.Bool.{Bool, true, false}
 use mathlib.Core.List.{List}
 use borrow.Author.Tests.{lt-ltb, le-ltb}
 use lib.Dec.{eqb, ltb}
-use lib.ListN.{length}
 use Rattle.laws.specs.Below.{anyBelow}
 use Rattle.refusal.specs.Fault.{none, fault, refuse, _then_}
 use Rattle.refusal.specs.Number.{faultAt}
@@ -14,7 +13,7 @@ use Rattle.refusal.specs.declared.Verdict.the-variants.{Sound, Faulty}
 use Rattle.refusal.proofs.Faults.{none-then, fault-then, none-refuse, fault-refuse}
 use Rattle.pool.specs.Sheet.{sheetLength, pairsIn, pairAt}
 use Rattle.pool.specs.Faults.{sheetFault, roomFault}
-use Rattle.pool.specs.Joining.{joinedSheet, sharedFault, togetherFault, bothFault, joinFault}
+use Rattle.pool.specs.Joining.{sharedFault, togetherFault, bothFault, joinFault}
 use Rattle.pool.proofs.Joined.{length-joined}
 
 -- ## Two sheets of n and of m pairs: 11, 12, 9. `again` is whether an id is in both

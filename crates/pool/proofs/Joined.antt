@@ -1,8 +1,8 @@
 -- The sheet of two sheets: it has no fault, and holds the pairs and the shuffles of both. Assumes nothing.
 use mathlib.Core.Path.{_≡_, refl, sym, ap, ap₂, _∙_}
 use mathlib.Core.List.{List, [], _++_, map, map-append, map-id, map-map, append-nil, append-assoc}
-use Prim.Native.Nat.{ℕ, _+_, _^_, _≤_, _<_}
-use native.Mathlib.Nat.{add-zero, add-assoc, add-comm}
+use Prim.Native.Nat.{ℕ, _+_, _^_, _<_}
+use native.Mathlib.Nat.{add-zero}
 use native.Mathlib.Omega.{arith}
 use lib.ListN.{length, getD, length-append}
 use Rattle.laws.specs.Below.{table, Once}
@@ -53,6 +53,9 @@ module _ (n m : ℕ) (s t u : ℕ → ℕ) (low : (i : ℕ) → i < n → u i �
 
 -- ## The pool of two sheets, entry by entry
 
+same-id : {p q x y : Pair} → p ≡ x → p .id ≡ q .id → q ≡ y → x .id ≡ y .id
+same-id e h f = sym (ap (λ (q : Pair). q .id) e) ∙ h ∙ ap (λ (q : Pair). q .id) f
+
 module _ (a b : List ℕ) where
   -- its pairs and its shuffle, as lists
   abbrev pairList : List Pair
@@ -71,74 +74,67 @@ module _ (a b : List ℕ) where
       λ k. record { pairs = pairList; shuffle = table (pairsIn a) (shuffleAt a (pairsIn a)) ++ raised k }
 
   -- and as functions
-  abbrev pub pairOf : ℕ → Pair
-  pairOf i = getD pairList i (pairAt a 0)
+  abbrev joinedPair : ℕ → Pair
+  joinedPair i = getD pairList i (pairAt a 0)
 
-  abbrev pub numberOf : ℕ → ℕ
-  numberOf j = getD numberList j 0
+  abbrev joinedNumber : ℕ → ℕ
+  joinedNumber j = getD numberList j 0
 
-  first-pair : (i : ℕ) → i < pairsIn a → pairOf i ≡ pairAt a i
+  first-pair : (i : ℕ) → i < pairsIn a → joinedPair i ≡ pairAt a i
   first-pair = getD-first (pairsIn a) (pairsIn b) (pairAt a) (pairAt b) (pairAt a 0)
 
-  second-pair : (j : ℕ) → j < pairsIn b → pairOf (pairsIn a + j) ≡ pairAt b j
+  second-pair : (j : ℕ) → j < pairsIn b → joinedPair (pairsIn a + j) ≡ pairAt b j
   second-pair = getD-second (pairsIn a) (pairsIn b) (pairAt a) (pairAt b) (pairAt a 0)
 
-  first-number : (i : ℕ) → i < pairsIn a → numberOf i ≡ shuffleAt a (pairsIn a) i
+  first-number : (i : ℕ) → i < pairsIn a → joinedNumber i ≡ shuffleAt a (pairsIn a) i
   first-number = getD-first (pairsIn a) (pairsIn b) _ (λ j. shuffleAt b (pairsIn b) j + pairsIn a) 0
 
-  second-number : (j : ℕ) → j < pairsIn b → numberOf (pairsIn a + j) ≡ shuffleAt b (pairsIn b) j + pairsIn a
+  second-number : (j : ℕ) → j < pairsIn b → joinedNumber (pairsIn a + j) ≡ shuffleAt b (pairsIn b) j + pairsIn a
   second-number = getD-second (pairsIn a) (pairsIn b) (shuffleAt a (pairsIn a)) (λ j. shuffleAt b (pairsIn b) j + pairsIn a) 0
 
-  joined-pool : joinedPool (poolOf a) (poolOf b) ≡ record { pairs = table (pairsTogether a b) pairOf; shuffle = table (pairsTogether a b) numberOf }
+  joined-pool : joinedPool (poolOf a) (poolOf b) ≡ record { pairs = table (pairsTogether a b) joinedPair; shuffle = table (pairsTogether a b) joinedNumber }
   joined-pool =
-      let e1 : table (pairsTogether a b) pairOf ≡ pairList = table-getD _ pairList _ _ (length-tables _ _ _ _ (pairAt a 0)) (λ i l. refl) in
-      let e2 : table (pairsTogether a b) numberOf ≡ numberList = table-getD _ numberList _ _ (length-tables _ _ _ _ 0) (λ i l. refl) in
+      let e1 : table (pairsTogether a b) joinedPair ≡ pairList = table-getD _ pairList _ _ (length-tables _ _ _ _ (pairAt a 0)) (λ i l. refl) in
+      let e2 : table (pairsTogether a b) joinedNumber ≡ numberList = table-getD _ numberList _ _ (length-tables _ _ _ _ 0) (λ i l. refl) in
       joined-lists ∙ sym (λ k. record { pairs = e1 k; shuffle = e2 k })
 
-  pub joined-written : joinedSheet a b ≡ written (pairsTogether a b) pairOf numberOf
+  pub joined-written : joinedSheet a b ≡ written (pairsTogether a b) joinedPair joinedNumber
   unfolding joinedSheet
-  joined-written = ap sheetOf joined-pool ∙ sheet-written (pairsTogether a b) pairOf numberOf
+  joined-written = ap sheetOf joined-pool ∙ sheet-written (pairsTogether a b) joinedPair joinedNumber
 
   pub length-joined : length (joinedSheet a b) ≡ sheetLength (pairsTogether a b)
   unfolding joinedSheet
   length-joined =
       ap (λ (p : Pool). length (sheetOf p)) joined-pool
-      ∙ length-sheetOf _ (length-table _ numberOf ∙ sym (length-table _ pairOf))
-      ∙ ap sheetLength (length-table _ pairOf)
+      ∙ length-sheetOf _ (length-table _ joinedNumber ∙ sym (length-table _ joinedPair))
+      ∙ ap sheetLength (length-table _ joinedPair)
 
   -- ## It has no fault
 
   module _ (w : Joinable a b) where
-    joined-in-range : (i : ℕ) → i < pairsTogether a b → InRange (pairOf i)
+    joined-in-range : (i : ℕ) → i < pairsTogether a b → InRange (joinedPair i)
     joined-in-range =
-        below-add {P = λ i. InRange (pairOf i)} (pairsIn a) (pairsIn b)
+        below-add {P = λ i. InRange (joinedPair i)} (pairsIn a) (pairsIn b)
         (λ i l. rw (first-pair i l) (w .first .pair i l .inRange))
         (λ j l. rw (second-pair j l) (w .second .pair j l .inRange))
 
-    joined-unlike : Unlike (pairsTogether a b) pairOf
-    joined-unlike i j k l = go i j k l
-      where
-        id-of : (x y : Pair) → x ≡ y → x .id ≡ y .id
-        id-of x y e = ap (λ (q : Pair). q .id) e
+    -- two of the first's, one of each, two of the second's
+    joined-unlike : Unlike (pairsTogether a b) joinedPair
+    joined-unlike i j k l =
+        below-add {P = λ i. (j : ℕ) → j < i → joinedPair j .id ≡ joinedPair i .id → ⊥} (pairsIn a) (pairsIn b)
+        (λ i l j k e. sheet-pool a (w .first) .unlike i j k l (same-id (first-pair j (omega arith)) e (first-pair i l)))
+        (λ i l j k. below-add {P = λ j. j < pairsIn a + i → joinedPair j .id ≡ joinedPair (pairsIn a + i) .id → ⊥} (pairsIn a) (pairsIn b)
+        (λ j m k e. w .apart j i m l (same-id (first-pair j m) e (second-pair i l)))
+        (λ j m k e. sheet-pool b (w .second) .unlike i j (omega arith) l (same-id (second-pair j m) e (second-pair i l))) j (omega arith) k) i l j k
 
-        go : (i j : ℕ) → j < i → i < pairsTogether a b → pairOf j .id ≡ pairOf i .id → ⊥
-        go i j k l =
-            below-add {P = λ i. (j : ℕ) → j < i → pairOf j .id ≡ pairOf i .id → ⊥} (pairsIn a) (pairsIn b)
-            (λ i l j k e. sheet-pool a (w .first) .unlike i j k l
-            (sym (id-of _ _ (first-pair j (omega arith))) ∙ e ∙ id-of _ _ (first-pair i l)))
-            (λ i l j k e. below-add {P = λ j. j < pairsIn a + i → pairOf j .id ≡ pairOf (pairsIn a + i) .id → ⊥} (pairsIn a) (pairsIn b)
-            (λ j m k e. w .apart j i m l (sym (id-of _ _ (first-pair j m)) ∙ e ∙ id-of _ _ (second-pair i l)))
-            (λ j m k e. sheet-pool b (w .second) .unlike i j (omega arith) l
-            (sym (id-of _ _ (second-pair j m)) ∙ e ∙ id-of _ _ (second-pair i l))) j (omega arith) k e) i l j k
-
-    joined-faultless : Faultless (pairsTogether a b) pairOf numberOf
+    joined-faultless : Faultless (pairsTogether a b) joinedPair joinedNumber
     joined-faultless =
         record {
           few = w .few;
           inRange = joined-in-range;
           unlike = joined-unlike;
           eachOnce =
-              each-joined (pairsIn a) (pairsIn b) (shuffleAt a (pairsIn a)) (shuffleAt b (pairsIn b)) numberOf first-number second-number
+              each-joined (pairsIn a) (pairsIn b) (shuffleAt a (pairsIn a)) (shuffleAt b (pairsIn b)) joinedNumber first-number second-number
               (w .first .shuffle .eachOnce) (w .second .shuffle .eachOnce);
         }
 
@@ -155,35 +151,35 @@ module _ (a b : List ℕ) where
           patientAntibodies = bigEndian-lt c _ 8 h;
         }
 
-    joined-fits : (i : ℕ) → i < pairsTogether a b → Fits (pairOf i)
+    joined-fits : (i : ℕ) → i < pairsTogether a b → Fits (joinedPair i)
     joined-fits =
-        below-add {P = λ i. Fits (pairOf i)} (pairsIn a) (pairsIn b)
+        below-add {P = λ i. Fits (joinedPair i)} (pairsIn a) (pairsIn b)
         (λ i l. rw (first-pair i l) (bytes-fit a ha i))
         (λ j l. rw (second-pair j l) (bytes-fit b hb j))
 
     -- a shuffle's numbers are below its N, and so these are below 200
-    joined-small : (j : ℕ) → j < pairsTogether a b → numberOf j < 256 ^ 2
-    joined-small j l = omega (arith, w .few, once-below (pairsTogether a b) numberOf (joined-faultless w .eachOnce) j l)
+    joined-small : (j : ℕ) → j < pairsTogether a b → joinedNumber j < 256 ^ 2
+    joined-small j l = omega (arith, w .few, once-below (pairsTogether a b) joinedNumber (joined-faultless w .eachOnce) j l)
 
     sheet-joined : FaultlessSheet (joinedSheet a b)
-    sheet-joined = rw joined-written (written-faultless _ pairOf numberOf (joined-faultless w) joined-fits joined-small)
+    sheet-joined = rw joined-written (written-faultless _ joinedPair joinedNumber (joined-faultless w) joined-fits joined-small)
 
     pub pool-joined : poolOf (joinedSheet a b) ≡ joinedPool (poolOf a) (poolOf b)
     pool-joined =
-        ap poolOf joined-written ∙ says-pool _ pairOf numberOf (joined-faultless w) joined-fits joined-small ∙ sym joined-pool
+        ap poolOf joined-written ∙ says-pool _ joinedPair joinedNumber (joined-faultless w) joined-fits joined-small ∙ sym joined-pool
 
     pub pairs-joined : pairsIn (joinedSheet a b) ≡ pairsTogether a b
-    pairs-joined = ap pairsIn joined-written ∙ says-pairs _ pairOf numberOf (joined-faultless w) joined-fits joined-small
+    pairs-joined = ap pairsIn joined-written ∙ says-pairs _ joinedPair joinedNumber (joined-faultless w) joined-fits joined-small
 
-    pair-joined : (i : ℕ) → i < pairsTogether a b → pairAt (joinedSheet a b) i ≡ pairOf i
+    pair-joined : (i : ℕ) → i < pairsTogether a b → pairAt (joinedSheet a b) i ≡ joinedPair i
     pair-joined i l =
         ap (λ (c : List ℕ). pairAt c i) joined-written
-        ∙ says-pair _ pairOf numberOf (joined-faultless w) joined-fits joined-small i l
+        ∙ says-pair _ joinedPair joinedNumber (joined-faultless w) joined-fits joined-small i l
 
-    number-joined : (j : ℕ) → j < pairsTogether a b → shuffleAt (joinedSheet a b) (pairsIn (joinedSheet a b)) j ≡ numberOf j
+    number-joined : (j : ℕ) → j < pairsTogether a b → shuffleAt (joinedSheet a b) (pairsIn (joinedSheet a b)) j ≡ joinedNumber j
     number-joined j l =
         ap₂ (λ (c : List ℕ) (n : ℕ). shuffleAt c n j) joined-written pairs-joined
-        ∙ says-number _ pairOf numberOf (joined-faultless w) joined-fits joined-small j l
+        ∙ says-number _ joinedPair joinedNumber (joined-faultless w) joined-fits joined-small j l
 
     joined-holds : Holds a b (joinedSheet a b)
     joined-holds =

@@ -1,8 +1,8 @@
 -- Joining's promise: what has none of the faults is joined, and nothing else is; a refusal names a fault that is there. Assumes nothing.
-use mathlib.Core.Path.{_≡_, refl, sym, ap, ap₂, _∙_}
+use mathlib.Core.Path.{_≡_, sym, ap, ap₂, _∙_}
 use mathlib.Core.Bool.{Bool}
 use mathlib.Core.List.{List}
-use Prim.Native.Nat.{ℕ, _≤_, _<_}
+use Prim.Native.Nat.{ℕ, _≤_}
 use native.Mathlib.Omega.{arith}
 use borrow.Author.Tests.{le-ltb, ltb-true, ltb-false, ne-eqb, eqb-true, eqb-false}
 use lib.Dec.{eqb}
@@ -15,13 +15,11 @@ use Rattle.laws.proofs.Lent.{take-filled}
 use Rattle.refusal.specs.Fault.{none, fault}
 use Rattle.refusal.specs.Answer.{finished, refused, Outcome, outcome}
 use Rattle.refusal.proofs.Faults.{then-none, none-then, refuse-none, none-refuse, by-refuse, by-then, unless-none, unless-fault, finished-none, refused-fault}
-use Rattle.pool.specs.Sheet.{sheetLength, pairsIn, pairAt, poolOf}
-use Rattle.pool.specs.Tables.{Tables, filledTables}
-use Rattle.pool.specs.Faults.{sheetFault}
-use Rattle.pool.specs.Calls.{reading}
-use Rattle.pool.specs.Joining.{joinedPool, joinedSheet, sharedFault, togetherFault, bothFault, joinFault, joining}
-use Rattle.pool.specs.Faultless.{FaultlessSheet, TablesHold}
-use Rattle.pool.specs.Joinable.{Apart, pairsTogether, Joinable, JoinFault, Joined, JoinsRightly, Bytes, JoinedIsRead}
+use Rattle.pool.specs.Sheet.{sheetLength, pairsIn, pairAt}
+use Rattle.pool.specs.Tables.{filledTables}
+use Rattle.pool.specs.Joining.{joinedSheet, sharedFault, togetherFault, bothFault, joinFault, joining}
+use Rattle.pool.specs.Faultless.{FaultlessSheet}
+use Rattle.pool.specs.Joinable.{Apart, pairsTogether, Joinable, JoinFault, JoinsRightly, Bytes, JoinedIsRead}
 use Rattle.pool.proofs.Reading.{room-none, room-passed, room-fault, sheet-none, sheet-passed, sheet-fault, reading-none}
 use Rattle.pool.proofs.Joined.{length-joined, pool-joined, pairs-joined, is-joined}
 

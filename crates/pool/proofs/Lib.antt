@@ -1,6 +1,6 @@
 -- `Lengths`, `Rooms`: of fields and sheets, and of lent tables. `Fields`, `Pairs`: each fault, and what has none. `Reading`, `Writing`: the
 -- promises of the two calls. `Written`, `Read`: what is written is read back, and what was read is written back. `RoundTrip`: both, for the calls.
--- `Examples`: the order of a pair's numbers.
+-- `Joined`, `Joining`: the sheet of two sheets, and the promise of the call. `Examples`: what is computed.
 pub mod Lengths
 pub mod Rooms
 pub mod Fields

@@ -1,5 +1,6 @@
--- Document 01's 'The pool sheet', 'Writer and printout' and 'Turned back'. Believe `Pool`, `Sheet`, `Tables`, `Faults` and `Calls`:
--- the contracts cite them. `Faultless` says a second time, without the search for a fault, what has none of them; `Promises` has the statements, and `Examples` tries the order of a pair's numbers.
+-- Document 01's 'The pool sheet', 'Writer and printout' and 'Turned back', and document 02's W-201. Believe `Pool`, `Sheet`, `Tables`, `Faults`, `Calls` and
+-- `Joining`: the contracts cite them. `Faultless` says a second time, without the search for a fault, what has none of them; `Promises` has the statements,
+-- `Joinable` both for joining, and `Examples` tries the order of a pair's numbers and a joined sheet.
 pub mod Pool
 pub mod Sheet
 pub mod Tables

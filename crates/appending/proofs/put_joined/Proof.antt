@@ -1,9 +1,8 @@
 -- `appending::put_joined` meets its contract: each piece goes where the one before it ends. Assumes nothing.
-use Prim.Native.Nat.{ℕ, _+_, _≤_}
-use mathlib.Core.Path.{_≡_, sym, ap, _∙_}
+use Prim.Native.Nat.{_+_, _≤_}
+use mathlib.Core.Path.{sym, ap, _∙_}
 use native.Mathlib.Omega.{arith}
 use borrow.Author.Needs.{needs}
-use lib.ListN.{length}
 use Rattle.pool.specs.Sheet.{sheetLength}
 use Rattle.pool.proofs.Joined.{length-joined}
 use Rattle.appending.proofs.Pieces.{joined-written}

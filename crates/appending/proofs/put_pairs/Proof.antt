@@ -1,5 +1,5 @@
 -- `appending::put_pairs` meets its contract: the bytes of the pairs' fields are what writing the pairs gives. Assumes nothing.
-use mathlib.Core.Path.{_≡_, ap, _∙_}
+use mathlib.Core.Path.{ap, _∙_}
 use mathlib.Core.List.{List}
 use Prim.Native.Nat.{ℕ}
 use borrow.Author.Needs.{needs}

@@ -1,6 +1,5 @@
 -- `joining::join` meets its contract: each answer is what the definition says, and so keeps the promise. Assumes nothing.
 use mathlib.Core.Path.{_≡_}
-use native.Mathlib.Omega.{arith}
 use borrow.Author.Needs.{needs}
 use lib.ListN.{length}
 use Rattle.refusal.specs.Fault.{none}
