@@ -143,7 +143,8 @@ struct vadivuzhen_join_answer {
 };
 
 /* Joins two sheets into one, in the buffer `out`: the first's pairs, then the second's, and the first's shuffle, then the second's with the first's N added
- * to each number. A sheet with no pairs gives the other one. The two sheets may be the same memory.
+ * to each number. A sheet with no pairs gives the other one. The two sheets may be the same memory, and `out` may overlap neither: nothing
+ * can be joined to a sheet in its own place.
  * Fills VADIVUZHEN_SHEET(n) bytes, with n the pairs of both together, which is the answer's length; VADIVUZHEN_SHEET(VADIVUZHEN_MOST_PAIRS) always suffices.
  * Refuses 1 to 8, the first sheet's own, as vadivuzhen_read finds it; 1 to 8, the second's own; 11, where an id is in both; 12, where they have more than
  * 200 pairs together; 9, where `out` is shorter than the joined sheet. The answer does not say which sheet a refusal from 1 to 8 is about: who needs to

@@ -76,7 +76,8 @@ pub struct WriteAnswer {
 pub struct JoinAnswer {
     /// Document 01's number of the refusal, or 0.
     pub refusal: u32,
-    /// The offset that goes with a sheet's own refusal, in that sheet.
+    /// Of a sheet's own refusal, 1 to 8, the offset in that sheet; of 11, 12
+    /// and 9, 0.
     pub place: usize,
     /// The joined sheet's length in bytes.
     pub length: usize,
@@ -246,7 +247,8 @@ pub fn write(n: usize, fields: Fields<'_>, shuffle: &[u16], out: &mut [u8]) -> W
 /// added to each number.
 ///
 /// The first sheet's own refusal comes first, then the second's. The answer
-/// does not say which sheet it is about; [`read`] says it of the first alone.
+/// does not say which sheet it is about: who needs to know reads the first
+/// alone, with [`read`] and tables of 200 entries.
 pub fn join(first: &[u8], second: &[u8], out: &mut [u8]) -> JoinAnswer {
     // SAFETY: as in `read`.
     unsafe {

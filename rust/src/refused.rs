@@ -95,9 +95,10 @@ impl Error for UnknownRefusal {}
 pub struct Refused {
     /// Why.
     pub why: Refusal,
-    /// Of a sheet that was read or joined the offset of the field at fault,
-    /// for [`LeftOver`](Refusal::LeftOver) that of the first byte too many;
-    /// else 0.
+    /// Of a refusal from 1 to 8, where a sheet was read or joined, the offset
+    /// of the field at fault in that sheet, for
+    /// [`LeftOver`](Refusal::LeftOver) that of the first byte too many; else
+    /// 0.
     pub place: usize,
 }
 

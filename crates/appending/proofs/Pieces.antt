@@ -15,13 +15,13 @@ use Rattle.laws.proofs.Lent.{stored-then, stored-filled}
 use Rattle.pool.specs.Sheet.{shuffleTag, shuffleLength, field, headField, pairField, shuffleField, sheetOf, startLength, firstPair, pairSize, pairPlace, sheetLength, pairsIn, pairAt, shuffleAt}
 use Rattle.pool.specs.Faultless.{FaultlessSheet}
 use Rattle.pool.specs.Joining.{joinedSheet}
-use Rattle.pool.specs.Joinable.{Bytes}
+use Rattle.pool.specs.Promises.{EntriesBelow}
 use Rattle.pool.proofs.Lengths.{length-headField, length-pairField, length-numbers}
 use Rattle.pool.proofs.Read.{pairs-back}
 use Rattle.pool.proofs.Joined.{joined-lists}
 
 -- what lies between the head and the shuffle's field is what writing the pairs gives
-pub pairs-there : (b : List ℕ) (n to : ℕ) → Bytes b → FaultlessSheet b → n ≡ pairsIn b → to ≡ pairPlace n
+pub pairs-there : (b : List ℕ) (n to : ℕ) → EntriesBelow 256 b → FaultlessSheet b → n ≡ pairsIn b → to ≡ pairPlace n
     → take (to - firstPair) (drop firstPair b) ≡ flatMap pairField (table n (pairAt b))
 unfolding part
 pairs-there b n to h s e f =
@@ -57,9 +57,9 @@ module _ (a b : List ℕ) (n m : ℕ) (few : n ≡ pairsIn a) (more : m ≡ pair
       ∙ rw (← few, ← more)
       (ap (λ (l : List ℕ). sheetOf (record { pairs = ps; shuffle = l ++ table m (λ j. shuffleAt b m j + n) }))
       (table-cong n (shuffleAt a n) (λ j. shuffleAt a n j + 0) (λ j l. sym (add-zero (shuffleAt a n j))))) in
-      let size : length (flatMap (bytes 2) zs) ≡ shuffleLength (n + m) = length-numbers zs ∙ ap shuffleLength (length-tables n m _ _ 0) in
+      let size : length (flatMap (bytes 2) zs) ≡ shuffleLength (n + m) = length-numbers zs ∙ ap shuffleLength (length-tables n m _ _) in
       lists
-      ∙ ap (λ (k : ℕ). sheetBy k (flatMap pairField ps) (length (flatMap (bytes 2) zs)) (flatMap (bytes 2) zs)) (length-tables n m _ _ (pairAt a 0))
+      ∙ ap (λ (k : ℕ). sheetBy k (flatMap pairField ps) (length (flatMap (bytes 2) zs)) (flatMap (bytes 2) zs)) (length-tables n m _ _)
       ∙ ap (λ (k : ℕ). sheetBy (n + m) (flatMap pairField ps) k (flatMap (bytes 2) zs)) size
       ∙ ap₂ (λ (p v : List ℕ). sheetBy (n + m) p (shuffleLength (n + m)) v)
       (flatMap-append pairField (table n (pairAt a)) (table m (pairAt b)))
@@ -68,10 +68,10 @@ module _ (a b : List ℕ) (n m : ℕ) (few : n ≡ pairsIn a) (more : m ≡ pair
 
   -- written one after another, each where the one before it ends
   module _ (out o1 o2 o3 o4 o5 o6 : List ℕ) (long : sheetLength (n + m) ≤ length out) (from at : ℕ) (f : from ≡ pairPlace n) (g : at ≡ pairPlace (n + m)) where
-    pub joined-written : o1 ≡ stored 0 (headField (n + m)) out → o2 ≡ stored firstPair (pairs a n) o1 → o3 ≡ stored from (pairs b m) o2
+    pub pieces-written : o1 ≡ stored 0 (headField (n + m)) out → o2 ≡ stored firstPair (pairs a n) o1 → o3 ≡ stored from (pairs b m) o2
         → o4 ≡ stored at shuffleStart o3 → o5 ≡ stored (at + startLength) (numbers a n 0) o4
         → o6 ≡ stored (at + startLength + 2 * n) (numbers b m n) o5 → o6 ≡ filled (joinedSheet a b) out
-    joined-written e1 e2 e3 e4 e5 e6 =
+    pieces-written e1 e2 e3 e4 e5 e6 =
         let h : length (headField (n + m)) ≡ firstPair = length-headField (n + m) in
         let p : (c : List ℕ) (k : ℕ) → length (pairs c k) ≡ pairSize * k = λ c k. length-flatMap-table pairField pairSize length-pairField k (pairAt c) in
         let z : (c : List ℕ) (k up : ℕ) → length (numbers c k up) ≡ 2 * k = λ c k up. length-flatMap-table (bytes 2) 2 (length-bytes 2) k _ in

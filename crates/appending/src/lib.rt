@@ -11,18 +11,6 @@ ghost use Rattle.pool.specs.Faultless.{FaultlessSheet};
 ghost use Rattle.pool.specs.Joining.{joinedSheet};
 ghost use Rattle.pool.specs.Joinable.{pairsTogether, Joinable};
 
-// Writes these bytes from `at` on.
-fn put_bytes(out: &mut [u8], at: usize, piece: &[u8])
-    requires { ⌜ at + length (now piece) ≤ length (now out) ⌝ }
-    ensures { λ _. ⌜ now (out .exit) ≡ stored at (now (piece .entry)) (now (out .entry)) ⌝ }
-{
-    let mut i: usize = 0;
-    while i < piece.len() {
-        out[at + i] = piece[i];
-        i += 1;
-    }
-}
-
 // Writes the fields of the n pairs of a sheet from `at` on, as they stand there.
 fn put_pairs(out: &mut [u8], at: usize, sheet: &[u8], n: usize)
     requires { ⌜ FaultlessSheet (now sheet) × (n ≡ pairsIn (now sheet)) × (at + pairSize * n ≤ length (now out)) ⌝ }
@@ -30,7 +18,7 @@ fn put_pairs(out: &mut [u8], at: usize, sheet: &[u8], n: usize)
 {
     let from = layout::FIRST_PAIR;
     let to = layout::pair_place(n);
-    put_bytes(out, at, &sheet[from..to]);
+    copying::put_bytes(out, at, &sheet[from..to]);
 }
 
 // Writes the numbers of the shuffle of a sheet of n pairs from `at` on, `more` added to each.

@@ -10,7 +10,8 @@ use Rattle.refusal.specs.Number.{numberOf}
 use Rattle.refusal.specs.declared.Refusal.{Refusal}
 use Rattle.refusal.proofs.Faults.{unless-none, unless-fault}
 use Rattle.pool.specs.Joining.{joinedSheet, joinFault, joining}
-use Rattle.pool.specs.Joinable.{JoinsRightly, Bytes}
+use Rattle.pool.specs.Joinable.{JoinsRightly}
+use Rattle.pool.specs.Promises.{EntriesBelow}
 use Rattle.pool.proofs.Joining.{joins-rightly}
 use Rattle.joining.specs.declared.Joining.{Joining}
 use Rattle.joining.specs.declared.Joining.the-variants.{Length, Refused}
@@ -27,6 +28,6 @@ module _ (a b out : List ℕ) where
   answered-joined e long new f g = ap₂ (λ (k : ℕ) (l : List ℕ). outcome (finished k) l) f g ∙ sym (unless-none _ _ _ _ e)
 
   -- what is answered as the definition says keeps the promise
-  pub answered-rightly : Bytes a → Bytes b → (new : List ℕ) (r : Joining) → outcome (answerOf r) new ≡ joining a b out
+  pub answered-rightly : EntriesBelow 256 a → EntriesBelow 256 b → (new : List ℕ) (r : Joining) → outcome (answerOf r) new ≡ joining a b out
       → JoinsRightly a b out (outcome (answerOf r) new)
   answered-rightly ha hb new r e = subst (λ (o : Outcome ℕ (List ℕ)). JoinsRightly a b out o) (sym e) (joins-rightly a b out ha hb)

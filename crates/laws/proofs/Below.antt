@@ -254,10 +254,10 @@ table-getD d l n f e h =
     (λ i k. let m : i < n = rw length-table at k in getD-table n f d i m ∙ h i m)
 
 -- two tables in a row
-module _ {A : Type 0} (n m : ℕ) (f g : ℕ → A) (d : A) where
-  pub length-tables : length (table n f ++ table m g) ≡ n + m
-  length-tables = length-append (table n f) (table m g) ∙ ap₂ (λ (x y : ℕ). x + y) (length-table n f) (length-table m g)
+pub length-tables : {A : Type 0} (n m : ℕ) (f g : ℕ → A) → length (table n f ++ table m g) ≡ n + m
+length-tables n m f g = length-append (table n f) (table m g) ∙ ap₂ (λ (x y : ℕ). x + y) (length-table n f) (length-table m g)
 
+module _ {A : Type 0} (n m : ℕ) (f g : ℕ → A) (d : A) where
   pub getD-first : (i : ℕ) → i < n → getD (table n f ++ table m g) i d ≡ f i
   getD-first i l = List·getD-append (table n f) (table m g) d i (rw length-table l) ∙ getD-table n f d i l
 

@@ -19,4 +19,4 @@ pub example-joined : ExampleJoined
 unfolding flatMap flatten table either anyBelow one countBelow bigEndian bytes filled refuse _then_ firstBelow unless field headField pairField
     shuffleField sheetOf pairsIn pairAt shuffleAt poolOf groupFault idFault pairFault shuffleFault fieldFault headFault pairFieldFault
     shuffleFieldFault endFault sheetFault roomFault joinedPool joinedSheet sharedFault togetherFault bothFault joinFault joining
-example-joined = record { joined = refl; shared = refl }
+example-joined = record { joined = refl; short = refl; shared = refl; firstOwn = refl; secondOwn = refl }

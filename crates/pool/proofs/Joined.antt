@@ -1,4 +1,4 @@
--- The sheet of two sheets: it has no fault, and holds the pairs and the shuffles of both. Assumes nothing.
+-- The sheet of two sheets: it has no fault, and has the pairs and the shuffles of both. Assumes nothing.
 use mathlib.Core.Path.{_≡_, refl, sym, ap, ap₂, _∙_}
 use mathlib.Core.List.{List, [], _++_, map, map-append, map-id, map-map, append-nil, append-assoc}
 use Prim.Native.Nat.{ℕ, _+_, _^_, _<_}
@@ -12,7 +12,8 @@ use Rattle.pool.specs.Pool.{Pair, Pool}
 use Rattle.pool.specs.Sheet.{sheetOf, sheetLength, pairsIn, pairAt, shuffleAt, poolOf}
 use Rattle.pool.specs.Joining.{joinedPool, joinedSheet}
 use Rattle.pool.specs.Faultless.{InRange, Unlike, EachOnce, Faultless, FaultlessSheet}
-use Rattle.pool.specs.Joinable.{Joinable, Holds, Joined, Bytes, pairsTogether, JoinedInAnyGrouping}
+use Rattle.pool.specs.Joinable.{NoSharedId, Joinable, Contains, Joined, pairsTogether, JoinedInAnyGrouping}
+use Rattle.pool.specs.Promises.{EntriesBelow}
 use Rattle.pool.proofs.Lengths.{length-sheetOf}
 use Rattle.pool.proofs.Reading.{sheet-pool}
 use Rattle.pool.proofs.Read.{sheet-back}
@@ -94,8 +95,8 @@ module _ (a b : List ℕ) where
 
   joined-pool : joinedPool (poolOf a) (poolOf b) ≡ record { pairs = table (pairsTogether a b) joinedPair; shuffle = table (pairsTogether a b) joinedNumber }
   joined-pool =
-      let e1 : table (pairsTogether a b) joinedPair ≡ pairList = table-getD _ pairList _ _ (length-tables _ _ _ _ (pairAt a 0)) (λ i l. refl) in
-      let e2 : table (pairsTogether a b) joinedNumber ≡ numberList = table-getD _ numberList _ _ (length-tables _ _ _ _ 0) (λ i l. refl) in
+      let e1 : table (pairsTogether a b) joinedPair ≡ pairList = table-getD _ pairList _ _ (length-tables _ _ _ _) (λ i l. refl) in
+      let e2 : table (pairsTogether a b) joinedNumber ≡ numberList = table-getD _ numberList _ _ (length-tables _ _ _ _) (λ i l. refl) in
       joined-lists ∙ sym (λ k. record { pairs = e1 k; shuffle = e2 k })
 
   pub joined-written : joinedSheet a b ≡ written (pairsTogether a b) joinedPair joinedNumber
@@ -138,10 +139,10 @@ module _ (a b : List ℕ) where
               (w .first .shuffle .eachOnce) (w .second .shuffle .eachOnce);
         }
 
-  -- ## It holds the pairs and the shuffles of both
+  -- ## It has the pairs and the shuffles of both
 
-  module _ (ha : Bytes a) (hb : Bytes b) (w : Joinable a b) where
-    bytes-fit : (c : List ℕ) → Bytes c → (i : ℕ) → Fits (pairAt c i)
+  module _ (ha : EntriesBelow 256 a) (hb : EntriesBelow 256 b) (w : Joinable a b) where
+    bytes-fit : (c : List ℕ) → EntriesBelow 256 c → (i : ℕ) → Fits (pairAt c i)
     unfolding pairAt
     bytes-fit c h i =
         record {
@@ -181,8 +182,8 @@ module _ (a b : List ℕ) where
         ap₂ (λ (c : List ℕ) (n : ℕ). shuffleAt c n j) joined-written pairs-joined
         ∙ says-number _ joinedPair joinedNumber (joined-faultless w) joined-fits joined-small j l
 
-    joined-holds : Holds a b (joinedSheet a b)
-    joined-holds =
+    joined-contains : Contains a b (joinedSheet a b)
+    joined-contains =
         record {
           many = pairs-joined;
           firstPairs = λ i l. pair-joined i (omega arith) ∙ first-pair i l;
@@ -211,13 +212,13 @@ nobody-second : (p : Pool) → joinedPool p nobody ≡ p
 unfolding joinedPool
 nobody-second p = λ k. record { pairs = append-nil (p .pairs) k; shuffle = append-nil (p .shuffle) k }
 
-module _ (a b : List ℕ) (ha : Bytes a) (hb : Bytes b) (w : Joinable a b) where
+module _ (a b : List ℕ) (ha : EntriesBelow 256 a) (hb : EntriesBelow 256 b) (w : Joinable a b) where
   pub is-joined : Joined a b (joinedSheet a b)
   unfolding joinedSheet
   is-joined =
       record {
         accepted = sheet-joined a b ha hb w;
-        holds = joined-holds a b ha hb w;
+        contains = joined-contains a b ha hb w;
         firstEmpty =
             λ e.
             ap sheetOf (ap (λ (p : Pool). joinedPool p (poolOf b)) (empty-pool a e) ∙ nobody-first (poolOf b)) ∙ sheet-back b hb (w .second);
@@ -243,10 +244,47 @@ joined-three p q r =
     rw (length-append, map-append, append-assoc, raised-twice m n (r .shuffle)) refl in
     λ k. record { pairs = append-assoc (p .pairs) (q .pairs) (r .pairs) k; shuffle = e k }
 
+-- no pair of a joined sheet has the id of a pair of c, and none of c that of a joined sheet's
+module _ (a b c : List ℕ) (ha : EntriesBelow 256 a) (hb : EntriesBelow 256 b) (w : Joinable a b) where
+  id-joined : (i : ℕ) → i < pairsIn a → pairAt (joinedSheet a b) i .id ≡ pairAt a i .id
+  id-joined i l = ap (λ (q : Pair). q .id) (joined-contains a b ha hb w .firstPairs i l)
+
+  id-joined-second : (j : ℕ) → j < pairsIn b → pairAt (joinedSheet a b) (pairsIn a + j) .id ≡ pairAt b j .id
+  id-joined-second j l = ap (λ (q : Pair). q .id) (joined-contains a b ha hb w .secondPairs j l)
+
+  joined-not-shared : NoSharedId a c → NoSharedId b c → NoSharedId (joinedSheet a b) c
+  joined-not-shared f g i j k l =
+      below-add {P = λ i. pairAt (joinedSheet a b) i .id ≡ pairAt c j .id → ⊥} (pairsIn a) (pairsIn b)
+      (λ i m e. f i j m l (sym (id-joined i m) ∙ e))
+      (λ i m e. g i j m l (sym (id-joined-second i m) ∙ e)) i (rw (pairs-joined a b ha hb w) at k)
+
+  not-shared-joined : NoSharedId c a → NoSharedId c b → NoSharedId c (joinedSheet a b)
+  not-shared-joined f g i j k l =
+      below-add {P = λ j. pairAt c i .id ≡ pairAt (joinedSheet a b) j .id → ⊥} (pairsIn a) (pairsIn b)
+      (λ j m e. f i j k m (e ∙ id-joined j m))
+      (λ j m e. g i j k m (e ∙ id-joined-second j m)) j (rw (pairs-joined a b ha hb w) at l)
+
 pub joined-in-any-grouping : JoinedInAnyGrouping
 unfolding joinedSheet
-joined-in-any-grouping a b c ha hb hc w v =
-    ap sheetOf
-    (ap (λ (p : Pool). joinedPool p (poolOf c)) (pool-joined a b ha hb w)
-    ∙ joined-three (poolOf a) (poolOf b) (poolOf c)
-    ∙ sym (ap (joinedPool (poolOf a)) (pool-joined b c hb hc v)))
+joined-in-any-grouping a b c ha hb hc w v apart few =
+    record {
+      firstTwo =
+          record {
+            first = sheet-joined a b ha hb w;
+            second = v .second;
+            apart = joined-not-shared a b c ha hb w apart (v .apart);
+            few = omega (arith, pairs-joined a b ha hb w);
+          };
+      lastTwo =
+          record {
+            first = w .first;
+            second = sheet-joined b c hb hc v;
+            apart = not-shared-joined b c a hb hc v (w .apart) apart;
+            few = omega (arith, pairs-joined b c hb hc v);
+          };
+      same =
+          ap sheetOf
+          (ap (λ (p : Pool). joinedPool p (poolOf c)) (pool-joined a b ha hb w)
+          ∙ joined-three (poolOf a) (poolOf b) (poolOf c)
+          ∙ sym (ap (joinedPool (poolOf a)) (pool-joined b c hb hc v)));
+    }

@@ -5,21 +5,23 @@ use mathlib.Core.List.{List}
 use Prim.Native.Nat.{ℕ, _≤_}
 use native.Mathlib.Omega.{arith}
 use borrow.Author.Tests.{le-ltb, ltb-true, ltb-false, ne-eqb, eqb-true, eqb-false}
-use lib.Dec.{eqb}
+use lib.Dec.{eqb, ltb}
 use lib.ListN.{length, take, drop}
 use lib.Seq.{drop-at}
 use Rattle.laws.specs.Below.{anyBelow}
 use Rattle.laws.specs.Lent.{filled}
 use Rattle.laws.proofs.Below.{any-none, none-any, any-found}
 use Rattle.laws.proofs.Lent.{take-filled}
-use Rattle.refusal.specs.Fault.{none, fault}
+use Rattle.refusal.specs.Fault.{none, fault, refuse}
 use Rattle.refusal.specs.Answer.{finished, refused, Outcome, outcome}
 use Rattle.refusal.proofs.Faults.{then-none, none-then, refuse-none, none-refuse, by-refuse, by-then, unless-none, unless-fault, finished-none, refused-fault}
 use Rattle.pool.specs.Sheet.{sheetLength, pairsIn, pairAt}
+use Rattle.pool.specs.Faults.{sheetFault}
 use Rattle.pool.specs.Tables.{filledTables}
 use Rattle.pool.specs.Joining.{joinedSheet, sharedFault, togetherFault, bothFault, joinFault, joining}
 use Rattle.pool.specs.Faultless.{FaultlessSheet}
-use Rattle.pool.specs.Joinable.{Apart, pairsTogether, Joinable, JoinFault, JoinsRightly, Bytes, JoinedIsRead}
+use Rattle.pool.specs.Joinable.{NoSharedId, pairsTogether, Joinable, JoinFault, JoinsRightly, JoinedIsRead}
+use Rattle.pool.specs.Promises.{EntriesBelow}
 use Rattle.pool.proofs.Reading.{room-none, room-passed, room-fault, sheet-none, sheet-passed, sheet-fault, reading-none}
 use Rattle.pool.proofs.Joined.{length-joined, pool-joined, pairs-joined, is-joined}
 
@@ -30,12 +32,12 @@ module _ (a b : List ℕ) where
   abbrev sharedBy : ℕ → Bool
   sharedBy j = anyBelow (pairsIn a) (λ i. eqb (pairAt a i .id) (pairAt b j .id))
 
-  shared-none : Apart a b → sharedFault a b ≡ none
+  shared-none : NoSharedId a b → sharedFault a b ≡ none
   unfolding sharedFault
   shared-none h =
       none-refuse 11 0 _ (none-any (pairsIn b) sharedBy (λ j l. none-any (pairsIn a) _ (λ i k. ne-eqb _ _ (h i j k l))))
 
-  shared-passed : sharedFault a b ≡ none → Apart a b
+  shared-passed : sharedFault a b ≡ none → NoSharedId a b
   unfolding sharedFault
   shared-passed e i j k l = eqb-false _ _ (any-none (pairsIn a) _ (any-none (pairsIn b) sharedBy (refuse-none _ _ _ e) j l) i k)
 
@@ -50,6 +52,25 @@ module _ (a b : List ℕ) where
   -- ## All of them
 
   module _ (space : ℕ) where
+    join-fault : (k o : ℕ) → joinFault a b space ≡ fault k o → JoinFault a b space k o
+    unfolding joinFault bothFault sharedFault togetherFault
+    join-fault =
+        let P = JoinFault a b space in
+        by-then P (sheetFault a) _ (λ k o e. JoinFault.first k o (sheet-fault a k o e))
+        (λ f. let one : FaultlessSheet a = sheet-passed a f in
+        by-then P (sheetFault b) _ (λ k o e. JoinFault.second k o one (sheet-fault b k o e))
+        (λ g. let other : FaultlessSheet b = sheet-passed b g in
+        by-then P (refuse 11 0 (anyBelow (pairsIn b) sharedBy)) _
+        (by-refuse P 11 0 _
+        (λ e. let j = any-found (pairsIn b) sharedBy e in
+        let i = any-found (pairsIn a) _ (j .2) in
+        JoinFault.sharedId one other (i .0) (j .0) (i .1) (j .1) (eqb-true _ _ (i .2))))
+        (λ h. let apart : NoSharedId a b = shared-passed h in
+        by-then P (refuse 12 0 (ltb 200 (pairsTogether a b))) _ (by-refuse P 12 0 _ (λ e. JoinFault.tooManyTogether one other apart (ltb-true _ _ e)))
+        (λ t. room-fault P space _
+        (λ l. JoinFault.bufferTooShort (record { first = one; second = other; apart = apart; few = together-passed t })
+        (rw length-joined at l))))))
+
     join-none : Joinable a b → sheetLength (pairsTogether a b) ≤ space → joinFault a b space ≡ none
     unfolding joinFault bothFault
     join-none w l =
@@ -74,25 +95,6 @@ module _ (a b : List ℕ) where
           },
           room-passed space _ (s4 .1),
         )
-
-    join-fault : (k o : ℕ) → joinFault a b space ≡ fault k o → JoinFault a b space k o
-    unfolding joinFault bothFault sharedFault togetherFault
-    join-fault =
-        let P = JoinFault a b space in
-        by-then P _ _ (λ k o e. JoinFault.first k o (sheet-fault a k o e))
-        (λ f. let one : FaultlessSheet a = sheet-passed a f in
-        by-then P _ _ (λ k o e. JoinFault.second k o one (sheet-fault b k o e))
-        (λ g. let other : FaultlessSheet b = sheet-passed b g in
-        by-then P _ _
-        (by-refuse P 11 0 _
-        (λ e. let j = any-found (pairsIn b) sharedBy e in
-        let i = any-found (pairsIn a) _ (j .2) in
-        JoinFault.sharedId one other (i .0) (j .0) (i .1) (j .1) (eqb-true _ _ (i .2))))
-        (λ h. let apart : Apart a b = shared-passed h in
-        by-then P _ _ (by-refuse P 12 0 _ (λ e. JoinFault.tooManyTogether one other apart (ltb-true _ _ e)))
-        (λ t. room-fault P space _
-        (λ l. JoinFault.bufferTooShort (record { first = one; second = other; apart = apart; few = together-passed t })
-        (rw length-joined at l))))))
 
   -- ## The call
 
@@ -129,7 +131,7 @@ module _ (a b : List ℕ) where
         let f = refused-fault _ _ _ _ e in
         (join-fault (length out) k o f, ap (λ (r : Outcome ℕ (List ℕ)). r .lent) (unless-fault _ _ _ _ k o f))
 
-    pub joins-rightly : Bytes a → Bytes b → JoinsRightly a b out (joining a b out)
+    pub joins-rightly : EntriesBelow 256 a → EntriesBelow 256 b → JoinsRightly a b out (joining a b out)
     joins-rightly ha hb =
         record {
           accepts = λ w l. ap (λ (r : Outcome ℕ (List ℕ)). r .answer) (joining-none w l) ∙ ap finished (length-joined a b);

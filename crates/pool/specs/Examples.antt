@@ -2,7 +2,7 @@
 use Prim.Native.Nat.{ℕ}
 use mathlib.Core.Path.{_≡_}
 use mathlib.Core.List.{List, [], _∷_, _++_, flatten}
-use lib.ListN.{replicate}
+use lib.ListN.{take, replicate}
 use Rattle.refusal.specs.Answer.{finished, refused, outcome}
 use Rattle.pool.specs.Pool.{Pair}
 use Rattle.pool.specs.Sheet.{headField, pairField, pairAt}
@@ -35,24 +35,24 @@ pub record FieldOrder : Type 0 where
 
 -- ## Document 01's example
 
--- a pair's field: the id's last byte, blood of donor and patient, and zeros
-abbrev pub examplePair : ℕ → ℕ → ℕ → List ℕ
-examplePair id donor patient = (2 ∷ 0 ∷ 32 ∷ 0 ∷ 0 ∷ 0 ∷ id ∷ donor ∷ patient ∷ 0 ∷ 0 ∷ []) ++ replicate 24 0
+-- a pair's field: the id's last two bytes, blood of donor and patient, and zeros
+abbrev pub examplePair : ℕ → ℕ → ℕ → ℕ → List ℕ
+examplePair high low donor patient = (2 ∷ 0 ∷ 32 ∷ 0 ∷ 0 ∷ high ∷ low ∷ donor ∷ patient ∷ 0 ∷ 0 ∷ []) ++ replicate 24 0
 
 -- "01 0004 0001 0002; 02 0020 0000000B 01 02 00 00 and 24 zero bytes; 02 0020 0000000C 02 01 00 00 and 24 zero bytes; 03 0004 0000 0001"
 abbrev pub exampleSheet : List ℕ
-exampleSheet = (1 ∷ 0 ∷ 4 ∷ 0 ∷ 1 ∷ 0 ∷ 2 ∷ []) ++ (examplePair 11 1 2 ++ (examplePair 12 2 1 ++ (3 ∷ 0 ∷ 4 ∷ 0 ∷ 0 ∷ 0 ∷ 1 ∷ [])))
+exampleSheet = (1 ∷ 0 ∷ 4 ∷ 0 ∷ 1 ∷ 0 ∷ 2 ∷ []) ++ (examplePair 0 11 1 2 ++ (examplePair 0 12 2 1 ++ (3 ∷ 0 ∷ 4 ∷ 0 ∷ 0 ∷ 0 ∷ 1 ∷ [])))
 
 -- ## An addendum to it
 
--- three pairs, with the shuffle 2 0 1
+-- three pairs, with the shuffle 2 0 1; the first id ends as one of the example's does
 abbrev pub addendumSheet : List ℕ
 addendumSheet =
     flatten
     ((1 ∷ 0 ∷ 4 ∷ 0 ∷ 1 ∷ 0 ∷ 3 ∷ [])
-    ∷ examplePair 13 0 3
-    ∷ examplePair 14 3 0
-    ∷ examplePair 15 1 0
+    ∷ examplePair 1 11 0 3
+    ∷ examplePair 0 14 3 0
+    ∷ examplePair 0 15 1 0
     ∷ (3 ∷ 0 ∷ 6 ∷ 0 ∷ 2 ∷ 0 ∷ 0 ∷ 0 ∷ 1 ∷ [])
     ∷ [])
 
@@ -61,15 +61,18 @@ abbrev pub exampleAndAddendum : List ℕ
 exampleAndAddendum =
     flatten
     ((1 ∷ 0 ∷ 4 ∷ 0 ∷ 1 ∷ 0 ∷ 5 ∷ [])
-    ∷ examplePair 11 1 2
-    ∷ examplePair 12 2 1
-    ∷ examplePair 13 0 3
-    ∷ examplePair 14 3 0
-    ∷ examplePair 15 1 0
+    ∷ examplePair 0 11 1 2
+    ∷ examplePair 0 12 2 1
+    ∷ examplePair 1 11 0 3
+    ∷ examplePair 0 14 3 0
+    ∷ examplePair 0 15 1 0
     ∷ (3 ∷ 0 ∷ 10 ∷ 0 ∷ 0 ∷ 0 ∷ 1 ∷ 0 ∷ 4 ∷ 0 ∷ 2 ∷ 0 ∷ 3 ∷ [])
     ∷ [])
 
--- into a buffer of 199 bytes that each hold 99; and where an id is in both
+-- into a buffer of 199 bytes that each hold 99, and of 194; with itself; and a sheet whose shuffle is cut off, beside one that is cut off at once
 pub record ExampleJoined : Type 0 where
   pub joined : joining exampleSheet addendumSheet (replicate 199 99) ≡ outcome (finished 195) (exampleAndAddendum ++ (99 ∷ 99 ∷ 99 ∷ 99 ∷ []))
+  pub short : joining exampleSheet addendumSheet (replicate 194 99) ≡ outcome (refused 9 0) (replicate 194 99)
   pub shared : joining exampleSheet exampleSheet (99 ∷ []) ≡ outcome (refused 11 0) (99 ∷ [])
+  pub firstOwn : joining (take 83 exampleSheet) (1 ∷ []) (99 ∷ []) ≡ outcome (refused 1 77) (99 ∷ [])
+  pub secondOwn : joining exampleSheet (take 83 exampleSheet) (99 ∷ []) ≡ outcome (refused 1 77) (99 ∷ [])

@@ -1,5 +1,5 @@
--- What joining promises, without the search for a fault and with no lists joined: which sheets are joined, what each refusal says, and what the joined sheet
--- holds, entry by entry. The contract of `joining` carries `JoinsRightly`. Assumes nothing.
+-- What joining promises: which sheets are joined, and what each refusal says, without the search for a fault; what the joined sheet has, entry by entry and
+-- with no lists. The contract of `join` carries `JoinsRightly`; the theorems after it are over the definitions. Assumes nothing.
 use Prim.Native.Nat.{ℕ, _+_, _≤_, _<_}
 use mathlib.Core.Path.{_≡_}
 use mathlib.Core.List.{List}
@@ -12,9 +12,9 @@ use Rattle.pool.specs.Joining.{joinedPool, joinedSheet, joining}
 use Rattle.pool.specs.Faultless.{FaultlessSheet, SheetFault, TablesHold}
 use Rattle.pool.specs.Promises.{EntriesBelow}
 
--- no id is in both: a pair of the one and a pair of the other have different ids
-abbrev pub Apart : List ℕ → List ℕ → Type 0
-Apart a b = (i j : ℕ) → i < pairsIn a → j < pairsIn b → pairAt a i .id ≡ pairAt b j .id → ⊥
+-- a pair of the one and a pair of the other have different ids
+abbrev pub NoSharedId : List ℕ → List ℕ → Type 0
+NoSharedId a b = (i j : ℕ) → i < pairsIn a → j < pairsIn b → pairAt a i .id ≡ pairAt b j .id → ⊥
 
 -- how many pairs they have together
 abbrev pub pairsTogether : List ℕ → List ℕ → ℕ
@@ -24,7 +24,7 @@ pairsTogether a b = pairsIn a + pairsIn b
 pub record Joinable (a b : List ℕ) : Type 0 where
   pub first : FaultlessSheet a
   pub second : FaultlessSheet b
-  pub apart : Apart a b
+  pub apart : NoSharedId a b
   pub few : pairsTogether a b ≤ 200
 
 -- fault k at place o, of joining into a buffer of so many bytes: it is there, and none that is looked for before it. A sheet's own is never 9
@@ -39,21 +39,21 @@ pub data JoinFault (a b : List ℕ) (space : ℕ) : ℕ → ℕ → Type 0 where
       → j < pairsIn b
       → pairAt a i .id ≡ pairAt b j .id
       → JoinFault a b space 11 0
-  tooManyTogether : FaultlessSheet a → FaultlessSheet b → Apart a b → 200 < pairsTogether a b → JoinFault a b space 12 0
+  tooManyTogether : FaultlessSheet a → FaultlessSheet b → NoSharedId a b → 200 < pairsTogether a b → JoinFault a b space 12 0
   bufferTooShort : Joinable a b → space < sheetLength (pairsTogether a b) → JoinFault a b space 9 0
 
--- sheet c holds the pairs and the shuffle of a, and after them those of b
-pub record Holds (a b c : List ℕ) : Type 0 where
+-- sheet c has the pairs and the shuffle of a, and after them those of b
+pub record Contains (a b c : List ℕ) : Type 0 where
   pub many : pairsIn c ≡ pairsTogether a b
   pub firstPairs : (i : ℕ) → i < pairsIn a → pairAt c i ≡ pairAt a i
   pub secondPairs : (j : ℕ) → j < pairsIn b → pairAt c (pairsIn a + j) ≡ pairAt b j
   pub firstNumbers : (i : ℕ) → i < pairsIn a → shuffleAt c (pairsIn c) i ≡ shuffleAt a (pairsIn a) i
   pub secondNumbers : (j : ℕ) → j < pairsIn b → shuffleAt c (pairsIn c) (pairsIn a + j) ≡ shuffleAt b (pairsIn b) j + pairsIn a
 
--- sheet c is that of a and b: an accepted sheet that holds both, and "joining with a sheet of N = 0 gives the other sheet"
+-- sheet c is that of a and b: an accepted sheet with the pairs and shuffles of both, and "joining with a sheet of N = 0 gives the other sheet"
 pub record Joined (a b c : List ℕ) : Type 0 where
   pub accepted : FaultlessSheet c
-  pub holds : Holds a b c
+  pub contains : Contains a b c
   pub firstEmpty : pairsIn a ≡ 0 → c ≡ b
   pub secondEmpty : pairsIn b ≡ 0 → c ≡ a
 
@@ -65,22 +65,33 @@ pub record JoinsRightly (a b out : List ℕ) (o : Outcome ℕ (List ℕ)) : Type
   pub refuses : (k place : ℕ) → o .answer ≡ refused k place → JoinFault a b (length out) k place × (o .lent ≡ out)
   pub joins : (m : ℕ) → o .answer ≡ finished m → Joined a b (take m (o .lent)) × (drop m (o .lent) ≡ drop m out)
 
--- what the types of the slices give: a sheet's entries are bytes
-abbrev pub Bytes : List ℕ → Type 0
-Bytes = EntriesBelow 256
+-- ## Read back, and three sheets; that a sheet's entries are below 256 is what the type of its slice gives
 
--- two sheets that are joined, read back: the pool that both say together, into any tables that can hold it
+-- two sheets that were joined, read: the pool that both say together, into any tables that can hold it
 abbrev pub JoinedIsRead : Type 0
 JoinedIsRead =
     (a b out : List ℕ) (m : ℕ) (t : Tables)
-    → Bytes a
-    → Bytes b
+    → EntriesBelow 256 a
+    → EntriesBelow 256 b
     → joining a b out .answer ≡ finished m
     → TablesHold (pairsTogether a b) t
     → reading (take m (joining a b out .lent)) t
     ≡ outcome (finished (pairsTogether a b)) (filledTables (joinedPool (poolOf a) (poolOf b)) t)
 
--- three sheets joined, the first two first or the last two first, are the same sheet
+-- the first two joined first, or the last two: each can be joined with the third, and both ways give one sheet
+pub record Regrouped (a b c : List ℕ) : Type 0 where
+  pub firstTwo : Joinable (joinedSheet a b) c
+  pub lastTwo : Joinable a (joinedSheet b c)
+  pub same : joinedSheet (joinedSheet a b) c ≡ joinedSheet a (joinedSheet b c)
+
 abbrev pub JoinedInAnyGrouping : Type 0
 JoinedInAnyGrouping =
-    (a b c : List ℕ) → Bytes a → Bytes b → Bytes c → Joinable a b → Joinable b c → joinedSheet (joinedSheet a b) c ≡ joinedSheet a (joinedSheet b c)
+    (a b c : List ℕ)
+    → EntriesBelow 256 a
+    → EntriesBelow 256 b
+    → EntriesBelow 256 c
+    → Joinable a b
+    → Joinable b c
+    → NoSharedId a c
+    → pairsIn a + pairsIn b + pairsIn c ≤ 200
+    → Regrouped a b c

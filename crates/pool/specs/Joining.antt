@@ -19,7 +19,7 @@ joinedPool p q = record { pairs = p .pairs ++ q .pairs; shuffle = p .shuffle ++ 
 unfoldable pub joinedSheet : List ℕ → List ℕ → List ℕ
 joinedSheet a b = sheetOf (joinedPool (poolOf a) (poolOf b))
 
--- "It refuses 11 where an id is in both": in that of a pair of the first and of one of the second
+-- "It refuses 11 where an id is in both": it is that of a pair of the first, and of a pair of the second
 unfoldable pub sharedFault : List ℕ → List ℕ → Fault
 sharedFault a b = refuse 11 0 (anyBelow (pairsIn b) (λ j. anyBelow (pairsIn a) (λ i. eqb (pairAt a i .id) (pairAt b j .id))))
 

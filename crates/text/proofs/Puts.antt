@@ -4,8 +4,8 @@ use mathlib.Core.List.{List, [], _∷_, _++_}
 use Prim.Native.Nat.{ℕ, _+_, _/_, _%_, _≤_, _<_}
 use native.Mathlib.Numerals.{add-one}
 use native.Mathlib.Omega.{arith}
-use lib.ListN.{length, getD, take, set, length-append}
-use lib.Seq.{set-split, take-suc, take-length, length-take-le}
+use lib.ListN.{length, set, length-append}
+use lib.Seq.{set-split}
 use Rattle.laws.specs.Lent.{stored}
 use Rattle.laws.proofs.Lent.{stored-none, length-stored, stored-then}
 use Rattle.text.specs.Text.{space, digit, decimal, following}
@@ -43,20 +43,6 @@ put-as {at} {end} {s} {t} {old} {new} e p = subst (λ (x : List ℕ). Put at x o
 pub put-following : (at : ℕ) {end : ℕ} (word : List ℕ) (old : List ℕ) {new : List ℕ} → at < length old → Put (at + 1) word (set old at space) new end
     → Put at (following word) old new end
 put-following at word old l p = put-then (omega arith) (put-byte space old refl l) p
-
--- ## A word: a byte more, and all of them
-
-module _ (at : ℕ) (word old new : List ℕ) where
-  pub word-more : (i : ℕ) → i < length word → at + length word ≤ length old → Put at (take i word) old new (at + i)
-      → Put at (take (i + 1) word) old (set new (at + i) (getD word i 0)) (at + (i + 1))
-  word-more i l h p =
-      let k : length (take i word) ≡ i = length-take-le i word (omega arith) in
-      let f : at + length (take i word) ≤ length old = omega arith in
-      put-as (sym (take-suc word i 0 l) ∙ ap (λ (j : ℕ). take j word) (sym (add-one i)))
-      (put-then f p (put-byte (getD word i 0) new (omega arith) (omega (arith, length-put f p))))
-
-  pub word-all : (i : ℕ) → i ≡ length word → Put at (take i word) old new (at + i) → Put at word old new (at + length word)
-  word-all i e p = put-as (take-length word) (subst (λ (j : ℕ). Put at (take j word) old new (at + j)) e p)
 
 -- ## A number: its only digit, or its higher digits and then the last one
 

@@ -2,7 +2,7 @@
 // side, the limits, and each refusal in its order. What it prints is held to the file 'stdout'. Every lent byte holds 99 before a call.
 use joining::Joining;
 use refusal::Refusal;
-ghost use Prim.Native.Nat.{_≤_};
+ghost use Prim.Native.Nat.{_+_, _≤_};
 
 fn print(text: &[u8]) {
     io::write_all(1, text);
@@ -46,7 +46,7 @@ fn set_pair(sheet: &mut [u8], n: usize, i: usize, id: usize, drawn: usize)
 
 // A sheet of n pairs with ids from `id` on, in zeros. The shuffle goes up from 0, or, where `turned`, down to it.
 fn fill(sheet: &mut [u8], n: usize, id: usize, turned: bool)
-    requires { ⌜ (n ≤ 201) × (id ≤ 1000) ⌝ }
+    requires { ⌜ (n ≤ 201) × (id + n ≤ 256) ⌝ }
 {
     set(sheet, 0, 1);
     set(sheet, 2, 4);
@@ -205,6 +205,8 @@ fn try_200() {
     fill(&mut second, 100, 100, false);
     let mut out = [99u8; 7411];
     try_joining(b"100 and 100 pairs:", &first, &second, &mut out);
+    let mut nothing = [99u8; 0];
+    try_joining(b"  no buffer:", &first, &second, &mut nothing);
 }
 
 // 201 pairs together, the last of the second with this id, into a buffer that would hold them and into none.

@@ -5,7 +5,7 @@ use native.Mathlib.Omega.{arith}
 use borrow.Author.Needs.{needs}
 use Rattle.pool.specs.Sheet.{sheetLength}
 use Rattle.pool.proofs.Joined.{length-joined}
-use Rattle.appending.proofs.Pieces.{joined-written}
+use Rattle.appending.proofs.Pieces.{pieces-written}
 use Rattle.appending.proofs.put_joined.Statement.{statement}
 use Rattle.appending.proofs.put_joined.Tie as tie
 
@@ -70,7 +70,7 @@ returns c =
     let m = counted r .pairs-in2 in
     let long = start r .pre .1 in (
       c .sheet-length .ensures ∙ sym (length-joined _ _ ∙ ap sheetLength (omega (arith, n .ensures, m .ensures))),
-      joined-written _ _ _ _ (n .ensures) (m .ensures) _ _ _ _ _ _ _ (omega (arith, long, n .ensures, m .ensures)) _ _
+      pieces-written _ _ _ _ (n .ensures) (m .ensures) _ _ _ _ _ _ _ (omega (arith, long, n .ensures, m .ensures)) _ _
           (second-put r .before .pair-place .ensures) (placed r .pair-place2 .ensures) (headed r .put-head .ensures) (first-put r .put-pairs .ensures)
           (second-put r .put-pairs2 .ensures) (started r .put-start .ensures) (raised r .put-raised .ensures)
           (c .before .before .before .put-raised2 .ensures),

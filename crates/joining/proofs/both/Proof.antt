@@ -15,14 +15,14 @@ returns-2 : tie.Need-returns-2
 returns-2 c =
     let s = c .before .before in
     let m = s .before in
-    both-many _ _ _ _ _ (m .before .pairs-in .ensures) (m .pairs-in2 .ensures) _ (s .shared .ensures) (c .before .if1 .left) (c .if2 .taken)
+    both-many _ _ _ _ _ (m .before .pairs-in .ensures) (m .pairs-in2 .ensures) _ (s .shared .ensures) (c .before .if1 .left) (omega (arith, c .if2 .taken))
 
 returns-3 : tie.Need-returns-3
 returns-3 c =
     let w = c .before in
     let s = w .before .before .before in
     let m = s .before in
-    both-short _ _ _ _ _ (m .before .pairs-in .ensures) (m .pairs-in2 .ensures) _ (s .shared .ensures) (w .before .before .if1 .left) (w .before .if2 .left)
+    both-short _ _ _ _ _ (m .before .pairs-in .ensures) (m .pairs-in2 .ensures) _ (s .shared .ensures) (w .before .before .if1 .left) (omega (arith, w .before .if2 .left))
     (omega (arith, w .sheet-length .ensures, c .if3 .taken))
 
 returns-4 : tie.Need-returns-4
@@ -30,7 +30,7 @@ returns-4 c =
     let w = c .before in
     let s = w .before .before .before in
     let m = s .before in
-    both-sound _ _ _ _ _ (m .before .pairs-in .ensures) (m .pairs-in2 .ensures) _ (s .shared .ensures) (w .before .before .if1 .left) (w .before .if2 .left)
+    both-sound _ _ _ _ _ (m .before .pairs-in .ensures) (m .pairs-in2 .ensures) _ (s .shared .ensures) (w .before .before .if1 .left) (omega (arith, w .before .if2 .left))
     (omega (arith, w .sheet-length .ensures, c .if3 .left))
 
 pub both-spec : {M : Type 1} → statement M

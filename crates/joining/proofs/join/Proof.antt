@@ -4,7 +4,7 @@ use borrow.Author.Needs.{needs}
 use lib.ListN.{length}
 use Rattle.refusal.specs.Fault.{none}
 use Rattle.pool.specs.Joining.{joinFault}
-use Rattle.pool.specs.Joinable.{Bytes}
+use Rattle.pool.specs.Promises.{EntriesBelow}
 use Rattle.pool.proofs.Joined.{length-joined}
 use Rattle.pool.proofs.Joining.{join-passed}
 use Rattle.scan.proofs.Sheet.{nothing-none, found-fault}
@@ -16,10 +16,10 @@ abbrev start : tie.After-judge → tie.Start
 start c = c .before .before .before .before
 
 -- the entries of the two sheets are bytes
-first-bytes : (c : tie.After-judge) → Bytes (start c .args .first .now)
+first-bytes : (c : tie.After-judge) → EntriesBelow 256 (start c .args .first .now)
 first-bytes c j = c .before .before .before .shared-slice-known .given j .fits
 
-second-bytes : (c : tie.After-judge) → Bytes (start c .args .second .now)
+second-bytes : (c : tie.After-judge) → EntriesBelow 256 (start c .args .second .now)
 second-bytes c j = c .before .before .shared-slice-known2 .given j .fits
 
 -- past the match, there is no fault

@@ -1,4 +1,4 @@
--- `appending::put_bytes` meets its contract. The loop's invariant: the first i bytes are copied. Assumes nothing.
+-- `copying::put_bytes` meets its contract. The loop's invariant: the first i bytes are copied. Assumes nothing.
 use Prim.Native.Nat.{ℕ, _+_, _-_, _≤_, _<_}
 use mathlib.Core.Path.{_≡_, refl, ap, _∙_}
 use mathlib.Core.List.{List, append-assoc}
@@ -8,8 +8,8 @@ use borrow.Author.Needs.{needs}
 use lib.ListN.{length, set, getD, take, drop, length-set}
 use lib.Seq.{paste, paste-zero, paste-suc, take-length}
 use Rattle.laws.specs.Lent.{stored}
-use Rattle.appending.proofs.put_bytes.Statement.{statement}
-use Rattle.appending.proofs.put_bytes.Tie as tie
+use Rattle.copying.proofs.put_bytes.Statement.{statement}
+use Rattle.copying.proofs.put_bytes.Tie as tie
 
 abbrev Inv-loop : tie.InvT-loop
 Inv-loop out₀ at piece i₀ out i = (i ≤ length piece) × (out ≡ paste out₀ at piece i) × (length out ≡ length out₀)
