@@ -67,7 +67,7 @@ module _ (a b : List ℕ) where
         JoinFault.sharedId one other (i .0) (j .0) (i .1) (j .1) (eqb-true _ _ (i .2))))
         (λ h. let apart : NoSharedId a b = shared-passed h in
         by-then P (refuse 12 0 (ltb 200 (pairsTogether a b))) _ (by-refuse P 12 0 _ (λ e. JoinFault.tooManyTogether one other apart (ltb-true _ _ e)))
-        (λ t. room-fault P space _
+        (λ t. room-fault P space (length (joinedSheet a b))
         (λ l. JoinFault.bufferTooShort (record { first = one; second = other; apart = apart; few = together-passed t })
         (rw length-joined at l))))))
 
