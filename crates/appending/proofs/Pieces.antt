@@ -47,7 +47,7 @@ module _ (a b : List ℕ) (n m : ℕ) (few : n ≡ pairsIn a) (more : m ≡ pair
   abbrev sheetBy : ℕ → List ℕ → ℕ → List ℕ → List ℕ
   sheetBy k ps size values = headField k ++ (ps ++ (bytes 1 shuffleTag ++ (bytes 2 size ++ values)))
 
-  pub joined-pieces : joinedSheet a b ≡ ((((headField (n + m) ++ pairs a n) ++ pairs b m) ++ shuffleStart) ++ numbers a n 0) ++ numbers b m n
+  joined-pieces : joinedSheet a b ≡ ((((headField (n + m) ++ pairs a n) ++ pairs b m) ++ shuffleStart) ++ numbers a n 0) ++ numbers b m n
   unfolding joinedSheet sheetOf shuffleField field
   joined-pieces =
       let ps = table n (pairAt a) ++ table m (pairAt b) in

@@ -4,31 +4,30 @@ use mathlib.Core.Path.{_≡_, sym, ap, _∙_}
 use mathlib.Core.Bool.{Bool, true, false}
 use mathlib.Core.List.{List}
 use borrow.Author.Tests.{lt-ltb, le-ltb}
-use lib.Dec.{eqb, ltb}
-use Rattle.laws.specs.Below.{anyBelow}
+use lib.Dec.{ltb}
 use Rattle.refusal.specs.Fault.{none, fault, refuse, _then_}
 use Rattle.refusal.specs.Number.{faultAt}
 use Rattle.refusal.specs.declared.Refusal.the-variants.{SharedId, TooManyTogether, TooShort}
 use Rattle.refusal.specs.declared.Verdict.the-variants.{Sound, Faulty}
 use Rattle.refusal.proofs.Faults.{none-then, fault-then, none-refuse, fault-refuse}
-use Rattle.pool.specs.Sheet.{sheetLength, pairsIn, pairAt}
+use Rattle.pool.specs.Sheet.{sheetLength, pairsIn}
 use Rattle.pool.specs.Faults.{sheetFault, roomFault}
-use Rattle.pool.specs.Joining.{sharedFault, togetherFault, bothFault, joinFault}
+use Rattle.pool.specs.Joining.{idInBoth, sharedFault, togetherFault, bothFault, joinFault}
 use Rattle.pool.proofs.Joined.{length-joined}
 
--- ## Two sheets of n and of m pairs: 11, 12, 9. `again` is whether an id is in both
+-- ## 11, 12, 9. `again` is whether an id is in both
 
-module _ (a b : List ℕ) (space n m : ℕ) (few : n ≡ pairsIn a) (more : m ≡ pairsIn b) (again : Bool)
-    (e : again ≡ anyBelow m (λ j. anyBelow n (λ i. eqb (pairAt a i .id) (pairAt b j .id)))) where
+module _ (a b : List ℕ) (space : ℕ) (again : Bool) (e : again ≡ idInBoth a b) where
   shared-is : sharedFault a b ≡ refuse 11 0 again
   unfolding sharedFault
-  shared-is = rw (← few, ← more) (ap (refuse 11 0) (sym e))
+  shared-is = ap (refuse 11 0) (sym e)
 
   pub both-shared : again ≡ true → faultAt 0 (Faulty SharedId) ≡ bothFault a b space
   unfolding faultAt bothFault
   both-shared h = sym (fault-then _ _ (shared-is ∙ fault-refuse 11 0 _ h))
 
-  module _ (apart : again ≡ false) where
+  -- of sheets of n and of m pairs
+  module _ (apart : again ≡ false) (n m : ℕ) (few : n ≡ pairsIn a) (more : m ≡ pairsIn b) where
     past-shared : bothFault a b space ≡ (refuse 12 0 (ltb 200 (n + m)) then roomFault space (sheetLength (n + m)))
     unfolding bothFault togetherFault
     past-shared =

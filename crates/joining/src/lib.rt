@@ -4,15 +4,10 @@ use refusal::Refusal;
 use refusal::Verdict;
 use scan::Found;
 ghost use mathlib.Core.Path.{_≡_};
-ghost use Prim.Native.Nat.{_≤_};
-ghost use lib.Dec.{eqb};
-ghost use lib.ListN.{length};
-ghost use Rattle.laws.specs.Below.{anyBelow};
 ghost use Rattle.refusal.specs.Answer.{outcome};
 ghost use Rattle.refusal.specs.Number.{faultAt};
-ghost use Rattle.pool.specs.Sheet.{pairPlace, pairAt};
 ghost use Rattle.pool.specs.Faultless.{FaultlessSheet};
-ghost use Rattle.pool.specs.Joining.{bothFault, joinFault, joining};
+ghost use Rattle.pool.specs.Joining.{idInBoth, bothFault, joinFault, joining};
 ghost use Rattle.pool.specs.Joinable.{JoinsRightly};
 ghost use Rattle.scan.specs.Answers.{foundFault};
 ghost use Rattle.joining.specs.Answers.{answerOf};
@@ -23,14 +18,13 @@ pub enum Joining {
     Refused(Refusal, usize),
 }
 
-// Is an id in both, in a sheet of n pairs and in one of m?
-fn shared(first: &[u8], n: usize, second: &[u8], m: usize) -> bool
-    requires { ⌜ (n ≤ 200) × (m ≤ 200) × (pairPlace n ≤ length (now first)) × (pairPlace m ≤ length (now second)) ⌝ }
-    ensures { λ r.
-        let a = now (first .entry) in
-        let b = now (second .entry) in
-        ⌜ r ≡ anyBelow m (λ j. anyBelow n (λ i. eqb (pairAt a i .id) (pairAt b j .id))) ⌝ }
+// Is an id in both sheets? The first's are noted, and each of the second's is looked for among them.
+fn shared(first: &[u8], second: &[u8]) -> bool
+    requires { ⌜ FaultlessSheet (now first) × FaultlessSheet (now second) ⌝ }
+    ensures { λ r. ⌜ r ≡ idInBoth (now (first .entry)) (now (second .entry)) ⌝ }
 {
+    let n = framing::pairs_in(first);
+    let m = framing::pairs_in(second);
     let mut ids = [0u32; 200];
     columns::fill_ids(first, n, &mut ids);
     let mut j: usize = 0;
@@ -49,11 +43,11 @@ fn both(first: &[u8], second: &[u8], space: usize) -> Verdict
     requires { ⌜ FaultlessSheet (now first) × FaultlessSheet (now second) ⌝ }
     ensures { λ r. ⌜ faultAt 0 r ≡ bothFault (now (first .entry)) (now (second .entry)) space ⌝ }
 {
-    let n = framing::pairs_in(first);
-    let m = framing::pairs_in(second);
-    if shared(first, n, second, m) {
+    if shared(first, second) {
         return Verdict::Faulty(Refusal::SharedId);
     }
+    let n = framing::pairs_in(first);
+    let m = framing::pairs_in(second);
     if n + m > 200 {
         return Verdict::Faulty(Refusal::TooManyTogether);
     }

@@ -99,7 +99,7 @@ module _ (a b : List ℕ) where
       let e2 : table (pairsTogether a b) joinedNumber ≡ numberList = table-getD _ numberList _ _ (length-tables _ _ _ _) (λ i l. refl) in
       joined-lists ∙ sym (λ k. record { pairs = e1 k; shuffle = e2 k })
 
-  pub joined-written : joinedSheet a b ≡ written (pairsTogether a b) joinedPair joinedNumber
+  joined-written : joinedSheet a b ≡ written (pairsTogether a b) joinedPair joinedNumber
   unfolding joinedSheet
   joined-written = ap sheetOf joined-pool ∙ sheet-written (pairsTogether a b) joinedPair joinedNumber
 
@@ -234,7 +234,7 @@ raised-twice : (n m : ℕ) (s : List ℕ) → map (λ v. v + (m + n)) s ≡ map 
 raised-twice n m s =
     ap (λ (f : ℕ → ℕ). map f s) (λ k v. (let e : v + (m + n) ≡ v + n + m = omega arith in e) k) ∙ sym (map-map (λ v. v + m) (λ v. v + n) s)
 
-pub joined-three : (p q r : Pool) → joinedPool (joinedPool p q) r ≡ joinedPool p (joinedPool q r)
+joined-three : (p q r : Pool) → joinedPool (joinedPool p q) r ≡ joinedPool p (joinedPool q r)
 unfolding joinedPool
 joined-three p q r =
     let n = length (p .pairs) in

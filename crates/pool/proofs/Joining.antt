@@ -18,7 +18,7 @@ use Rattle.refusal.proofs.Faults.{then-none, none-then, refuse-none, none-refus
 use Rattle.pool.specs.Sheet.{sheetLength, pairsIn, pairAt}
 use Rattle.pool.specs.Faults.{sheetFault}
 use Rattle.pool.specs.Tables.{filledTables}
-use Rattle.pool.specs.Joining.{joinedSheet, sharedFault, togetherFault, bothFault, joinFault, joining}
+use Rattle.pool.specs.Joining.{joinedSheet, idInBoth, sharedFault, togetherFault, bothFault, joinFault, joining}
 use Rattle.pool.specs.Faultless.{FaultlessSheet}
 use Rattle.pool.specs.Joinable.{NoSharedId, pairsTogether, Joinable, JoinFault, JoinsRightly, JoinedIsRead}
 use Rattle.pool.specs.Promises.{EntriesBelow}
@@ -33,12 +33,12 @@ module _ (a b : List ℕ) where
   sharedBy j = anyBelow (pairsIn a) (λ i. eqb (pairAt a i .id) (pairAt b j .id))
 
   shared-none : NoSharedId a b → sharedFault a b ≡ none
-  unfolding sharedFault
+  unfolding idInBoth sharedFault
   shared-none h =
       none-refuse 11 0 _ (none-any (pairsIn b) sharedBy (λ j l. none-any (pairsIn a) _ (λ i k. ne-eqb _ _ (h i j k l))))
 
   shared-passed : sharedFault a b ≡ none → NoSharedId a b
-  unfolding sharedFault
+  unfolding idInBoth sharedFault
   shared-passed e i j k l = eqb-false _ _ (any-none (pairsIn a) _ (any-none (pairsIn b) sharedBy (refuse-none _ _ _ e) j l) i k)
 
   together-none : pairsTogether a b ≤ 200 → togetherFault a b ≡ none
@@ -53,14 +53,14 @@ module _ (a b : List ℕ) where
 
   module _ (space : ℕ) where
     join-fault : (k o : ℕ) → joinFault a b space ≡ fault k o → JoinFault a b space k o
-    unfolding joinFault bothFault sharedFault togetherFault
+    unfolding idInBoth joinFault bothFault sharedFault togetherFault
     join-fault =
         let P = JoinFault a b space in
         by-then P (sheetFault a) _ (λ k o e. JoinFault.first k o (sheet-fault a k o e))
         (λ f. let one : FaultlessSheet a = sheet-passed a f in
         by-then P (sheetFault b) _ (λ k o e. JoinFault.second k o one (sheet-fault b k o e))
         (λ g. let other : FaultlessSheet b = sheet-passed b g in
-        by-then P (refuse 11 0 (anyBelow (pairsIn b) sharedBy)) _
+        by-then P (refuse 11 0 (idInBoth a b)) _
         (by-refuse P 11 0 _
         (λ e. let j = any-found (pairsIn b) sharedBy e in
         let i = any-found (pairsIn a) _ (j .2) in
@@ -99,7 +99,7 @@ module _ (a b : List ℕ) where
   -- ## The call
 
   module _ (out : List ℕ) where
-    pub joining-none : Joinable a b → sheetLength (pairsTogether a b) ≤ length out
+    joining-none : Joinable a b → sheetLength (pairsTogether a b) ≤ length out
         → joining a b out ≡ outcome (finished (length (joinedSheet a b))) (filled (joinedSheet a b) out)
     unfolding joining
     joining-none w l = unless-none _ _ _ _ (join-none (length out) w l)

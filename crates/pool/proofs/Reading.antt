@@ -138,6 +138,14 @@ module _ (b : List ℕ) where
 -- ## The call
 
 module _ (b : List ℕ) (t : Tables) where
+  reading-fault : (k o : ℕ) → reading b t .answer ≡ refused k o → ReadFault b t k o
+  unfolding reading
+  reading-fault k o e =
+      by-then (ReadFault b t) (sheetFault b) (roomFault (room t) (pairsIn b)) (λ j p h. ReadFault.sheet j p (sheet-fault b j p h))
+      (λ f. room-fault (ReadFault b t) (room t) (pairsIn b)
+      (λ l. ReadFault.tableTooShort (sheet-passed b f) (λ h. omega (arith, l, hold-room (pairsIn b) t h)))) k o
+      (refused-fault _ _ _ _ e)
+
   pub reading-none : FaultlessSheet b → TablesHold (pairsIn b) t → reading b t ≡ outcome (finished (pairsIn b)) (filledTables (poolOf b) t)
   unfolding reading
   reading-none s h =
@@ -149,14 +157,6 @@ module _ (b : List ℕ) (t : Tables) where
       let f = finished-none _ _ _ _ e in
       let s = then-none _ _ (f .0) in
       (sym (f .1), sheet-passed b (s .0), rw (← f .1) (room-hold (pairsIn b) t (room-passed (room t) (pairsIn b) (s .1))))
-
-  reading-fault : (k o : ℕ) → reading b t .answer ≡ refused k o → ReadFault b t k o
-  unfolding reading
-  reading-fault k o e =
-      by-then (ReadFault b t) _ _ (λ j p h. ReadFault.sheet j p (sheet-fault b j p h))
-      (λ f. room-fault (ReadFault b t) (room t) (pairsIn b)
-      (λ l. ReadFault.tableTooShort (sheet-passed b f) (λ h. omega (arith, l, hold-room (pairsIn b) t h)))) k o
-      (refused-fault _ _ _ _ e)
 
   reading-left : (k o : ℕ) → reading b t .answer ≡ refused k o → reading b t .lent ≡ t
   unfolding reading

@@ -1,5 +1,6 @@
 -- Document 02's W-201, "Late registrations join the sheet": the sheet of two, what is refused, and what joining answers and leaves. Assumes nothing.
 use Prim.Native.Nat.{ℕ, _+_}
+use mathlib.Core.Bool.{Bool}
 use mathlib.Core.List.{List, _++_, map}
 use lib.ListN.{length}
 use lib.Dec.{eqb, ltb}
@@ -19,9 +20,13 @@ joinedPool p q = record { pairs = p .pairs ++ q .pairs; shuffle = p .shuffle ++ 
 unfoldable pub joinedSheet : List ℕ → List ℕ → List ℕ
 joinedSheet a b = sheetOf (joinedPool (poolOf a) (poolOf b))
 
--- "It refuses 11 where an id is in both": it is that of a pair of the first, and of a pair of the second
+-- is an id in both: that of a pair of the first, and of a pair of the second?
+unfoldable pub idInBoth : List ℕ → List ℕ → Bool
+idInBoth a b = anyBelow (pairsIn b) (λ j. anyBelow (pairsIn a) (λ i. eqb (pairAt a i .id) (pairAt b j .id)))
+
+-- "It refuses 11 where an id is in both"
 unfoldable pub sharedFault : List ℕ → List ℕ → Fault
-sharedFault a b = refuse 11 0 (anyBelow (pairsIn b) (λ j. anyBelow (pairsIn a) (λ i. eqb (pairAt a i .id) (pairAt b j .id))))
+sharedFault a b = refuse 11 0 (idInBoth a b)
 
 -- "and 12 where the pairs exceed 200"
 unfoldable pub togetherFault : List ℕ → List ℕ → Fault

@@ -5,12 +5,13 @@ use mathlib.Core.Bool.{Bool, false}
 use mathlib.Core.List.{List}
 use native.Mathlib.Omega.{arith}
 use borrow.Author.Needs.{needs}
-use lib.Dec.{eqb}
+use lib.Dec.{eqb, lit≤}
 use Rattle.laws.specs.Below.{anyBelow}
 use Rattle.laws.proofs.Below.{any-hit, any-more, any-cong}
 use Rattle.laws.proofs.Digits.{bigEndian-lt}
 use Rattle.laws.proofs.Lent.{filled-at}
-use Rattle.pool.specs.Sheet.{pairAt}
+use Rattle.pool.specs.Sheet.{pairsIn, pairAt}
+use Rattle.pool.specs.Joining.{idInBoth}
 use Rattle.joining.proofs.shared.Statement.{statement}
 use Rattle.joining.proofs.shared.Tie as tie
 
@@ -18,18 +19,25 @@ use Rattle.joining.proofs.shared.Tie as tie
 abbrev again : List ℕ → ℕ → List ℕ → ℕ → Bool
 again a n b j = anyBelow n (λ i. eqb (pairAt a i .id) (pairAt b j .id))
 
+in-both : (a b : List ℕ) (n m : ℕ) → n ≡ pairsIn a → m ≡ pairsIn b → anyBelow m (again a n b) ≡ idInBoth a b
+unfolding idInBoth
+in-both a b n m e f = rw (e, f)
+
 abbrev Inv-loop : tie.InvT-loop
-Inv-loop first n second m ids j₀ j = (j ≤ m) × (anyBelow j (again first n second) ≡ false)
+Inv-loop first second n m ids j₀ j = (j ≤ m) × (anyBelow j (again first n second) ≡ false)
 
 abbrev μ-loop : tie.MeasureT-loop
-μ-loop first n second m ids j₀ j = m - j
+μ-loop first second n m ids j₀ j = m - j
 
 -- moments, each seen from a later one
 abbrev after-fill : tie.At-loop Inv-loop μ-loop → tie.After-fill-ids Inv-loop μ-loop
 after-fill c = c .before .before
 
+abbrev counted : tie.At-loop Inv-loop μ-loop → tie.After-pairs-in2 Inv-loop μ-loop
+counted c = after-fill c .before .before
+
 abbrev start : tie.At-loop Inv-loop μ-loop → tie.Start Inv-loop μ-loop
-start c = after-fill c .before .before .before .before
+start c = counted c .before .before .before .before
 
 abbrev at-loop : tie.After-number Inv-loop μ-loop → tie.At-loop Inv-loop μ-loop
 at-loop c = c .before .before .before
@@ -38,7 +46,7 @@ at-loop c = c .before .before .before
 found : (c : tie.After-among Inv-loop μ-loop)
     → let l = at-loop (c .before .before) in
     let s = start l .args in
-    c .among .result ≡ again (s .first .now) (s .n) (s .second .now) (l .loop .j)
+    c .among .result ≡ again (s .first .now) (counted l .before .pairs-in .result) (s .second .now) (l .loop .j)
 unfolding pairAt
 found c =
     let number = c .before .before in
@@ -47,13 +55,25 @@ found c =
     ∙ any-cong _ _ _
     (λ i k. ap₂ eqb (filled-at _ _ _ _ (after-fill l .fill-ids .ensures) i k) (rw (← number .before .pair-place .ensures) (number .number .ensures)))
 
+fill-ids-requires : tie.Need-fill-ids-requires Inv-loop μ-loop
+fill-ids-requires c κs =
+    let s = c .before .before .before .before .before in
+    let n = c .before .before .pairs-in .ensures in
+    let w = s .pre .0 in
+    (omega (arith, n, w .head .few), omega (arith, n, w .nothingAfter), omega (arith, n, w .head .few))
+
+number-requires : tie.Need-number-requires Inv-loop μ-loop
+number-requires c κs =
+    let l = c .before .before in
+    (lit≤ tt, omega (arith, c .pair-place .ensures, counted l .pairs-in2 .ensures, start l .pre .1 .nothingAfter))
+
 loop-holds : tie.Need-loop-holds Inv-loop μ-loop
 unfolding anyBelow
 loop-holds c = (omega arith, refl)
 
 cast-id : tie.Need-cast-id Inv-loop μ-loop
 cast-id c =
-    let known = after-fill (at-loop c) .before .before in
+    let known = counted (at-loop c) .before .before in
     let small : c .number .result < 256 ^ 4 = rw (c .number .ensures) (bigEndian-lt _ _ 4 (λ j. known .shared-slice-known2 .given j .fits)) in
     omega arith
 
@@ -61,26 +81,34 @@ returns : tie.Need-returns Inv-loop μ-loop
 returns c =
     let l = at-loop (c .before .before .before) in
     let s = start l .args in
+    let n = counted l .before .pairs-in in
+    let m = counted l .pairs-in2 in
     sym
-    (any-hit (s .m) (again (s .first .now) (s .n) (s .second .now)) (l .loop .j) (c .before .before .before .before .before .loop-test .taken)
-    (sym (found (c .before)) ∙ c .if1 .taken))
+    (any-hit (m .result) (again (s .first .now) (n .result) (s .second .now)) (l .loop .j)
+    (c .before .before .before .before .before .loop-test .taken) (sym (found (c .before)) ∙ c .if1 .taken))
+    ∙ in-both _ _ _ _ (n .ensures) (m .ensures)
 
 loop-again : tie.Need-loop-again Inv-loop μ-loop
 loop-again c =
     let l = at-loop (c .before .before .before) in
     let s = start l .args in
-    (omega arith, any-more (l .loop .j) (again (s .first .now) (s .n) (s .second .now)) (l .loop .inv .1) (sym (found (c .before)) ∙ c .if1 .left))
+    let n = counted l .before .pairs-in .result in
+    (omega arith, any-more (l .loop .j) (again (s .first .now) n (s .second .now)) (l .loop .inv .1) (sym (found (c .before)) ∙ c .if1 .left))
 
 returns-2 : tie.Need-returns-2 Inv-loop μ-loop
 returns-2 c =
     let s = start (c .before) .args in
+    let n = counted (c .before) .before .pairs-in in
+    let m = counted (c .before) .pairs-in2 in
     let l = c .before .loop in
-    let e : l .j ≡ s .m = omega arith in
-    sym (l .inv .1) ∙ ap (λ (k : ℕ). anyBelow k (again (s .first .now) (s .n) (s .second .now))) e
+    let e : l .j ≡ m .result = omega arith in
+    sym (l .inv .1)
+    ∙ ap (λ (k : ℕ). anyBelow k (again (s .first .now) (n .result) (s .second .now))) e
+    ∙ in-both _ _ _ _ (n .ensures) (m .ensures)
 
 pub shared-spec : {M : Type 1} → statement M
 shared-spec =
     tie.close
-    (tie.spec Inv-loop μ-loop (λ c. search needs) (λ c κs. search needs) loop-holds (λ c κs. search needs) (λ c. search needs)
-    (λ c κs. search needs) cast-id (λ c. search needs) (λ c κs. search needs) returns (λ c. search needs) (λ c. search needs)
-    loop-again returns-2)
+    (tie.spec Inv-loop μ-loop (λ c κs. search needs) (λ c κs. search needs) (λ c. search needs) fill-ids-requires loop-holds
+    (λ c κs. search needs) (λ c. search needs) number-requires cast-id (λ c. search needs) (λ c κs. search needs) returns (λ c. search needs)
+    (λ c. search needs) loop-again returns-2)
