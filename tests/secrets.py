@@ -58,9 +58,9 @@ pub fn evaluate(n: usize, m: &[u8], w: &[u16], s: &[u16], weights: &mut [u32], t
     'choosing': '''
 fn choose_part(n: usize, weights: &[u32], first: usize, u: usize, v: usize, w: usize, t: Tally) -> Won
 fn choose_halves(n: usize, weights: &[u32], first: usize, u: usize, v: usize, w: usize, t: Tally) -> Won
-fn choice(n: usize, weights: &[u32], t: Tally) -> Chosen
-fn chosen_in_round(n: usize, weights: &[u32], choices: &mut [u32], k: usize, t: Tally) -> Placed
-pub fn choose(n: usize, weights: &[u32], choices: &mut [u32], k: usize, tally: &mut Tally) -> SecretPlaces
+fn choice(n: usize, floor: u32, weights: &[u32], t: Tally) -> Chosen
+fn chosen_in_round(n: usize, floor: u32, weights: &[u32], choices: &mut [u32], k: usize, t: Tally) -> Placed
+pub fn choose(n: usize, floor: u32, weights: &[u32], choices: &mut [u32], k: usize, tally: &mut Tally) -> SecretPlaces
 ''',
     'clearing': '''
 fn all_cleared(n: usize, weights: &mut [u32], choice: SecretPlaces, t: Tally) -> Tally
@@ -68,7 +68,7 @@ fn cleared(n: usize, weights: &mut [u32], choice: SecretPlaces, left: usize, t: 
 pub fn clear(n: usize, weights: &mut [u32], choice: SecretPlaces, left: usize, tally: &mut Tally)
 ''',
     'rounds': '''
-pub fn all_rounds(n: usize, weights: &mut [u32], choices: &mut [u32], tally: &mut Tally)
+pub fn all_rounds(n: usize, floor: u32, weights: &mut [u32], choices: &mut [u32], tally: &mut Tally)
 ''',
 }
 DRIVERS = {crate: headers.split('\n')[1:-1] for crate, headers in DRIVERS.items()}
@@ -80,9 +80,6 @@ BRACKETS = {
     ('choosing', 'choose_halves'): ['&weights[..half]', '&weights[half..]'],
 }
 
-# The only constants: numbers that all know.
-CONSTANTS = ['const FLOOR: usize = 0;']
-
 # What may change: a loop's counter, cursor and tally.
 CHANGING = ['i', 'k', 'p', 'tally']
 
@@ -91,13 +88,21 @@ PLANNED = {
     'steps': '''
     let mut tally = gates::nothing_done();
     evaluation::evaluate(n, m, w, s, weights, &mut tally);
-    rounds::all_rounds(n, weights, choices, &mut tally);
+    rounds::all_rounds(n, floor, weights, choices, &mut tally);
     tally
 ''',
     'make': '''
     let all = cursor::count(n);
     let rounds = n / 2;
-    let tally = steps(n, m, w, s, &mut weights[..all], &mut choices[..rounds]);
+    let tally = steps(
+        n,
+        floor,
+        m,
+        w,
+        s,
+        &mut weights[..all],
+        &mut choices[..rounds],
+    );
     let resolved = resolution::resolve(
         n,
         m,
@@ -205,8 +210,6 @@ class Source:
         rest = '\n'.join(re.sub(r'//.*', '', line) for line in text.splitlines() if line.strip() not in self.clauses)
         self.uses = re.findall(r'^use ([^;]*);', rest, re.M)
         rest = re.sub(r'^use [^;]*;', '', rest, flags=re.M)
-        for constant in CONSTANTS:
-            rest = re.sub(rf'^{re.escape(constant)}$', '', rest, count=1, flags=re.M)
         self.structs = {name: ' '.join(struct.split()) for struct, name in re.findall(r'^(pub struct (\w+) \{[^{}]*\})', rest, re.M)}
         rest = re.sub(r'^pub struct \w+ \{[^{}]*\}', '', rest, flags=re.M)
         self.functions = {}
@@ -236,7 +239,7 @@ class Source:
 # ## The rules. Each takes the sources by crate, and gives a line for each thing that is wrong.
 
 def plain(sources):
-    """A source has uses of gates and the cursor, structs, the listed constants and functions, and nothing else; a clause has nothing after it; a body has `let`, `if`, `while`,
+    """A source has uses of gates and the cursor, structs and functions, and nothing else; a clause has nothing after it; a body has `let`, `if`, `while`,
     `return` and calls by name. A name is bound once, a secret by its value apart; no value with a tally in it is copied, made by hand or let go."""
     for crate in CRATES:
         source = sources[crate]
@@ -259,7 +262,7 @@ def plain(sources):
                 yield f'{crate}: {f.name} calls, or takes a field, by {call}'
             bound = list(f.params)
             for changing, name, kind, value in re.findall(r'\blet (mut )?(\w+)(: usize)? = ([^;]*);', f.body):
-                if name in bound and value not in (f'{name}.value', f'gates::known({name})'):
+                if name in bound and value not in (f'{name}.value', f'gates::known({name})', f'gates::known({name} as usize)'):
                     yield f'{crate}: {f.name} binds {name} again'
                 if changing and name not in CHANGING:
                     yield f'{crate}: {f.name} changes {name}'
@@ -516,7 +519,7 @@ CHEATS = [
      plain, 'evaluation: a clause has more on its line, or goes on: ghost use mathlib.Core.Path.{_'),
     ('evaluation', 'code between the lines of a clause', [('    requires { ⌜ Evaluating (upToThree n) (now m) (now w) (now s) (now weights) t ⌝ }\n', '    requires { ⌜ Evaluating (upToThree n) (now m) (now w) (now s) (now weights) t ⌝\n    }\n')],
      plain, 'evaluation: a clause has more on its line, or goes on: requires { ⌜ Evaluating (upToT'),
-    ('choosing', 'another constant', [('const FLOOR: usize = 0;\n', 'const FLOOR: usize = 0;\n\nconst MOST: usize = 9;\n')],
+    ('choosing', 'a constant', [('// A winner: its weight', 'const MOST: usize = 9;\n\n// A winner: its weight')],
      plain, 'choosing: has more than uses, structs and functions: const MOST: usize = 9;'),
     ('gates', 'a place bound again', [('    Secret { value: table[at] }\n', '    let at = at * 1;\n    Secret { value: table[at] }\n')], plain, 'gates: load_u32 binds at again'),
     ('choosing', 'a half that changes', [('    let half = weights.len() / 2;\n', '    let mut half = weights.len() / 2;\n    half -= half - 1;\n')], plain, 'choosing: choose_halves changes half'),
@@ -583,8 +586,8 @@ CHEATS = [
     ('cursor', 'a cursor that compares', [('// How many subsets there are', 'pub fn shows(p: usize) -> usize {\n    std::num::wrapping_add_usize(p, 1)\n}\n\n// How many subsets there are')],
      within, 'cursor: shows calls std::num::wrapping_add_usize'),
 
-    ('choosing', 'an equality test that is not tallied', [('    let floor = gates::known(FLOOR);\n', '    let floor = gates::demux_readout(n, best.at);\n')],
-     readout, 'choosing: final_test asks demux_readout(n, best.at)'),
+    ('choosing', 'an equality test that is not tallied', [('    let floor = gates::known(floor as usize);\n', '    let floor = gates::demux_readout(floor as usize, best.at);\n')],
+     readout, 'choosing: final_test asks demux_readout(floor as usize, best.at)'),
     ('clearing', 'a place asked twice', [('    let first = gates::product(', '    let seen = gates::demux_readout(p.u, choice);\n    let first = gates::product(')],
      readout, 'clearing: weight_after asks demux_readout(p.u, choice)'),
     ('clearing', 'an equality test of a weight', [('    let first = gates::product(', '    let same = SecretPlaces { u: x, v: x, w: x };\n    let seen = gates::demux_readout(p.u, same);\n    let first = gates::product(')],
@@ -610,7 +613,7 @@ CHEATS = [
      threaded, 'evaluation: evaluate goes on with the tally of old in each turn'),
     ('clearing', 'a tally that is thrown away', [('    if p.w == n {\n        return second;\n', '    if p.w == n {\n        return first;\n')],
      threaded, 'clearing: weight_after goes on with the tally of second 0 times'),
-    ('choosing', 'a tally that is begun anew', [('    let chosen = choice(n, weights, gates::begin_round(t));\n', '    let idle = gates::nothing_done();\n    let chosen = choice(n, weights, gates::begin_round(t));\n')],
+    ('choosing', 'a tally that is begun anew', [('    let chosen = choice(n, floor, weights, gates::begin_round(t));\n', '    let idle = gates::nothing_done();\n    let chosen = choice(n, floor, weights, gates::begin_round(t));\n')],
      threaded, 'choosing: chosen_in_round calls gates::nothing_done'),
     ('rounds', 'a tally that is looked at', [(ROUND, '        let counts = gates::counts_of(*tally);\n' + ROUND)], threaded, 'rounds: all_rounds calls gates::counts_of'),
 

@@ -17,18 +17,18 @@ top = pathlib.Path(__file__).resolve().parent.parent
 
 # lines of the source and of the descriptions
 CLEAR = '        clearing::clear(n, weights, at, choices.len() - k - 1, tally);\n'
-CHOOSES = """                relend(9, 10, 'weights'),
-                relend(11, 12, 'choices'),
-                relend_ref(13, 'tally'),
-                call(6, 'choosing::choose', ['n', 10, 12, 5, 13], 'asks-choose _ _ _ _ pre _ _ _ _ {inv} more'),
+CHOOSES = """                relend(10, 11, 'weights'),
+                relend(12, 13, 'choices'),
+                relend_ref(14, 'tally'),
+                call(7, 'choosing::choose', ['n', 'floor', 11, 13, 6, 14], 'asks-choose _ _ _ _ _ pre _ _ _ _ {inv} more'),
 """
-LENDS = "                relend(15, 16, 'weights'),\n"
-LEFT = """                length(7, 'choices'),
-                less(17, 7, 5, '{inv} .upto'),
-                less(18, 17, '1', 'omega (arith, more)'),
+LENDS = "                relend(16, 17, 'weights'),\n"
+LEFT = """                length(8, 'choices'),
+                less(18, 8, 6, '{inv} .upto'),
+                less(19, 18, '1', 'omega (arith, more)'),
 """
-CLEARS = """                relend_ref(19, 'tally'),
-                call(14, 'clearing::clear', ['n', 16, 6, 18, 19], 'asks-clear _ _ _ _ pre _ _ _ _ {inv} more _ _ _ e1'),
+CLEARS = """                relend_ref(20, 'tally'),
+                call(15, 'clearing::clear', ['n', 17, 7, 19, 20], 'asks-clear _ _ _ _ _ pre _ _ _ _ {inv} more _ _ _ e1'),
 """
 WRITES = "'write', 9, [\n        zero(4),\n        loop(\n            i=4, test=5"
 ASKED = 'written-asks pre {inv} more'
@@ -41,38 +41,47 @@ def renumbered(text, *pairs):
     return re.sub(r'(?<=[\[( ])\d+(?=[,\])])', lambda m: str(numbers.get(int(m[0]), m[0])), text)
 
 
+# the rounds with a local before their counter: all but the call of `choose`
+LATER = [('i=6, count=8, test=9', "i=7, count=9, test=10, rest='t-4'"), (LENDS + LEFT + CLEARS, renumbered(LENDS + LEFT + CLEARS, *((d, d + 1) for d in range(6, 21))))]
+
+
 # crate, function, what is changed; the changes of the code, and those of the description; the fact that is due, and the one in its place, or nothing where
 # the function still means the same
 CHANGES = [
     ('rounds', 'all_rounds', 'the rounds that are left are counted before the choice',
      [('        let at = choosing', '        let left = choices.len() - k - 1;\n        let at = choosing'), ('at, choices.len() - k - 1, tally', 'at, left, tally')],
-     [('count=7, test=8', 'count=8, test=9'), (CHOOSES, renumbered(LEFT, (7, 8), (17, 10), (18, 6)) + renumbered(CHOOSES, (6, 7), *((d, d + 2) for d in range(9, 14)))),
-      (LENDS + LEFT + CLEARS, renumbered(LENDS + CLEARS, (6, 7), (14, 16), (15, 17), (16, 18), (18, 6)))],
+     [('count=8, test=9', 'count=9, test=10'), (CHOOSES, renumbered(LEFT, (8, 9), (18, 11), (19, 7)) + renumbered(CHOOSES, (7, 8), *((d, d + 2) for d in range(10, 15)))),
+      (LENDS + LEFT + CLEARS, renumbered(LENDS + CLEARS, (7, 8), (15, 17), (16, 18), (17, 19), (19, 7)))],
      None, None),
 
     ('rounds', 'all_rounds', 'the weights are cleared after the last round too',
      [('choices.len() - k - 1', 'choices.len() - k')],
-     [("'all_rounds', 20", "'all_rounds', 19"), (LEFT, ''.join(LEFT.splitlines(True)[:2])), (CLEARS, renumbered(CLEARS, (18, 17), (19, 18)))],
+     [("'all_rounds', 21", "'all_rounds', 20"), (LEFT, ''.join(LEFT.splitlines(True)[:2])), (CLEARS, renumbered(CLEARS, (19, 18), (20, 19)))],
      'Rounds.clearBefore (length (choices .now) - j .0 - 1)', 'Rounds.clearBefore (length (choices .now) - j .0)'),
 
     ('rounds', 'all_rounds', 'the rounds that are done are taken for those that are left',
      [('choices.len() - k - 1', 'k')],
-     [("'all_rounds', 20", "'all_rounds', 18"), (LEFT, ''), (CLEARS, renumbered(CLEARS, (18, 5), (19, 17)))],
+     [("'all_rounds', 21", "'all_rounds', 19"), (LEFT, ''), (CLEARS, renumbered(CLEARS, (19, 6), (20, 18)))],
      'Rounds.clearBefore (length (choices .now) - j .0 - 1)', 'Rounds.clearBefore (j .0)'),
 
     ('rounds', 'all_rounds', 'nothing is cleared: all is chosen by the weights of round one',
      [(CLEAR, '')],
-     [("'all_rounds', 20", "'all_rounds', 14"), (LENDS + LEFT + CLEARS, ''), ('more _ _ _ e1 _ _ e2', 'more _ _ _ e1 {weights} {tally} (refl, refl)')],
+     [("'all_rounds', 21", "'all_rounds', 15"), (LENDS + LEFT + CLEARS, ''), ('more _ _ _ e1 _ _ e2', 'more _ _ _ e1 {weights} {tally} (refl, refl)')],
      'j .1 .0 ≡ Rounds.clearBefore (length (choices .now) - j .0 - 1)', 'j .1 .0 ≡ j .1 .0'),
 
     ('rounds', 'all_rounds', 'each choice is written in the place of the first',
      [('    let mut k: usize = 0;\n', '    let first: usize = 0;\n    let mut k: usize = 0;\n'), ('choices, k, tally', 'choices, first, tally')],
-     [("'all_rounds', 20, [\n        zero(5),", "'all_rounds', 21, [\n        zero(5), zero(6),"), ('i=5, count=7, test=8', "i=6, count=8, test=9, rest='t-4'"),
-      (CHOOSES, renumbered(CHOOSES, (6, 7), *((d, d + 1) for d in range(9, 14))).replace(
-          'asks-choose _ _ _ _ pre _ _ _ _ {inv} more',
-          'let t = asks-choose _ _ _ _ pre _ _ _ _ {inv} more in record { all = t .all; within = omega (arith, t .within); rounds = t .rounds }')),
-      (LENDS + LEFT + CLEARS, renumbered(LENDS + LEFT + CLEARS, *((d, d + 1) for d in range(5, 20))))],
+     [("'all_rounds', 21, [\n        zero(6),", "'all_rounds', 22, [\n        zero(6), zero(7),"), *LATER,
+      (CHOOSES, renumbered(CHOOSES, (7, 8), *((d, d + 1) for d in range(10, 15))).replace(
+          'asks-choose _ _ _ _ _ pre _ _ _ _ {inv} more',
+          'let t = asks-choose _ _ _ _ _ pre _ _ _ _ {inv} more in record { all = t .all; within = omega (arith, t .within); rounds = t .rounds }'))],
      'set (j .1 .1 .0) (j .0)', 'set (j .1 .1 .0) 0'),
+
+    ('rounds', 'all_rounds', 'the floor is not asked: all above 0 is chosen',
+     [('    let mut k: usize = 0;\n', '    let none: u32 = 0;\n    let mut k: usize = 0;\n'), ('(n, floor, weights', '(n, none, weights')],
+     [("'all_rounds', 21, [\n        zero(6),", "'all_rounds', 22, [\n        zero(6, 'u32'), zero(7),"), *LATER,
+      (CHOOSES, renumbered(CHOOSES, *((d, d + 1) for d in range(6, 15))).replace("'floor'", '6'))],
+     'choiceOf (upToThree n) floor', 'choiceOf (upToThree n) 0'),
 
     ('records', 'write', 'the counter begins as a copy',
      [('    let mut k = 0;\n', '    let first = 0;\n    let mut k = first;\n')],

@@ -26,7 +26,7 @@ nothing. The statements, over the locals as `rt mir` numbers them:
     lend(p, x)                   p = &mut x, where the local x holds a struct
     lend_array(p, s, x)          s = &mut x, as a slice, by way of the pointer p, where the local x holds an array
     let(d, x)                    d = x
-    zero(d)                      d = 0
+    zero(d), zero(d, 'u32')      d = 0
     length(d, 'xs')              d = xs.len()
     less(d, x, y, shows)         d = x - y, where `shows` shows y ≤ x; y may be a literal, as '1'
     make(d, 'S', [..])           d = S { .. }, of literals
@@ -557,8 +557,8 @@ class Walk:
         text, held = self.operand(x)
         self.assigns(d, f'of-opd ! {text}', held.kind.typed(held.term, held.fits), held)
 
-    def zero(self, d):
-        self.assigns(d, 'of-opd ! (lit ! tt)', '(tt, record { fits = lit< tt })', Held(Number('usize'), '0', '(lit< tt)'))
+    def zero(self, d, kind='usize'):
+        self.assigns(d, 'of-opd ! (lit ! tt)', '(tt, record { fits = lit< tt })', Held(Number(kind), '0', '(lit< tt)'))
 
     def length(self, d, xs):
         self.assigns(d, f'of-opd ! (load ! (from ! (fld ! refl (stop !))) (look-in ! {self.cell(self.place[xs])} (sub ! 1 refl (whole !))))',

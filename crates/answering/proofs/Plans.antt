@@ -42,14 +42,14 @@ square-most n l = mul-le-mul l l
 
 module _ (n : ℕ) (m k w v : ℕ → ℕ → ℕ) (s : List ℕ) (sh : Invertible n s) (bits : (i j : ℕ) → i < n → j < n → m i j ≤ 1)
     (alike : (i j : ℕ) → i < n → j < n → m i j ≡ k i j) (agree : (i j : ℕ) → i < n → j < n → w i j ≡ v i j) where
-  pub plan-agree : (ids : List ℕ) → planBy ids (input n m w s) ≡ planBy ids (input n k v s)
+  pub plan-agree : (ids : List ℕ) → planBy ids (input n noFloor m w s) ≡ planBy ids (input n noFloor k v s)
   unfolding planBy planFrom
   plan-agree ids =
       let a : (i j : ℕ) → i < n → j < n → (i ≡ j → ⊥) → m i j ≡ k i j = λ i j h l _. alike i j h l in
       let b : (i j : ℕ) → i < n → j < n → (i ≡ j → ⊥) → w i j ≡ v i j = λ i j h l _. agree i j h l in
-      let left : leftBy (input n m w s) ≡ leftBy (input n k v s) = left-agree n m k w v a b noFloor 3 s sh in
-      let cs : plannedBy (input n m w s) ≡ plannedBy (input n k v s) = planned-agree n m k w v a b noFloor 3 s sh in
-      let sum : total m w (plannedBy (input n m w s)) ≡ total k v (plannedBy (input n k v s)) =
+      let left : leftBy (input n noFloor m w s) ≡ leftBy (input n noFloor k v s) = left-agree n m k w v a b noFloor 3 s sh in
+      let cs : plannedBy (input n noFloor m w s) ≡ plannedBy (input n noFloor k v s) = planned-agree n m k w v a b noFloor 3 s sh in
+      let sum : total m w (plannedBy (input n noFloor m w s)) ≡ total k v (plannedBy (input n noFloor k v s)) =
       total-agree n m k w v a b 3 _ (planned-set noFloor 3 n m w s sh bits .exchanges) ∙ ap (total k v) cs in
       λ i. Printed.printedPlan n (length (cs i)) (sum i) ids (donorTable n (cs i)) (recipientTable n (cs i)) (left i .tally .comparisons)
       (left i .tally .products) (left i .tally .rounds)
@@ -60,14 +60,14 @@ module _ (n : ℕ) (m k w v : ℕ → ℕ → ℕ) (s : List ℕ) (sh : Invertib
 filled-start : (n : ℕ) (new old : List ℕ) → length new ≡ n → take n (filled new old) ≡ new
 filled-start n new old e = ap (λ (k : ℕ). take k (filled new old)) (sym e) ∙ take-filled new old
 
-module _ (n : ℕ) (M W s a b : List ℕ) (q : Planned) (d r : List ℕ) (w : Partnered (request n M W s) a b (planIn q) d r) where
-  first-donors : take n d ≡ donorTable n (plannedBy (inputOf (request n M W s)))
+module _ (n : ℕ) (M W s a b : List ℕ) (q : Planned) (d r : List ℕ) (w : Partnered (request n noFloor M W s) a b (planIn q) d r) where
+  first-donors : take n d ≡ donorTable n (plannedBy (inputOf (request n noFloor M W s)))
   unfolding donorTable
-  first-donors = ap (take n) (w .donors) ∙ filled-start n (donorTable n (plannedBy (inputOf (request n M W s)))) a (length-table n _)
+  first-donors = ap (take n) (w .donors) ∙ filled-start n (donorTable n (plannedBy (inputOf (request n noFloor M W s)))) a (length-table n _)
 
-  first-recipients : take n r ≡ recipientTable n (plannedBy (inputOf (request n M W s)))
+  first-recipients : take n r ≡ recipientTable n (plannedBy (inputOf (request n noFloor M W s)))
   unfolding recipientTable
-  first-recipients = ap (take n) (w .recipients) ∙ filled-start n (recipientTable n (plannedBy (inputOf (request n M W s)))) b (length-table n _)
+  first-recipients = ap (take n) (w .recipients) ∙ filled-start n (recipientTable n (plannedBy (inputOf (request n noFloor M W s)))) b (length-table n _)
 
   length-donors : n ≡ length (take n d)
   unfolding donorTable
@@ -82,7 +82,7 @@ module _ (n : ℕ) (M W s a b : List ℕ) (q : Planned) (d r : List ℕ) (w : Pa
     madePlan =
         Printed.printedPlan n (q .cycles) (q .weight) ids (take n d) (take n r) (q .tally .comparisons) (q .tally .products) (q .tally .rounds)
 
-    made-is : madePlan ≡ planBy ids (inputOf (request n M W s))
+    made-is : madePlan ≡ planBy ids (inputOf (request n noFloor M W s))
     unfolding planBy
     made-is i =
         let p : Plan = w .result i in
@@ -94,7 +94,7 @@ module _ (n : ℕ) (M W s a b : List ℕ) (q : Planned) (d r : List ℕ) (w : Pa
       hold = record { ids = held; donors = omega (arith, length-donors); recipients = omega (arith, length-recipients) }
 
       pub made-printed : (k : ℕ) → x ≡ Length k
-          → outcome (finished k) new ≡ putting (planText (planBy ids (inputOf (request n M W s)))) out
+          → outcome (finished k) new ≡ putting (planText (planBy ids (inputOf (request n noFloor M W s)))) out
       made-printed k g =
           plan-printed out new l x madePlan e u hold few k g ∙ ap (λ (p : Printed.PrintedPlan). putting (planText p) out) made-is
 

@@ -22,7 +22,7 @@ use Rattle.donation.proofs.Compatible.{compatibility-most}
 use Rattle.weighing.specs.declared.Building.{Building}
 use Rattle.weighing.specs.declared.Building.the-variants.{Refused}
 use Rattle.exchange.specs.Subsets.{entry}
-use Rattle.exchange.specs.Input.{input, inputOf, request}
+use Rattle.exchange.specs.Input.{noFloor, input, inputOf, request}
 use Rattle.exchange.specs.Faultless.{Compatibility}
 use Rattle.exchange.proofs.Inverse.{Invertible, invertible}
 use Rattle.answering.specs.Answering.{planBy, printedPlanOf}
@@ -50,7 +50,7 @@ module _ (n : ℕ) (pair : ℕ → Pair) (s : ℕ → ℕ) (w : Faultless n pair
   same-plan other t h g =
       plan-agree n (compatibility pair) (compatibility other) (weight documentPoints pair) (weight documentPoints other) (table n s) shuffle-seated
       (λ i j _ _. compatibility-most pair i j) (λ i j a b. rw (h i a, h j b)) (λ i j a b. rw (h i a, h j b)) (table n (λ i. pair i .id))
-      ∙ ap₂ (λ (ids shuffle : List ℕ). planBy ids (input n (compatibility other) (weight documentPoints other) shuffle))
+      ∙ ap₂ (λ (ids shuffle : List ℕ). planBy ids (input n noFloor (compatibility other) (weight documentPoints other) shuffle))
       (table-cong n _ _ (λ i l. ap (λ (q : Pair). q .id) (h i l))) g
 
 -- ## What was read is built
@@ -81,7 +81,7 @@ module _ (n : ℕ) (t : Tables) (p : Read n t) (old : Graph) (room : (1600 ≤ l
   unfolding entry
   compatible = let q = w .plannable surely in record { zeroOrOne = q .zeroOrOne; own = q .ownCompatibility }
 
-  pub plannable : (1600 ≤ length (new .compatibilities)) × (1600 ≤ length (new .weights)) → FaultlessTables (request n (new .compatibilities) (new .weights) (take n (t .shuffle)))
+  pub plannable : (1600 ≤ length (new .compatibilities)) × (1600 ≤ length (new .weights)) → FaultlessTables (request n noFloor (new .compatibilities) (new .weights) (take n (t .shuffle)))
   plannable h =
       let held : n ≤ length (t .shuffle) = p .faultless .hold .shuffle in
       record {
@@ -94,12 +94,12 @@ module _ (n : ℕ) (t : Tables) (p : Read n t) (old : Graph) (room : (1600 ≤ l
       }
 
   -- its plan is the pool's
-  pub plan-is : planBy (take n (t .fields .ids)) (inputOf (request n (new .compatibilities) (new .weights) (take n (t .shuffle))))
+  pub plan-is : planBy (take n (t .fields .ids)) (inputOf (request n noFloor (new .compatibilities) (new .weights) (take n (t .shuffle))))
       ≡ printedPlanOf n (pairIn (t .fields)) (λ j. getD (t .shuffle) j 0)
   unfolding printedPlanOf pairIn entry
   plan-is =
       let e = w .built surely in
-      ap₂ (λ (ids shuffle : List ℕ). planBy ids (inputOf (request n (new .compatibilities) (new .weights) shuffle)))
+      ap₂ (λ (ids shuffle : List ℕ). planBy ids (inputOf (request n noFloor (new .compatibilities) (new .weights) shuffle)))
       (taken n (t .fields .ids) (p .faultless .hold .fields .ids)) (taken n (t .shuffle) (p .faultless .hold .shuffle))
       ∙ plan-agree n (entry (new .compatibilities) n) (compatibility (pairIn (t .fields))) (entry (new .weights) n)
       (weight documentPoints (pairIn (t .fields))) _ (shuffle-seated n _ _ (p .faultless .pool)) (compatible .zeroOrOne) (e .compatibilities) (e .weights) _

@@ -36,12 +36,13 @@ use Rattle.answering.proofs.Pools.{shuffle-seated}
 
 pub built-is-planned : BuiltIsPlanned
 unfolding entry
-built-is-planned n f old g s t built left once long =
+built-is-planned n floor f old g s t built left low once long =
     let w = rightly n f old (finished tt) g (λ i. record { answer = sym built i; lent = left i }) in
     let z = w .plannable refl in
-    answers-rightly (request n _ _ s) t .accepts
+    answers-rightly (request n floor _ _ s) t .accepts
     (record {
       few = w .accepted refl .0 .few;
+      low = low;
       long = long;
       eachOnce = once;
       compatible = record { zeroOrOne = z .zeroOrOne; own = z .ownCompatibility };

@@ -11,7 +11,7 @@ use Rattle.pool.specs.Sheet.{pairsIn, pairAt, shuffleAt}
 use Rattle.pool.specs.Faults.{sheetFault, roomFault}
 use Rattle.donation.specs.Compatibility.{compatibility}
 use Rattle.donation.specs.Weight.{documentPoints, weight}
-use Rattle.exchange.specs.Input.{Input, input}
+use Rattle.exchange.specs.Input.{Input, noFloor, input}
 use Rattle.exchange.specs.Resolution.{donorTable, recipientTable}
 use Rattle.exchange.specs.Planning.{plannedBy, planFrom}
 use Rattle.buffers.specs.Most.{most}
@@ -23,9 +23,9 @@ planBy ids q =
     printedPlan (q .scope .pairs) (planFrom q .cycles) (planFrom q .weight) ids (donorTable (q .scope .pairs) (plannedBy q))
     (recipientTable (q .scope .pairs) (plannedBy q)) (planFrom q .tally .comparisons) (planFrom q .tally .products) (planFrom q .tally .rounds)
 
--- what is planned: n pairs, by their M(i, j) and W(i, j), and their shuffle
+-- what is planned: n pairs, by their M(i, j) and W(i, j), and their shuffle; "Floor 0 [..], and `plan` uses it"
 abbrev pub poolInput : ℕ → (ℕ → Pair) → (ℕ → ℕ) → Input
-poolInput n pair s = input n (compatibility pair) (weight documentPoints pair) (table n s)
+poolInput n pair s = input n noFloor (compatibility pair) (weight documentPoints pair) (table n s)
 
 unfoldable pub printedPlanOf : ℕ → (ℕ → Pair) → (ℕ → ℕ) → PrintedPlan
 printedPlanOf n pair s = planBy (table n (λ i. pair i .id)) (poolInput n pair s)

@@ -14,7 +14,7 @@ use Rattle.weighing.specs.Building.{building}
 use Rattle.greedy.specs.Tally.{tally}
 use Rattle.exchange.specs.Subsets.{pairsAt}
 use Rattle.exchange.specs.Input.{Input, request}
-use Rattle.exchange.specs.Planning.{Lent, Plan, planning}
+use Rattle.exchange.specs.Planning.{Lent, Plan, mostFloor, planning}
 use Rattle.exchange.specs.Algorithm1 as Algorithm1
 use Rattle.exchange.specs.Faultless.{LongEnough}
 use Rattle.exchange.specs.Rivals.{ExchangeSetOf, weightIn}
@@ -23,15 +23,16 @@ use Rattle.printout.specs.Printed.{PrintedPlan, planText, refusalText}
 use Rattle.buffers.specs.Most.{most}
 use Rattle.answering.specs.Answering.{poolInput, putting, answering}
 
--- tables that were built are planned, with any shuffle and any tables that are long enough: they have no fault 10
+-- tables that were built are planned, with any shuffle, any floor up to the greatest and any tables that are long enough: they have no fault 10
 abbrev pub BuiltIsPlanned : Type 0
 BuiltIsPlanned =
-    (n : ℕ) (f : Fields) (old g : Graph) (s : List ℕ) (t : Lent)
+    (n floor : ℕ) (f : Fields) (old g : Graph) (s : List ℕ) (t : Lent)
     → building documentPoints n f old .answer ≡ finished tt
     → g ≡ building documentPoints n f old .lent
+    → floor ≤ mostFloor
     → EachOnce n (λ j. getD s j 0)
-    → LongEnough (request n (g .compatibilities) (g .weights) s) t
-    → (p : Plan) × (planning (request n (g .compatibilities) (g .weights) s) t .answer ≡ finished p)
+    → LongEnough (request n floor (g .compatibilities) (g .weights) s) t
+    → (p : Plan) × (planning (request n floor (g .compatibilities) (g .weights) s) t .answer ≡ finished p)
 
 -- ## Demands 2 and 3, for the plan p that is printed of q
 

@@ -12,7 +12,7 @@ ghost use Rattle.refusal.specs.Answer.{finished, outcome};
 ghost use Rattle.refusal.specs.Number.{numberOf};
 ghost use Rattle.pool.specs.Tables.{pairIn};
 ghost use Rattle.pool.specs.Lent.{lentTables, tablesNow};
-ghost use Rattle.exchange.specs.Input.{inputOf, request};
+ghost use Rattle.exchange.specs.Input.{noFloor, inputOf, request};
 ghost use Rattle.printout.specs.Printed.{planText, refusalText};
 ghost use Rattle.buffers.specs.Preconditions.{FaultlessTables};
 ghost use Rattle.answering.specs.Answering.{planBy, printedPlanOf, putting};
@@ -28,9 +28,9 @@ fn print_planned(
     shuffle: &[u16],
     out: &mut [u8; 1458],
 ) -> usize
-    requires { ⌜ FaultlessTables (request n (now m) (now w) (now shuffle)) × (n ≤ length (now ids)) ⌝ }
+    requires { ⌜ FaultlessTables (request n noFloor (now m) (now w) (now shuffle)) × (n ≤ length (now ids)) ⌝ }
     ensures { λ r.
-        let a = request n (now (m .entry)) (now (w .entry)) (now (shuffle .entry)) in
+        let a = request n noFloor (now (m .entry)) (now (w .entry)) (now (shuffle .entry)) in
         let plan = planBy (now (ids .entry)) (inputOf a) in
         ⌜ outcome (finished r) (now (out .exit)) ≡ putting (planText plan) (now (out .entry)) ⌝ }
 {

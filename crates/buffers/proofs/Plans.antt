@@ -11,7 +11,7 @@ use Rattle.refusal.specs.declared.Refusal.{Refusal}
 use Rattle.refusal.proofs.Faults.{unless-none, finished-none}
 use Rattle.cycle.specs.declared.Cycle.{Cycle}
 use Rattle.exchange.specs.Subsets.{upToThree, subsetCount}
-use Rattle.exchange.specs.Input.{Request, inputOf, request}
+use Rattle.exchange.specs.Input.{Request, inputOf, noFloor, request}
 use Rattle.exchange.specs.Planning.{Lent, Plan, planFrom, filledLent, planning}
 use Rattle.exchange.specs.Faultless.{FaultlessInput}
 use Rattle.exchange.specs.Promises.{PlansRightly}
@@ -40,7 +40,7 @@ subsets-most n l = elim (decLe n 39) [
   | no k ↦ let cube : n * n * n ≤ 64000 = mul-le-mul (mul-le-mul l l) l in omega (arith, six-times n)
 ]
 
-module _ (n : ℕ) (M W s : List ℕ) (p : FaultlessTables (request n M W s)) (t : Lent) where
+module _ (n : ℕ) (M W s : List ℕ) (p : FaultlessTables (request n noFloor M W s)) (t : Lent) where
   -- lent tables for 40 pairs
   pub record Roomy : Type 0 where
     pub weights : 10660 ≤ length (t .weights)
@@ -51,12 +51,13 @@ module _ (n : ℕ) (M W s : List ℕ) (p : FaultlessTables (request n M W s)) (t
 
   module _ (r : Roomy) where
     abbrev a : Request
-    a = request n M W s
+    a = request n noFloor M W s
 
     accepted : FaultlessInput a t
     accepted =
         record {
           few = omega (arith, p .few);
+          low = omega arith;
           long =
               record {
                 compatibility = p .compatibilities;

@@ -5,10 +5,13 @@ use planner::Planning;
 ghost use mathlib.Core.Path.{_≡_};
 ghost use Prim.Native.Nat.{_≤_};
 ghost use lib.ListN.{length};
-ghost use Rattle.exchange.specs.Input.{request};
+ghost use Rattle.exchange.specs.Input.{noFloor, request};
 ghost use Rattle.exchange.specs.Planning.{lent};
 ghost use Rattle.planner.specs.Answers.{planIn, answerOf};
 ghost use Rattle.buffers.specs.Preconditions.{FaultlessTables, noRecords, Recorded, Partnered};
+
+// "Floor 0 [..], and `plan` uses it."
+const FLOOR: u32 = 0;
 
 // A table of records for 40 pairs.
 fn no_records() -> [Cycle; 20]
@@ -24,6 +27,7 @@ fn no_records() -> [Cycle; 20]
 // Plans, and lends a table for the records, which are not printed.
 fn plan_recorded(
     n: usize,
+    floor: u32,
     m: &[u8],
     w: &[u16],
     shuffle: &[u16],
@@ -33,7 +37,7 @@ fn plan_recorded(
     recipients: &mut [u16],
 ) -> Planning
     ensures { λ r.
-        let a = request n (now (m .entry)) (now (w .entry)) (now (shuffle .entry)) in
+        let a = request n floor (now (m .entry)) (now (w .entry)) (now (shuffle .entry)) in
         let old = lent (now (weights .entry)) (now (choices .entry)) (now (donors .entry)) (now (recipients .entry)) in
         let new = lent (now (weights .exit)) (now (choices .exit)) (now (donors .exit)) (now (recipients .exit)) in
         ⌜ Recorded a old new (answerOf r) ⌝ }
@@ -41,6 +45,7 @@ fn plan_recorded(
     let mut records = no_records();
     planner::plan(
         n,
+        floor,
         m,
         w,
         shuffle,
@@ -61,9 +66,9 @@ pub fn plan_tables(
     donors: &mut [u16],
     recipients: &mut [u16],
 ) -> Planned
-    requires { ⌜ FaultlessTables (request n (now m) (now w) (now shuffle)) × (n ≤ length (now donors)) × (n ≤ length (now recipients)) ⌝ }
+    requires { ⌜ FaultlessTables (request n noFloor (now m) (now w) (now shuffle)) × (n ≤ length (now donors)) × (n ≤ length (now recipients)) ⌝ }
     ensures { λ r.
-        let a = request n (now (m .entry)) (now (w .entry)) (now (shuffle .entry)) in
+        let a = request n noFloor (now (m .entry)) (now (w .entry)) (now (shuffle .entry)) in
         ⌜ Partnered a (now (donors .entry)) (now (recipients .entry)) (planIn r) (now (donors .exit)) (now (recipients .exit)) ⌝ }
 {
     // 40 pairs have (40³ − 40) / 6 subsets and 20 rounds.
@@ -71,6 +76,7 @@ pub fn plan_tables(
     let mut choices = [0u32; 20];
     match plan_recorded(
         n,
+        FLOOR,
         m,
         w,
         shuffle,

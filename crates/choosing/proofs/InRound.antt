@@ -8,7 +8,6 @@ use Rattle.greedy.specs.Tally as Tallies
 use Rattle.greedy.specs.Tally.{nextRound}
 use Rattle.greedy.specs.Rounds as Rounds
 use Rattle.greedy.specs.Rounds.{choosing}
-use Rattle.exchange.specs.Input.{noFloor}
 use Rattle.exchange.specs.Subsets.{upToThree, order}
 use Rattle.gates.specs.Counting.{counted}
 use Rattle.gates.specs.Secrets.{valueOf}
@@ -30,13 +29,13 @@ module _ (n : ℕ) (ws cs : List ℕ) (k : ℕ) (t : Tally) (asked : Turn (upToT
     };
   }
 
-  module _ (c : Chosen) (ec : (choiceMade c ≡ choosing noFloor (order (upToThree n)) ws (counted v)) × (shown (c .at) ≡ placesAt (upToThree n) (valueOf (c .number)))) where
-    chosen-is : choiceMade c ≡ choiceOf (upToThree n) ws t
-    chosen-is = ec .0 ∙ ap (choosing noFloor (order (upToThree n)) ws) ev
+  module _ (f : ℕ) (c : Chosen) (ec : (choiceMade c ≡ choosing f (order (upToThree n)) ws (counted v)) × (shown (c .at) ≡ placesAt (upToThree n) (valueOf (c .number)))) where
+    chosen-is : choiceMade c ≡ choiceOf (upToThree n) f ws t
+    chosen-is = ec .0 ∙ ap (choosing f (order (upToThree n)) ws) ev
 
-    number-is : valueOf (c .number) ≡ choiceOf (upToThree n) ws t .number
+    number-is : valueOf (c .number) ≡ choiceOf (upToThree n) f ws t .number
     number-is = ap (λ (x : Rounds.Chosen). x .number) chosen-is
 
     pub stored-is : (after : List ℕ) → after ≡ set cs k (valueOf (c .number))
-        → (after ≡ set cs k (choiceOf (upToThree n) ws t .number)) × (counted (c .tally) ≡ choiceOf (upToThree n) ws t .tally) × (shown (c .at) ≡ placesAt (upToThree n) (choiceOf (upToThree n) ws t .number))
+        → (after ≡ set cs k (choiceOf (upToThree n) f ws t .number)) × (counted (c .tally) ≡ choiceOf (upToThree n) f ws t .tally) × (shown (c .at) ≡ placesAt (upToThree n) (choiceOf (upToThree n) f ws t .number))
     stored-is after e = (e ∙ ap (set cs k) number-is, ap (λ (x : Rounds.Chosen). x .tally) chosen-is, ec .1 ∙ ap (placesAt (upToThree n)) number-is)

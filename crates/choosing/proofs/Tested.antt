@@ -11,7 +11,6 @@ use Rattle.greedy.specs.Tally as Tallies
 use Rattle.greedy.specs.Tally.{raise}
 use Rattle.greedy.specs.Rounds as Rounds
 use Rattle.greedy.specs.Rounds.{Winner, choosing}
-use Rattle.exchange.specs.Input.{noFloor}
 use Rattle.exchange.specs.Subsets.{upToThree, order, subsetCount}
 use Rattle.gates.specs.Counting.{counted, Raised, TallyRoom}
 use Rattle.gates.specs.Secrets.{valueOf}
@@ -54,16 +53,16 @@ module _ (n : ℕ) (ws : List ℕ) (t : Tally) (asked : Whole (upToThree n) ws t
       );
     }
 
-    pub chosen : (c : Chosen) → valueOf (c .number) ≡ cond (ltb 0 (valueOf (r .best .weight))) (valueOf (r .best .number)) (length ws)
-        → shown (c .at) ≡ cond (ltb 0 (valueOf (r .best .weight))) (shown (r .best .at)) (places n n n) → Raised 1 4 (r .tally) (c .tally)
-        → (choiceMade c ≡ choosing noFloor (order (upToThree n)) ws (counted t)) × (shown (c .at) ≡ placesAt (upToThree n) (valueOf (c .number)))
+    pub chosen : (f : ℕ) (c : Chosen) → valueOf (c .number) ≡ cond (ltb f (valueOf (r .best .weight))) (valueOf (r .best .number)) (length ws)
+        → shown (c .at) ≡ cond (ltb f (valueOf (r .best .weight))) (shown (r .best .at)) (places n n n) → Raised 1 4 (r .tally) (c .tally)
+        → (choiceMade c ≡ choosing f (order (upToThree n)) ws (counted t)) × (shown (c .at) ≡ placesAt (upToThree n) (valueOf (c .number)))
     unfolding choosing
-    chosen c ei ea es = (
+    chosen f c ei ea es = (
       chosens
-          (ei ∙ ap (λ (k : ℕ). cond (ltb 0 (valueOf (r .best .weight))) (valueOf (r .best .number)) k) (asked .whole)
-          ∙ ap (λ (x : Winner). cond (ltb 0 (x .weight)) (x .number) (subsetCount (upToThree n))) (er .0))
+          (ei ∙ ap (λ (k : ℕ). cond (ltb f (valueOf (r .best .weight))) (valueOf (r .best .number)) k) (asked .whole)
+          ∙ ap (λ (x : Winner). cond (ltb f (x .weight)) (x .number) (subsetCount (upToThree n))) (er .0))
           (raised 1 4 (r .tally) (c .tally) es ∙ ap (λ (x : Winner). raise 1 4 (x .tally)) (er .0)),
-      ea ∙ go (ltb 0 (valueOf (r .best .weight))) ei,
+      ea ∙ go (ltb f (valueOf (r .best .weight))) ei,
     )
       where
         go : (b : Bool) → valueOf (c .number) ≡ cond b (valueOf (r .best .number)) (length ws)
@@ -73,22 +72,22 @@ module _ (n : ℕ) (ws : List ℕ) (t : Tally) (asked : Whole (upToThree n) ws t
 
 -- ## The test by gates
 
-module _ (n none : ℕ) (best : Best) (zero′ bit : ℕ) (ez : zero′ ≡ 0) (eb : bit ≡ one (ltb zero′ (valueOf (best .weight)))) where
+module _ (n f none : ℕ) (best : Best) (floor bit : ℕ) (ef : floor ≡ f) (eb : bit ≡ one (ltb floor (valueOf (best .weight)))) where
   above : Bool
-  above = ltb 0 (valueOf (best .weight))
+  above = ltb f (valueOf (best .weight))
 
   by : (x y y′ k : ℕ) → k ≡ cond (eqb bit 1) x y′ → y′ ≡ y → k ≡ cond above x y
   unfolding above
   by x y y′ k e ey =
-      pick-by above bit x y k (eb ∙ ap (λ (z : ℕ). one (ltb z (valueOf (best .weight)))) ez) (e ∙ ap (cond (eqb bit 1) x) ey)
+      pick-by above bit x y k (eb ∙ ap (λ (z : ℕ). one (ltb z (valueOf (best .weight)))) ef) (e ∙ ap (cond (eqb bit 1) x) ey)
 
-  pub number-is : (past i : ℕ) → past ≡ none → i ≡ cond (eqb bit 1) (valueOf (best .number)) past → i ≡ cond (ltb noFloor (valueOf (best .weight))) (valueOf (best .number)) none
+  pub number-is : (past i : ℕ) → past ≡ none → i ≡ cond (eqb bit 1) (valueOf (best .number)) past → i ≡ cond (ltb f (valueOf (best .weight))) (valueOf (best .number)) none
   unfolding above
   number-is past i ep ei = by _ _ _ i ei ep
 
   pub places-are-tested : (nowhere u v w : ℕ) → nowhere ≡ n
       → u ≡ cond (eqb bit 1) (valueOf (best .at .u)) nowhere → v ≡ cond (eqb bit 1) (valueOf (best .at .v)) nowhere → w ≡ cond (eqb bit 1) (valueOf (best .at .w)) nowhere
-      → places u v w ≡ cond (ltb noFloor (valueOf (best .weight))) (shown (best .at)) (places n n n)
+      → places u v w ≡ cond (ltb f (valueOf (best .weight))) (shown (best .at)) (places n n n)
   unfolding above
   places-are-tested nowhere u v w en eu ev ew = places-are (by _ _ _ u eu en) (by _ _ _ v ev en) (by _ _ _ w ew en) ∙ go above
     where

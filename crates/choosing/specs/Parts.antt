@@ -5,7 +5,6 @@ use mathlib.Core.List.{List}
 use lib.ListN.{length}
 use Rattle.greedy.specs.Rounds as Rounds
 use Rattle.exchange.specs.Subsets.{Scope, order, subsetCount}
-use Rattle.exchange.specs.Input.{noFloor}
 use Rattle.gates.specs.Counting.{counted, TallyRoom}
 use Rattle.gates.specs.Secrets.{valueOf}
 use Rattle.gates.specs.declared.Tally.{Tally}
@@ -22,9 +21,9 @@ wonBy r = Rounds.winner (valueOf (r .best .weight)) (valueOf (r .best .number)) 
 abbrev pub choiceMade : Chosen → Rounds.Chosen
 choiceMade r = record { number = valueOf (r .number); tally = counted (r .tally) }
 
--- the choice of a round that begins with the tally t
-abbrev pub choiceOf : Scope → List ℕ → Tally → Rounds.Chosen
-choiceOf q weights t = Rounds.chosenIn noFloor (order q) weights (counted t)
+-- the choice above the floor f, of a round that begins with the tally t
+abbrev pub choiceOf : Scope → ℕ → List ℕ → Tally → Rounds.Chosen
+choiceOf q f weights t = Rounds.chosenIn f (order q) weights (counted t)
 
 -- the cursor stands at the subset of this number
 pub record Standing (q : Scope) (number : ℕ) (p : Places) : Type 0 where

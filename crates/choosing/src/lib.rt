@@ -11,14 +11,10 @@ ghost use lib.Dec.{ltb};
 ghost use lib.ListN.{length, set};
 ghost use Rattle.greedy.specs.Rounds.{winner, byHalves, choosing};
 ghost use Rattle.exchange.specs.Subsets.{upToThree, order};
-ghost use Rattle.exchange.specs.Input.{noFloor};
 ghost use Rattle.gates.specs.Counting.{counted, TallyRoom, Raised};
 ghost use Rattle.gates.specs.Secrets.{valueOf};
 ghost use Rattle.cursor.specs.Cursor.{OnSubset, places, shown, placesAt};
 ghost use Rattle.choosing.specs.Parts.{wonBy, choiceMade, choiceOf, Standing, Part, Whole, Turn};
-
-// What a subset must weigh more than to be chosen.
-const FLOOR: usize = 0;
 
 // A winner: its weight, its number and its places.
 pub struct Best {
@@ -179,14 +175,14 @@ fn choose_halves(
 }
 
 // The final test: the winner, or none where it is not above the floor. 1 comparison and 4 products; `none` is the number of all subsets.
-fn final_test(n: usize, none: usize, best: Best, t: Tally) -> Chosen
+fn final_test(n: usize, floor: u32, none: usize, best: Best, t: Tally) -> Chosen
     requires { ⌜ (n < 2 ^ 32) × (none < 2 ^ 32) × TallyRoom 1 4 t ⌝ }
     ensures { λ r.
-        ⌜ (valueOf (r .number) ≡ cond (ltb noFloor (valueOf (best .weight))) (valueOf (best .number)) none)
-        × (shown (r .at) ≡ cond (ltb noFloor (valueOf (best .weight))) (shown (best .at)) (places n n n))
+        ⌜ (valueOf (r .number) ≡ cond (ltb floor (valueOf (best .weight))) (valueOf (best .number)) none)
+        × (shown (r .at) ≡ cond (ltb floor (valueOf (best .weight))) (shown (best .at)) (places n n n))
         × Raised 1 4 t (r .tally) ⌝ }
 {
-    let floor = gates::known(FLOOR);
+    let floor = gates::known(floor as usize);
     let none = gates::known(none);
     let nowhere = gates::known(n);
     let some = gates::comparison(floor, best.weight, t);
@@ -207,28 +203,36 @@ fn final_test(n: usize, none: usize, best: Best, t: Tally) -> Chosen
     }
 }
 
-// The choice: "the lowest-numbered subset of greatest weight; if that weight is 0 the choice is n, meaning none".
-fn choice(n: usize, weights: &[u32], t: Tally) -> Chosen
+// The choice: "the lowest-numbered subset of greatest weight", "only if its weight is above the floor"; else "the choice is n, meaning none".
+fn choice(n: usize, floor: u32, weights: &[u32], t: Tally) -> Chosen
     requires { ⌜ Whole (upToThree n) (now weights) t ⌝ }
     ensures { λ r.
-        ⌜ (choiceMade r ≡ choosing noFloor (order (upToThree n)) (now (weights .entry)) (counted t))
+        ⌜ (choiceMade r ≡ choosing floor (order (upToThree n)) (now (weights .entry)) (counted t))
         × (shown (r .at) ≡ placesAt (upToThree n) (valueOf (r .number))) ⌝ }
 {
     let start = cursor::first(n);
     let won = choose_part(n, weights, 0, start.u, start.v, start.w, t);
     let best = won.best;
-    final_test(n, weights.len(), best, won.tally)
+    final_test(n, floor, weights.len(), best, won.tally)
 }
 
 // Round k begins, and its choice is stored.
-fn chosen_in_round(n: usize, weights: &[u32], choices: &mut [u32], k: usize, t: Tally) -> Placed
+fn chosen_in_round(
+    n: usize,
+    floor: u32,
+    weights: &[u32],
+    choices: &mut [u32],
+    k: usize,
+    t: Tally,
+) -> Placed
     requires { ⌜ Turn (upToThree n) (now weights) (now choices) k t ⌝ }
     ensures { λ r.
-        ⌜ (now (choices .exit) ≡ set (now (choices .entry)) k (choiceOf (upToThree n) (now (weights .entry)) t .number))
-        × (counted (r .tally) ≡ choiceOf (upToThree n) (now (weights .entry)) t .tally)
-        × (shown (r .at) ≡ placesAt (upToThree n) (choiceOf (upToThree n) (now (weights .entry)) t .number)) ⌝ }
+        let c = choiceOf (upToThree n) floor (now (weights .entry)) t in
+        ⌜ (now (choices .exit) ≡ set (now (choices .entry)) k (c .number))
+        × (counted (r .tally) ≡ c .tally)
+        × (shown (r .at) ≡ placesAt (upToThree n) (c .number)) ⌝ }
 {
-    let chosen = choice(n, weights, gates::begin_round(t));
+    let chosen = choice(n, floor, weights, gates::begin_round(t));
     gates::store_u32(choices, k, chosen.number);
     let at = chosen.at;
     let tally = chosen.tally;
@@ -241,6 +245,7 @@ fn chosen_in_round(n: usize, weights: &[u32], choices: &mut [u32], k: usize, t: 
 // The step: it raises the lent tally, and gives the places of the choice.
 pub fn choose(
     n: usize,
+    floor: u32,
     weights: &[u32],
     choices: &mut [u32],
     k: usize,
@@ -248,13 +253,13 @@ pub fn choose(
 ) -> SecretPlaces
     requires { ⌜ Turn (upToThree n) (now weights) (now choices) k (now tally) ⌝ }
     ensures { λ r.
-        let c = choiceOf (upToThree n) (now (weights .entry)) (now (tally .entry)) in
+        let c = choiceOf (upToThree n) floor (now (weights .entry)) (now (tally .entry)) in
         ⌜ (now (choices .exit) ≡ set (now (choices .entry)) k (c .number))
         × (counted (now (tally .exit)) ≡ c .tally)
         × (shown r ≡ placesAt (upToThree n) (c .number)) ⌝ }
 {
     let old = *tally;
-    let made = chosen_in_round(n, weights, choices, k, old);
+    let made = chosen_in_round(n, floor, weights, choices, k, old);
     *tally = made.tally;
     made.at
 }

@@ -1,4 +1,4 @@
--- k1 to k12, computed. Assumes nothing.
+-- k1 to k12, and floors, computed. Assumes nothing.
 use mathlib.Core.Path.{_≡_, refl}
 use mathlib.Core.List.{[], _∷_, flatMap}
 use mathlib.Core.Bool.{false}
@@ -16,24 +16,30 @@ use Rattle.greedy.specs.Rounds.{join, byHalves, choosing, clear, clearingTally,
 use Rattle.exchange.specs.Subsets.{ascending, subsets, eachFirst, orders, cycles, along, edges, entry, productOf, sumOf, weigh, firstOf, heaviest, pairsAt, bestCycle, subsetWeight, evaluationTally}
 use Rattle.exchange.specs.Resolution.{resolved, recordOf, recipientBy, donorBy, recipientTable, donorTable, total}
 use Rattle.exchange.specs.Planning.{tableFault, shortToRead, shortToFill, planFault, leftBy, plannedBy, planFrom, filledLent, planning}
-use Rattle.exchange.specs.Pools.{read, tableOf, blank, foundIn, found, k8edges, PoolsComeOut, FirstFaultTold, PastUnchanged, RivalOfK8}
+use Rattle.exchange.specs.Pools.{read, tableOf, blank, foundIn, found, k8edges, PoolsComeOut, FloorsComeOut, FirstFaultTold, FourBeforeThirteen, PastUnchanged, RivalOfK8}
 use Rattle.exchange.specs.Rivals.{Exchange}
 
-computed : PoolsComeOut × FirstFaultTold × PastUnchanged
+computed : PoolsComeOut × FloorsComeOut × FirstFaultTold × FourBeforeThirteen × PastUnchanged
 unfolding flatMap table either anyBelow countBelow one filled refuse _then_ unless shuffleFault roomFault among meets raise nextRound join
     byHalves choosing clear clearingTally rounds ascending subsets eachFirst orders cycles along edges entry productOf sumOf weigh firstOf
     heaviest pairsAt bestCycle subsetWeight evaluationTally resolved recordOf recipientBy donorBy recipientTable donorTable total tableFault
     shortToRead shortToFill planFault leftBy plannedBy planFrom filledLent planning read tableOf blank foundIn found
-computed = (refl, refl, refl)
+computed = (refl, refl, refl, refl, refl)
 
 pub pools : PoolsComeOut
 pools = computed .0
 
+pub floors-come-out : FloorsComeOut
+floors-come-out = computed .1
+
 pub first-fault-told : FirstFaultTold
-first-fault-told = computed .1
+first-fault-told = computed .2
+
+pub four-before-thirteen : FourBeforeThirteen
+four-before-thirteen = computed .3
 
 pub past-unchanged : PastUnchanged
-past-unchanged = computed .2
+past-unchanged = computed .4
 
 pub rival-of-k8 : RivalOfK8
 unfolding table among meets either along edges entry productOf sumOf weigh total read tableOf

@@ -9,16 +9,17 @@ use lib.ListN.{length}
 use borrow.Author.Tests.{ltb-true, ltb-false, le-ltb, eqb-true, eq-eqb, not-false}
 use Rattle.laws.specs.Below.{either, anyBelow}
 use Rattle.laws.proofs.Below.{true-false, either-false, any-none, none-any}
-use Rattle.refusal.specs.Fault.{Fault, none, fault, _then_}
+use Rattle.refusal.specs.Fault.{Fault, none, fault, refuse, _then_}
 use Rattle.refusal.specs.Answer.{Outcome, finished, unless}
 use Rattle.refusal.proofs.Faults.{refuse-none, none-refuse, then-none, none-then, by-refuse, by-then, unless-none, unless-fault, finished-none, refused-fault}
+use Rattle.pool.specs.Faults.{shuffleFault}
 use Rattle.pool.proofs.Pairs.{shuffle-none, shuffle-passed, shuffle-fault}
 use Rattle.pool.proofs.Reading.{room-none, room-passed, room-fault}
 use Rattle.exchange.specs.Subsets.{entry}
 use Rattle.exchange.specs.Input.{Request}
-use Rattle.exchange.specs.Planning.{Lent, Plan, lengthsOf, tableFault, shortToRead, shortToFill, planFault, planning}
+use Rattle.exchange.specs.Planning.{Lent, Plan, mostFloor, lengthsOf, tableFault, shortToRead, shortToFill, planFault, planning}
 use Rattle.exchange.specs.Promises.{AnswersRightly}
-use Rattle.exchange.specs.Faultless.{LongEnough, Compatibility, FaultlessInput, PlanFault, tooManyPairs, tooShort, notAShuffle, notCompatibility}
+use Rattle.exchange.specs.Faultless.{LongEnough, Compatibility, FaultlessInput, PlanFault, tooManyPairs, floorTooHigh, tooShort, notAShuffle, notCompatibility}
 
 module _ (n : ℕ) (M : List ℕ) where
   -- ## 10
@@ -117,12 +118,28 @@ module _ (r : Request) (t : Lent) where
         (λ _. by-then P _ _ (room-fault P _ _ (λ l. nine (λ h. omega (arith, l, h .recipients))))
         (λ _. room-fault P _ _ (λ l. nine (λ h. omega (arith, l, h .records)))))))
 
-  -- ## All four
+  -- ## All five
+
+  -- the fault told is there, and none that is checked before it
+  plan-fault : (k o : ℕ) → planFault r (lengthsOf t) ≡ fault k o → (o ≡ 0) × PlanFault r t k
+  unfolding planFault n M toRead toFill
+  plan-fault =
+      let P : ℕ → ℕ → Type 0 = λ k o. (o ≡ 0) × PlanFault r t k in
+      by-then P (refuse 4 0 (ltb 200 n)) _ (by-refuse P 4 0 _ (λ e. (refl, tooManyPairs (ltb-true _ _ e))))
+      (λ a. let few : n ≤ 200 = ltb-false _ _ (refuse-none _ _ _ a) in
+      by-then P (refuse 13 0 (ltb mostFloor (r .floor))) _ (by-refuse P 13 0 _ (λ e. (refl, floorTooHigh few (ltb-true _ _ e))))
+      (λ b. let low : r .floor ≤ mostFloor = ltb-false _ _ (refuse-none _ _ _ b) in
+      by-then P toRead _ (read-fault P (λ h. (refl, tooShort few low h)))
+      (λ c. by-then P toFill _ (fill-fault P (λ h. (refl, tooShort few low h)))
+      (λ d. let long = long-passed c d in
+      by-then P (shuffleFault 0 n _) _ (shuffle-fault 0 n _ P (λ h. (refl, notAShuffle few low long h)))
+      (λ g. table-fault n M P (λ h. (refl, notCompatibility few low long (shuffle-passed 0 n _ g) h)))))))
 
   none-planned : FaultlessInput r t → planFault r (lengthsOf t) ≡ none
   unfolding planFault n M toRead toFill
   none-planned h =
       none-then _ _ (none-refuse 4 0 _ (le-ltb 200 n (h .few)))
+      ∙ none-then _ _ (none-refuse 13 0 _ (le-ltb mostFloor (r .floor) (h .low)))
       ∙ none-then _ _ (read-none (h .long))
       ∙ none-then _ _ (fill-none (h .long))
       ∙ none-then _ _ (shuffle-none 0 n _ (h .eachOnce))
@@ -135,25 +152,14 @@ module _ (r : Request) (t : Lent) where
       let b = then-none _ _ (a .1) in
       let c = then-none _ _ (b .1) in
       let d = then-none _ _ (c .1) in
+      let g = then-none _ _ (d .1) in
       record {
         few = ltb-false _ _ (refuse-none _ _ _ (a .0));
-        long = long-passed (b .0) (c .0);
-        eachOnce = shuffle-passed 0 n _ (d .0);
-        compatible = table-passed n M (d .1);
+        low = ltb-false _ _ (refuse-none _ _ _ (b .0));
+        long = long-passed (c .0) (d .0);
+        eachOnce = shuffle-passed 0 n _ (g .0);
+        compatible = table-passed n M (g .1);
       }
-
-  -- the fault told is there, and none that is checked before it
-  plan-fault : (k o : ℕ) → planFault r (lengthsOf t) ≡ fault k o → (o ≡ 0) × PlanFault r t k
-  unfolding planFault n M toRead toFill
-  plan-fault =
-      let P : ℕ → ℕ → Type 0 = λ k o. (o ≡ 0) × PlanFault r t k in
-      by-then P _ _ (by-refuse P 4 0 _ (λ e. (refl, tooManyPairs (ltb-true _ _ e))))
-      (λ a. let few : n ≤ 200 = ltb-false _ _ (refuse-none _ _ _ a) in
-      by-then P _ _ (read-fault P (λ h. (refl, tooShort few h)))
-      (λ b. by-then P _ _ (fill-fault P (λ h. (refl, tooShort few h)))
-      (λ c. let long = long-passed b c in
-      by-then P _ _ (shuffle-fault 0 n _ P (λ h. (refl, notAShuffle few long h)))
-      (λ d. table-fault n M P (λ h. (refl, notCompatibility few long (shuffle-passed 0 n _ d) h))))))
 
 -- ## Where a call is finished, there is no fault, and what was to be filled is filled
 

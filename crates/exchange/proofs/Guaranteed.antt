@@ -14,7 +14,7 @@ use Rattle.laws.specs.Below.{Some}
 use Rattle.laws.proofs.Below.{length-table, getD-table}
 use Rattle.laws.specs.Lent.{filled}
 use Rattle.refusal.specs.Fault.{Fault, none, fault}
-use Rattle.refusal.specs.Answer.{Outcome, unless}
+use Rattle.refusal.specs.Answer.{Outcome, finished, unless}
 use Rattle.greedy.specs.Places.{meets}
 use Rattle.greedy.specs.Tally.{tally}
 use Rattle.greedy.proofs.Counts.{shared, NoneTwice, shared-join, shared-sym, meets-shared}
@@ -30,7 +30,7 @@ use Rattle.exchange.specs.Faultless.{FaultlessInput}
 use Rattle.exchange.specs.Promises.{planned, Guarantee, Guaranteed, PlanningIsRight, SameTally, SameLengths, LengthsStay}
 use Rattle.exchange.proofs.Inverse.{Invertible, invertible}
 use Rattle.exchange.proofs.Charged.{weightsOf, weight-at, family, joined, planned-apart}
-use Rattle.exchange.proofs.Planned.{planned-set, planned-below, rival-credit, rival-factor, all-count, credited-most}
+use Rattle.exchange.proofs.Planned.{planned-set, planned-heavy, planned-below, rival-credit, rival-factor, rival-counts, credited-most}
 use Rattle.exchange.proofs.Tallied.{tallied}
 use Rattle.exchange.proofs.Shuffled.{same-cycles}
 use Rattle.exchange.proofs.Partners.{consistent, algorithm-partners}
@@ -136,9 +136,9 @@ lengths-stay a t = go (planFault a (lengthsOf t)) refl
 
 -- ---- the guarantee
 
-module _ (n : ℕ) (M W s : List ℕ) (t : Lent) (k : FaultlessInput (request n M W s) t) where
+module _ (n f : ℕ) (M W s : List ℕ) (t : Lent) (k : FaultlessInput (request n f M W s) t) where
   abbrev q : Input
-  q = inputOf (request n M W s)
+  q = inputOf (request n f M W s)
 
   abbrev m : ℕ → ℕ → ℕ
   m = entry M n
@@ -159,7 +159,7 @@ module _ (n : ℕ) (M W s : List ℕ) (t : Lent) (k : FaultlessInput (request n 
   sh = invertible n s (k .long .shuffle) (k .eachOnce)
 
   set : ExchangeSet 3 n m cs
-  set = planned-set 0 3 n m w s sh (k .compatible .zeroOrOne)
+  set = planned-set f 3 n m w s sh (k .compatible .zeroOrOne)
 
   planned-is : planned n (planFrom q) new ≡ cs
   unfolding planned planFrom filledLent
@@ -178,22 +178,22 @@ module _ (n : ℕ) (M W s : List ℕ) (t : Lent) (k : FaultlessInput (request n 
       ∙ getD-table n (λ j. recipientBy (flatMap edges cs) n j) 0 i h
 
   cs-chosen : cs ≡ map (pairsAt s) chosen
-  cs-chosen = same-cycles 0 3 n m w s
+  cs-chosen = same-cycles f 3 n m w s
 
-  weight : (i : ℕ) → 0 < subsetWeight m w s (getD (order (q .scope)) i []) → 0 < getD (weightsOf 3 n m w s) i 0
+  weight : (i : ℕ) → f < subsetWeight m w s (getD (order (q .scope)) i []) → f < getD (weightsOf 3 n m w s) i 0
   unfolding subsetWeight
   weight i h = rw (weight-at 3 n m w s i) h
 
-  met : (i : ℕ) → 0 < subsetWeight m w s (getD (order (q .scope)) i [])
+  met : (i : ℕ) → f < subsetWeight m w s (getD (order (q .scope)) i [])
       → Some (roundCount n) (λ j. meets (getD (order (q .scope)) i []) (getD (order (q .scope)) (getD (new .choices) j 0) []) ≡ true)
   unfolding filledLent leftBy
   met i h =
       let ss : List (List ℕ) = order (q .scope) in
       let found = met-at ss (getD ss i []) (leftBy q .choices)
-      (subset-met 0 n (roundCount n) ss (weightsOf 3 n m w s) (evaluationTally ss (tally 0 0 0)) (family 3 n m w s) (omega arith) i (weight i h)) in
+      (subset-met f n (roundCount n) ss (weightsOf 3 n m w s) (evaluationTally ss (tally 0 0 0)) (family 3 n m w s) (omega arith) i (weight i h)) in
       record {
         at = found .0;
-        below = omega (arith, found .1, choices-long 0 3 n m w s);
+        below = omega (arith, found .1, choices-long f 3 n m w s);
         there = ap (λ (c : ℕ). meets (getD ss i []) (getD ss c [])) (filled-at (leftBy q .choices) (t .choices) (found .0) (found .1)) ∙ found .2;
       }
 
@@ -201,38 +201,48 @@ module _ (n : ℕ) (M W s : List ℕ) (t : Lent) (k : FaultlessInput (request n 
   unfolding planFrom
   guarantee = record {
     exchanges = rw planned-is set;
+    above = rw planned-is (planned-heavy f 3 n m w s sh);
     weight = ap (total m w) (sym planned-is);
-    factor = λ rivals h. rival-factor 0 3 n m w s sh rivals h (all-count m w rivals);
-    credit = λ rivals h. rw planned-is (rival-credit 0 3 n m w s sh rivals h (all-count m w rivals));
+    factor = λ rivals h. let c = rival-counts q rivals h in rival-factor f 3 n m w s sh rivals (c .0) (c .1);
+    credit = λ rivals h. let c = rival-counts q rivals h in rw planned-is (rival-credit f 3 n m w s sh rivals (c .0) (c .1));
     credit-most = rw planned-is (credited-most 3 n m w cs (set .exchanges));
-    tally = tallied 0 n m w s;
+    tally = tallied f n m w s;
     partners = partners;
     cycles = planned-is ∙ cs-chosen;
-    consistent = rw planned-is (consistent n cs (planned-below 0 3 n m w s sh) once (new .donors) (new .recipients) donors-at recipients-at);
+    consistent = rw planned-is (consistent n cs (planned-below f 3 n m w s sh) once (new .donors) (new .recipients) donors-at recipients-at);
     met = met;
   }
     where
       once : NoneTwice (joined cs)
-      once = planned-apart 0 3 n m w s sh
+      once = planned-apart f 3 n m w s sh
 
       partners : Algorithm1.Partners q (new .donors) (new .recipients)
       partners = algorithm-partners q (rw cs-chosen at once) (new .donors) (new .recipients) (rw cs-chosen at donors-at) (rw cs-chosen at recipients-at)
 
 pub guaranteed : Guaranteed
 unfolding planning
-guaranteed n M W s t p e =
-    let a : Request = request n M W s in
+guaranteed n f M W s t p e =
+    let a : Request = request n f M W s in
     let done = finished-is (planFrom (inputOf a)) (filledLent (inputOf a) t) t (planFault a (lengthsOf t)) p e in
-    rw (done .left, ← (done .result)) (guarantee n M W s t (checked a t (done .faultless)))
+    rw (done .left, ← (done .result)) (guarantee n f M W s t (checked a t (done .faultless)))
+
+-- the records of a made plan are those of its cycles
+pub planned-by : (n f : ℕ) (M W s : List ℕ) (t : Lent) (p : Plan) → planning (request n f M W s) t .answer ≡ finished p
+    → planned n p (planning (request n f M W s) t .lent) ≡ plannedBy (inputOf (request n f M W s))
+unfolding planning
+planned-by n f M W s t p e =
+    let a : Request = request n f M W s in
+    let done = finished-is (planFrom (inputOf a)) (filledLent (inputOf a) t) t (planFault a (lengthsOf t)) p e in
+    rw (done .left, ← (done .result)) (planned-is n f M W s t (checked a t (done .faultless)))
 
 pub planning-is-right : PlanningIsRight
-planning-is-right n M W s t o e =
+planning-is-right n f M W s t o e =
     record {
       equal = e;
-      answered = rw e (answers-rightly (request n M W s) t);
-      guarantee = λ p f. rw e (guaranteed n M W s t p (ap (λ (x : Outcome Plan Lent). x .answer) (sym e) ∙ f));
+      answered = rw e (answers-rightly (request n f M W s) t);
+      guarantee = λ p g. rw e (guaranteed n f M W s t p (ap (λ (x : Outcome Plan Lent). x .answer) (sym e) ∙ g));
     }
 
 pub same-tallies : SameTally
-same-tallies n M W s t p M′ W′ s′ t′ p′ e e′ =
-    guaranteed n M W s t p e .tally .sums ∙ sym (guaranteed n M′ W′ s′ t′ p′ e′ .tally .sums)
+same-tallies n f M W s t p f′ M′ W′ s′ t′ p′ e e′ =
+    guaranteed n f M W s t p e .tally .sums ∙ sym (guaranteed n f′ M′ W′ s′ t′ p′ e′ .tally .sums)

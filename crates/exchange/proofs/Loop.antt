@@ -135,7 +135,7 @@ clear-nil (s ∷ ss) (x ∷ ws) = ap₂ _∷_ (rw (meets-nil s)) (clear-nil ss w
 abbrev pub Meeting : List ℕ → Type 0
 Meeting s = meets s s ≡ true
 
-each-without : (P : List ℕ → Type 0) (c : List ℕ) (S : List (List ℕ)) → Each P S → Each P (without c S)
+pub each-without : (P : List ℕ → Type 0) (c : List ℕ) (S : List (List ℕ)) → Each P S → Each P (without c S)
 unfolding without
 each-without P c [] h = tt
 each-without P c (s ∷ S) h = go (meets s c) (each-without P c S (h .1))
@@ -223,12 +223,12 @@ greatest-some [] h = absurd (omega arith)
 greatest-some (x ∷ ws) h = omega arith
 
 -- the loop ends where nothing is above the floor, and else takes a turn
-quiet-loop : (k f : ℕ) (weight : List ℕ → ℕ) (S : List (List ℕ)) → someAbove f weight S ≡ false → loop k f weight S .chosen ≡ []
+pub quiet-loop : (k f : ℕ) (weight : List ℕ → ℕ) (S : List (List ℕ)) → someAbove f weight S ≡ false → loop k f weight S .chosen ≡ []
 unfolding loop
 quiet-loop zero f weight S e = refl
 quiet-loop (suc k) f weight S e = rw e
 
-busy-loop : (k f : ℕ) (weight : List ℕ → ℕ) (S : List (List ℕ)) → someAbove f weight S ≡ true
+pub busy-loop : (k f : ℕ) (weight : List ℕ → ℕ) (S : List (List ℕ)) → someAbove f weight S ≡ true
     → loop (suc k) f weight S .chosen ≡ heaviest weight S ∷ loop k f weight (without (heaviest weight S) S) .chosen
 unfolding loop
 busy-loop k f weight S e = rw e

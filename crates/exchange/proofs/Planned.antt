@@ -3,7 +3,7 @@
 use Prim.Native.Nat.{ℕ, _*_, _≤_, _<_}
 use mathlib.Core.List.{List, [], _∷_}
 use mathlib.Core.Logic.{_⊎_, inl, inr}
-use mathlib.Core.Path.{_≡_}
+use mathlib.Core.Path.{_≡_, sym, subst}
 use native.Mathlib.Omega.{arith}
 use native.Mathlib.Nat.{eq-zero-or-pos}
 use native.Mathlib.Decide.{decLt}
@@ -14,9 +14,9 @@ use Rattle.greedy.proofs.Counts.{times, NoneTwice, AllBelow, one-same}
 use Rattle.greedy.proofs.Bound.{chosen-above}
 use Rattle.exchange.specs.Subsets.{subsets, weigh, pairsAt, bestCycle, evaluationTally}
 use Rattle.exchange.specs.Resolution.{resolved, total}
-use Rattle.exchange.specs.Input.{inputWith}
+use Rattle.exchange.specs.Input.{Input, inputWith}
 use Rattle.exchange.specs.Planning.{roundCount, leftBy, plannedBy}
-use Rattle.exchange.specs.Rivals.{Each, Different, Exchange, ExchangeSet, credited}
+use Rattle.exchange.specs.Rivals.{Each, Different, Exchange, ExchangeSet, ExchangeSetOf, RivalSet, heavy, unfloored, credited}
 use Rattle.exchange.proofs.Ordered.{each-mono}
 use Rattle.exchange.proofs.Inverse.{Invertible, pairs-below}
 use Rattle.exchange.proofs.Charged.{weightsOf, joined, family, size-most, Rival, cycle-below, planned-size, planned-weight, planned-apart, planned-credit, planned-factor}
@@ -26,7 +26,7 @@ each-both : {A : Type 0} (P Q R : A → Type 0) → ((x : A) → P x → Q x →
 each-both P Q R g [] h k = tt
 each-both P Q R g (x ∷ xs) h k = (g x (h .0) (k .0), each-both P Q R g xs (h .1) (k .1))
 
--- a cycle that may stand in a rival set of floor f: it weighs nothing, or more than the floor
+-- what the bound asks of a rival's cycle: it weighs nothing, or more than the floor
 abbrev pub Counts : ℕ → (ℕ → ℕ → ℕ) → (ℕ → ℕ → ℕ) → List ℕ → Type 0
 Counts f m w c = (weigh m w c ≡ 0) ⊎ (f < weigh m w c)
 
@@ -66,6 +66,10 @@ module _ (f l n : ℕ) (m w : ℕ → ℕ → ℕ) (s : List ℕ) (sh : Invertib
   planned-above = resolve-each (leftBy (inputWith f l n m w s) .choices)
       (chosen-above f n (roundCount n) (subsets l n) (weightsOf l n m w s) (evaluationTally (subsets l n) (tally 0 0 0)) (family l n m w s))
 
+  -- every planned cycle weighs more than the floor
+  pub planned-heavy : Each (λ (c : List ℕ). f < weigh m w c) (plannedBy (inputWith f l n m w s))
+  planned-heavy = each-mono Above (λ (c : List ℕ). f < weigh m w c) (λ c h. h .1) (plannedBy (inputWith f l n m w s)) planned-above
+
   -- "all planned cycles are executable, no pair is in two of them"
   pub planned-set : ((i j : ℕ) → i < n → j < n → m i j ≤ 1) → ExchangeSet l n m (plannedBy (inputWith f l n m w s))
   planned-set bits = record {
@@ -104,6 +108,13 @@ module _ (f l n : ℕ) (m w : ℕ → ℕ → ℕ) (s : List ℕ) (sh : Invertib
 pub all-count : (m w : ℕ → ℕ → ℕ) (cs : List (List ℕ)) → Each (Counts 0 m w) cs
 all-count m w [] = tt
 all-count m w (c ∷ cs) = (eq-zero-or-pos (weigh m w c), all-count m w cs)
+
+-- so every rival set is one that the bound is for
+pub rival-counts : (q : Input) (cs : List (List ℕ)) → RivalSet q cs → ExchangeSetOf q cs × Each (Counts (q .floor) (q .compatible) (q .weight)) cs
+rival-counts q cs (heavy set above) =
+    (set, each-mono (λ (c : List ℕ). q .floor < weigh (q .compatible) (q .weight) c) (Counts (q .floor) (q .compatible) (q .weight)) (λ c h. inr h) cs above)
+rival-counts q cs (unfloored e set) =
+    (set, subst (λ (f : ℕ). Each (Counts f (q .compatible) (q .weight)) cs) (sym e) (all-count (q .compatible) (q .weight) cs))
 
 pub credited-most : (l n : ℕ) (m w : ℕ → ℕ → ℕ) (cs : List (List ℕ)) → Each (Exchange l n m) cs → credited m w cs ≤ l * total m w cs
 unfolding credited total

@@ -102,9 +102,11 @@ loop-over q =
     loop-ends (subsetCount (q .scope)) (q .floor) (Algorithm1.subsetWeight (q .shuffle) (q .compatible) (q .weight)) (order (q .scope)) (omega arith)
     (meeting (q .scope .largest) (q .scope .pairs))
 
-pub same-cycles : (f l n : ℕ) (m w : ℕ → ℕ → ℕ) (s : List ℕ) → plannedBy (inputWith f l n m w s) ≡ map (pairsAt s) (Algorithm1.chosenCycles (inputWith f l n m w s))
-unfolding plannedBy leftBy Algorithm1.chosenCycles Algorithm1.looped
-same-cycles f l n m w s =
+-- the planned cycles are those of the subsets that the loop chooses
+pub loop-cycles : (f l n : ℕ) (m w : ℕ → ℕ → ℕ) (s : List ℕ)
+    → plannedBy (inputWith f l n m w s) ≡ map (λ (t : List ℕ). pairsAt s (bestCycle m w s t)) (Algorithm1.loop (length (subsets l n)) f (subsetWeight m w s) (subsets l n) .chosen)
+unfolding plannedBy leftBy
+loop-cycles f l n m w s =
     let ss : List (List ℕ) = subsets l n in
     let ws : List ℕ = weightsOf l n m w s in
     let t = evaluationTally ss (tally 0 0 0) in
@@ -112,5 +114,11 @@ same-cycles f l n m w s =
     resolved-chosen m w s ss (leftBy (inputWith f l n m w s) .choices)
     ∙ ap (λ (cs : List ℕ). map (λ (t : List ℕ). pairsAt s (bestCycle m w s t)) (chosenOf ss cs)) (rounds-picks f (roundCount n) ss ws t)
     ∙ ap (map (λ (t : List ℕ). pairsAt s (bestCycle m w s t))) (rounds-loop f (subsetWeight m w s) ss (roundCount n) quiet (meeting l n))
+
+pub same-cycles : (f l n : ℕ) (m w : ℕ → ℕ → ℕ) (s : List ℕ) → plannedBy (inputWith f l n m w s) ≡ map (pairsAt s) (Algorithm1.chosenCycles (inputWith f l n m w s))
+unfolding Algorithm1.chosenCycles Algorithm1.looped
+same-cycles f l n m w s =
+    let ss : List (List ℕ) = subsets l n in
+    loop-cycles f l n m w s
     ∙ ap (λ (g : List ℕ → ℕ). map (λ (t : List ℕ). pairsAt s (bestCycle m w s t)) (Algorithm1.loop (length ss) f g ss .chosen)) (sym (weight-same m w s))
     ∙ sym (chosen-pairs m w s (Algorithm1.looped (inputWith f l n m w s) .chosen))

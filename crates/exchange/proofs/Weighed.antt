@@ -136,7 +136,7 @@ each-firstOf P g c (d ∷ ds) h k = each-firstOf P g (cond (ltb (g c) (g d)) d c
     go true = k .0
     go false = h
 
-each-heaviest : (P : List ℕ → Type 0) (g : List ℕ → ℕ) (cs : List (List ℕ)) (x : List ℕ) → List·Memᴰ x cs → Each P cs → P (heaviest g cs)
+pub each-heaviest : (P : List ℕ → Type 0) (g : List ℕ → ℕ) (cs : List (List ℕ)) (x : List ℕ) → List·Memᴰ x cs → Each P cs → P (heaviest g cs)
 unfolding heaviest
 each-heaviest P g [] x m h = absurd (List·Memᴰ·not-nil m)
 each-heaviest P g (c ∷ cs) x m h = each-firstOf P g c cs (h .0) (h .1)

@@ -1,4 +1,4 @@
--- Algorithm 1 of arXiv 2302.13880, line by line; its `S` is the published order of subsets, and its 0 the floor. It shares with 01's way of planning
+-- Algorithm 1 of arXiv 2302.13880, line by line; its `S` is the published order of subsets, and its 0 the floor (document 02, W-202). It shares with 01's way of planning
 -- the subsets and their order, the cycles of a subset, what a cycle weighs, the first of greatest weight, and what it is to share a place; its shuffled
 -- graph, its loop, with no round, no table of weights and nothing set to 0, and each pair's donor and recipient are its own. Assumes nothing.
 use Prim.Native.Nat.{ℕ, zero, suc, _<_}
@@ -23,7 +23,7 @@ subsetMap m w s = heaviest (weigh m w) (cycles s)
 unfoldable pub subsetWeight : List ℕ → (ℕ → ℕ → ℕ) → (ℕ → ℕ → ℕ) → List ℕ → ℕ
 subsetWeight s m w t = weigh (shuffled s m) (shuffled s w) (subsetMap (shuffled s m) (shuffled s w) t)
 
--- line 7, "exists s in S: weights(s) > 0"
+-- line 7, "exists s in S: weights(s) > 0", with the floor f for 0
 unfoldable pub someAbove : ℕ → (List ℕ → ℕ) → List (List ℕ) → Bool
 someAbove f weight [] = false
 someAbove f weight (s ∷ S) = either (ltb f (weight s)) (someAbove f weight S)

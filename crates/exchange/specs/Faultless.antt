@@ -6,7 +6,7 @@ use lib.ListN.{length, getD}
 use Rattle.pool.specs.Faultless.{EachOnce}
 use Rattle.exchange.specs.Subsets.{subsetCount, entry}
 use Rattle.exchange.specs.Input.{Request}
-use Rattle.exchange.specs.Planning.{Lent, roundCount}
+use Rattle.exchange.specs.Planning.{Lent, roundCount, mostFloor}
 
 -- no lent table is too short
 pub record LongEnough (r : Request) (t : Lent) : Type 0 where
@@ -30,17 +30,20 @@ Shuffles r = EachOnce (r .scope .pairs) (λ j. getD (r .shuffle) j 0)
 
 pub record FaultlessInput (r : Request) (t : Lent) : Type 0 where
   pub few : r .scope .pairs ≤ 200
+  pub low : r .floor ≤ mostFloor
   pub long : LongEnough r t
   pub eachOnce : Shuffles r
   pub compatible : Compatibility (r .scope .pairs) (r .compatibilities)
 
--- "planning checks 4, 9, 8, 10": a refusal's fault is there, and none that is checked before it
+-- "planning checks 4, 9, 8, 10", and 13 "after 4, where the floor is above 200,000": a refusal's fault is there, and none that is checked before it
 pub data PlanFault (r : Request) (t : Lent) : ℕ → Type 0 where
   tooManyPairs : 200 < r .scope .pairs → PlanFault r t 4
-  tooShort : r .scope .pairs ≤ 200 → (LongEnough r t → ⊥) → PlanFault r t 9
-  notAShuffle : r .scope .pairs ≤ 200 → LongEnough r t → (Shuffles r → ⊥) → PlanFault r t 8
+  floorTooHigh : r .scope .pairs ≤ 200 → mostFloor < r .floor → PlanFault r t 13
+  tooShort : r .scope .pairs ≤ 200 → r .floor ≤ mostFloor → (LongEnough r t → ⊥) → PlanFault r t 9
+  notAShuffle : r .scope .pairs ≤ 200 → r .floor ≤ mostFloor → LongEnough r t → (Shuffles r → ⊥) → PlanFault r t 8
   notCompatibility :
       r .scope .pairs ≤ 200
+      → r .floor ≤ mostFloor
       → LongEnough r t
       → Shuffles r
       → (Compatibility (r .scope .pairs) (r .compatibilities) → ⊥)

@@ -1,4 +1,4 @@
--- What planning is given: one record, with the floor and the largest size that document 01 leaves at 0 and 3. Assumes nothing.
+-- What planning is given: one record, with the floor (document 02, W-202) and the largest size, which document 01 leaves at 3. Assumes nothing.
 use Prim.Native.Nat.{ℕ}
 use mathlib.Core.List.{List}
 use Rattle.exchange.specs.Subsets.{Scope, scope, upToThree, entry}
@@ -33,13 +33,14 @@ inputOf r =
       shuffle = r .shuffle;
     }
 
--- ## Document 01's: sizes to three, and floor 0. Here and nowhere else the two are put in
+-- ## With document 01's sizes, to three, which are put in here and nowhere else
 
+abbrev pub input : ℕ → ℕ → (ℕ → ℕ → ℕ) → (ℕ → ℕ → ℕ) → List ℕ → Input
+input n f m w s = record { scope = upToThree n; floor = f; compatible = m; weight = w; shuffle = s }
+
+abbrev pub request : ℕ → ℕ → List ℕ → List ℕ → List ℕ → Request
+request n f M W s = record { scope = upToThree n; floor = f; compatibilities = M; weights = W; shuffle = s }
+
+-- "`plan` uses it"
 abbrev pub noFloor : ℕ
 noFloor = 0
-
-abbrev pub input : ℕ → (ℕ → ℕ → ℕ) → (ℕ → ℕ → ℕ) → List ℕ → Input
-input n m w s = record { scope = upToThree n; floor = noFloor; compatible = m; weight = w; shuffle = s }
-
-abbrev pub request : ℕ → List ℕ → List ℕ → List ℕ → Request
-request n M W s = record { scope = upToThree n; floor = noFloor; compatibilities = M; weights = W; shuffle = s }

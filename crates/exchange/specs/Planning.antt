@@ -40,7 +40,11 @@ plan w c t = record { weight = w; cycles = c; tally = t }
 abbrev pub roundCount : ℕ → ℕ
 roundCount n = n / 2
 
--- ## Turned back: "planning checks 4, 9, 8, 10" and gives the number; the place is 0
+-- ## Turned back: "planning checks 4, 9, 8, 10", with 13 "after 4" (document 02, W-202), and gives the number; the place is 0
+
+-- "Planning takes a floor, 0 to 200,000"
+abbrev pub mostFloor : ℕ
+mostFloor = 200000
 
 -- how many entries each table to be filled has
 pub record Lengths : Type 0 where
@@ -77,6 +81,7 @@ tableFault n M =
 unfoldable pub planFault : Request → Lengths → Fault
 planFault r z =
     refuse 4 0 (ltb 200 (r .scope .pairs))
+    then refuse 13 0 (ltb mostFloor (r .floor))
     then shortToRead (r .scope .pairs) (length (r .compatibilities)) (length (r .weights)) (length (r .shuffle))
     then shortToFill (r .scope) z
     then shuffleFault 0 (r .scope .pairs) (λ j. getD (r .shuffle) j 0)

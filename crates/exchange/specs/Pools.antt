@@ -1,7 +1,7 @@
--- "Pools to try": k1 to k12, each with what must come out. Assumes nothing.
+-- "Pools to try": k1 to k12, each with what must come out, and what floors make of some. Assumes nothing.
 use Prim.Native.Nat.{ℕ, _*_, _/_, _%_}
 use mathlib.Core.Bool.{false, cond}
-use mathlib.Core.List.{List, [], _∷_, map}
+use mathlib.Core.List.{List, [], _∷_, _++_, map}
 use mathlib.Core.Path.{_≡_}
 use lib.Dec.{eqb}
 use lib.ListN.{replicate}
@@ -10,7 +10,7 @@ use Rattle.refusal.specs.Answer.{Answer, finished, refused, Outcome, outcome}
 use Rattle.cycle.specs.declared.Cycle.{Cycle}
 use Rattle.greedy.specs.Tally.{Tally, tally}
 use Rattle.exchange.specs.Subsets.{upToThree, subsetCount}
-use Rattle.exchange.specs.Input.{Input, inputOf, request}
+use Rattle.exchange.specs.Input.{Input, inputOf, request, noFloor}
 use Rattle.exchange.specs.Planning.{Lent, lent, Plan, plan, roundCount, planning}
 use Rattle.exchange.specs.Rivals.{ExchangeSetOf, weightIn}
 
@@ -32,12 +32,16 @@ pub data Found : Type 0 where
 
 pub record Case : Type 0 where
   pub pairs : ℕ
+  pub floor : ℕ
   pub edges : List Arrow
   pub shuffle : List ℕ
   pub due : Found
 
+abbrev pub above : ℕ → ℕ → List Arrow → List ℕ → Found → Case
+above f n es s d = record { pairs = n; floor = f; edges = es; shuffle = s; due = d }
+
 abbrev pub case : ℕ → List Arrow → List ℕ → Found → Case
-case n es s d = record { pairs = n; edges = es; shuffle = s; due = d }
+case n es s d = above noFloor n es s d
 
 -- the entry of the first edge from i to j, 0 where there is none
 unfoldable pub read : (Arrow → ℕ) → List Arrow → ℕ → ℕ → ℕ
@@ -64,7 +68,7 @@ unfoldable pub found : Case → Found
 found c =
     let o : Outcome Plan Lent =
     planning
-    (request (c .pairs) (tableOf (λ a. a .mark) (c .pairs) (c .edges)) (tableOf (λ a. a .weight) (c .pairs) (c .edges)) (c .shuffle))
+    (request (c .pairs) (c .floor) (tableOf (λ a. a .mark) (c .pairs) (c .edges)) (tableOf (λ a. a .weight) (c .pairs) (c .edges)) (c .shuffle))
     (blank (c .pairs)) in
     foundIn (o .answer) (o .lent)
 
@@ -119,26 +123,66 @@ cases =
 abbrev pub PoolsComeOut : Type 0
 PoolsComeOut = map found cases ≡ map (λ (c : Case). c .due) cases
 
--- two faults at once: "planning checks 4, 9, 8, 10"
+-- ## Floors (document 02, W-202)
+
+-- a swap of weight 6 and one of weight 8; a swap of weight 10, and one of weight 2 that shares a pair with it
+abbrev pub sixAndEight : List Arrow
+sixAndEight = edge 0 1 3 ∷ edge 1 0 3 ∷ edge 2 3 4 ∷ edge 3 2 4 ∷ []
+
+abbrev pub tenAndTwo : List Arrow
+tenAndTwo = edge 0 1 5 ∷ edge 1 0 5 ∷ edge 0 2 1 ∷ edge 2 0 1 ∷ []
+
+abbrev pub floors : List Case
+floors =
+    -- "above" is strict: k3 weighs 12
+    above 11 2 k3edges (0 ∷ 1 ∷ []) (made (0 ∷ []) (12 ∷ []) 12 1 (1 ∷ 0 ∷ []) (1 ∷ 0 ∷ []) (cycle 0 1 2 ∷ []) (tally 1 6 1))
+    ∷ above 12 2 k3edges (0 ∷ 1 ∷ []) (made (1 ∷ []) (12 ∷ []) 0 0 (2 ∷ 2 ∷ []) (2 ∷ 2 ∷ []) (cycle 99 99 99 ∷ []) (tally 1 6 1))
+    -- k8: a weight is not set to 0 for being light
+    ∷ above 6 6 k8edges (0 ∷ 1 ∷ 2 ∷ 3 ∷ 4 ∷ 5 ∷ [])
+    (made (35 ∷ 35 ∷ 35 ∷ []) ((6 ∷ replicate 21 0) ++ (6 ∷ replicate 4 0) ++ (6 ∷ replicate 3 0) ++ (6 ∷ replicate 3 0)) 0 0 (replicate 6 6) (replicate 6 6) (replicate 3 (cycle 99 99 99)) (tally 125 872 3))
+    -- the swap of weight 8 is chosen and cleared, that of weight 6 stays
+    ∷ above 6 4 sixAndEight (0 ∷ 1 ∷ 2 ∷ 3 ∷ [])
+    (made (9 ∷ 10 ∷ []) (0 ∷ 0 ∷ 0 ∷ 0 ∷ 6 ∷ 0 ∷ 0 ∷ 0 ∷ 0 ∷ 0 ∷ []) 8 1 (4 ∷ 4 ∷ 3 ∷ 2 ∷ []) (4 ∷ 4 ∷ 3 ∷ 2 ∷ []) (cycle 2 3 4 ∷ cycle 99 99 99 ∷ []) (tally 24 162 2))
+    -- one at or below the floor that shares a place with the choice is cleared like any other
+    ∷ above 5 4 tenAndTwo (0 ∷ 1 ∷ 2 ∷ 3 ∷ [])
+    (made (4 ∷ 10 ∷ []) (replicate 10 0) 10 1 (1 ∷ 0 ∷ 4 ∷ 4 ∷ []) (1 ∷ 0 ∷ 4 ∷ 4 ∷ []) (cycle 0 1 4 ∷ cycle 99 99 99 ∷ []) (tally 24 162 2))
+    -- the greatest floor, and one above it
+    ∷ above 200000 2 k3edges (0 ∷ 1 ∷ []) (made (1 ∷ []) (12 ∷ []) 0 0 (2 ∷ 2 ∷ []) (2 ∷ 2 ∷ []) (cycle 99 99 99 ∷ []) (tally 1 6 1))
+    ∷ above 200001 2 k3edges (0 ∷ 1 ∷ []) (turned 13 0 (blank 2))
+    ∷ []
+
+abbrev pub FloorsComeOut : Type 0
+FloorsComeOut = map found floors ≡ map (λ (c : Case). c .due) floors
+
+-- ## Two faults at once: "planning checks 4, 9, 8, 10", with 13 after 4
+
 abbrev pub twoFaults : List Case
 twoFaults =
-    case 2 k3edges (0 ∷ []) (turned 9 0 (blank 2))
+    above 200001 2 k3edges (0 ∷ []) (turned 13 0 (blank 2))
+    ∷ above 200000 2 k3edges (0 ∷ []) (turned 9 0 (blank 2))
     ∷ case 2 (record { donor = 0; patient = 1; mark = 2; weight = 5 } ∷ []) (0 ∷ 0 ∷ []) (turned 8 0 (blank 2))
     ∷ []
 
 abbrev pub FirstFaultTold : Type 0
 FirstFaultTold = map found twoFaults ≡ map (λ (c : Case). c .due) twoFaults
 
+-- no table at all
+abbrev pub nothing : Lent
+nothing = lent [] [] [] [] []
+
+abbrev pub FourBeforeThirteen : Type 0
+FourBeforeThirteen = planning (request 201 200001 [] [] []) nothing ≡ outcome (refused 4 0) nothing
+
 -- k3 again, in tables longer than is due: "what lies past these, and past the last record, is unchanged"
 abbrev pub PastUnchanged : Type 0
 PastUnchanged =
-    planning (request 2 (tableOf (λ a. a .mark) 2 k3edges) (tableOf (λ a. a .weight) 2 k3edges) (0 ∷ 1 ∷ 99 ∷ []))
+    planning (request 2 noFloor (tableOf (λ a. a .mark) 2 k3edges) (tableOf (λ a. a .weight) 2 k3edges) (0 ∷ 1 ∷ 99 ∷ []))
     (lent (99 ∷ 99 ∷ []) (99 ∷ 99 ∷ []) (99 ∷ 99 ∷ 99 ∷ []) (99 ∷ 99 ∷ 99 ∷ []) (cycle 99 99 99 ∷ cycle 99 99 99 ∷ []))
     ≡ outcome (finished (plan 12 1 (tally 1 6 1)))
     (lent (12 ∷ 99 ∷ []) (0 ∷ 99 ∷ []) (1 ∷ 0 ∷ 99 ∷ []) (1 ∷ 0 ∷ 99 ∷ []) (cycle 0 1 2 ∷ cycle 99 99 99 ∷ []))
 
 abbrev pub k8 : Input
-k8 = inputOf (request 6 (tableOf (λ a. a .mark) 6 k8edges) (tableOf (λ a. a .weight) 6 k8edges) (0 ∷ 1 ∷ 2 ∷ 3 ∷ 4 ∷ 5 ∷ []))
+k8 = inputOf (request 6 noFloor (tableOf (λ a. a .mark) 6 k8edges) (tableOf (λ a. a .weight) 6 k8edges) (0 ∷ 1 ∷ 2 ∷ 3 ∷ 4 ∷ 5 ∷ []))
 
 -- "weight 6 against a rival 18": it is a rival set, and weighs 18
 pub record RivalOfK8 : Type 0 where

@@ -18,7 +18,7 @@ use Rattle.exchange.specs.Planning.{Lent, Plan, roundCount, planning}
 use Rattle.exchange.specs.Algorithm1 as Algorithm1
 use Rattle.exchange.specs.Algorithm1.{next}
 use Rattle.exchange.specs.Faultless.{FaultlessInput, PlanFault}
-use Rattle.exchange.specs.Rivals.{Each, ExchangeSetOf, weightIn, credited}
+use Rattle.exchange.specs.Rivals.{Each, ExchangeSetOf, AboveFloor, RivalSet, weightIn, credited}
 
 -- ## The planned cycles
 
@@ -83,12 +83,14 @@ pub record Consistent (n : ℕ) (cs : List (List ℕ)) (donors recipients : List
 pub record Guarantee (q : Input) (p : Plan) (t : Lent) : Type 0 where
   -- "all planned cycles are executable, no pair is in two of them"
   pub exchanges : ExchangeSetOf q (planned (q .scope .pairs) p t)
+  -- "a subset is chosen only if its weight is above the floor": every planned cycle weighs more than it
+  pub above : AboveFloor q (planned (q .scope .pairs) p t)
   -- "The plan's weight is the sum of their weights"
   pub weight : p .weight ≡ weightIn q (planned (q .scope .pairs) p t)
-  -- "three times the plan's weight is at least the weight of every other set of executable 2- and 3-cycles sharing no pair"
-  pub factor : (cs : List (List ℕ)) → ExchangeSetOf q cs → weightIn q cs ≤ q .scope .largest * p .weight
+  -- "three times the plan's weight is at least the weight of every other set of executable 2- and 3-cycles sharing no pair": of every rival set
+  pub factor : (cs : List (List ℕ)) → RivalSet q cs → weightIn q cs ≤ q .scope .largest * p .weight
   -- and so is the sum of each planned cycle's weight times its number of pairs, which is no more than that
-  pub credit : (cs : List (List ℕ)) → ExchangeSetOf q cs → weightIn q cs ≤ credited (q .compatible) (q .weight) (planned (q .scope .pairs) p t)
+  pub credit : (cs : List (List ℕ)) → RivalSet q cs → weightIn q cs ≤ credited (q .compatible) (q .weight) (planned (q .scope .pairs) p t)
   pub credit-most : credited (q .compatible) (q .weight) (planned (q .scope .pairs) p t) ≤ q .scope .largest * p .weight
   -- "every such tally is"
   pub tally : TallyOf (q .scope) (p .tally)
@@ -124,13 +126,13 @@ pub record SameLengths (t u : Lent) : Type 0 where
 abbrev pub LengthsStay : Type 0
 LengthsStay = (r : Request) (t : Lent) → SameLengths t (planning r t .lent)
 
--- ## Demands 2 and 3, for every plan made of N pairs with document 01's sizes and floor
+-- ## Demands 2 and 3, for every plan made of N pairs with document 01's sizes and any floor
 
 abbrev pub Guaranteed : Type 0
 Guaranteed =
-    (n : ℕ) (M W s : List ℕ) (t : Lent) (p : Plan)
-    → planning (request n M W s) t .answer ≡ finished p
-    → Guarantee (inputOf (request n M W s)) p (planning (request n M W s) t .lent)
+    (n f : ℕ) (M W s : List ℕ) (t : Lent) (p : Plan)
+    → planning (request n f M W s) t .answer ≡ finished p
+    → Guarantee (inputOf (request n f M W s)) p (planning (request n f M W s) t .lent)
 
 -- ## The promise of a call that plans: o is its answer and what it leaves
 
@@ -140,14 +142,14 @@ pub record PlansRightly (r : Request) (t : Lent) (o : Outcome Plan Lent) : Type 
   pub guarantee : (p : Plan) → o .answer ≡ finished p → Guarantee (inputOf r) p (o .lent)
 
 abbrev pub PlanningIsRight : Type 0
-PlanningIsRight = (n : ℕ) (M W s : List ℕ) (t : Lent) (o : Outcome Plan Lent) → o ≡ planning (request n M W s) t → PlansRightly (request n M W s) t o
+PlanningIsRight = (n f : ℕ) (M W s : List ℕ) (t : Lent) (o : Outcome Plan Lent) → o ≡ planning (request n f M W s) t → PlansRightly (request n f M W s) t o
 
--- "if they have equally many pairs and both plans are made, then both plans carry the same tally"
+-- "if they have equally many pairs and both plans are made, then both plans carry the same tally", whatever their floors
 abbrev pub SameTally : Type 0
 SameTally =
-    (n : ℕ) (M W s : List ℕ) (t : Lent) (p : Plan) (M′ W′ s′ : List ℕ) (t′ : Lent) (p′ : Plan)
-    → planning (request n M W s) t .answer ≡ finished p
-    → planning (request n M′ W′ s′) t′ .answer ≡ finished p′
+    (n f : ℕ) (M W s : List ℕ) (t : Lent) (p : Plan) (f′ : ℕ) (M′ W′ s′ : List ℕ) (t′ : Lent) (p′ : Plan)
+    → planning (request n f M W s) t .answer ≡ finished p
+    → planning (request n f′ M′ W′ s′) t′ .answer ≡ finished p′
     → p .tally ≡ p′ .tally
 
 -- "W(i, i) is not read": equally long weight tables with the same entries for different pairs have the same answer, and leave the same

@@ -15,6 +15,11 @@ two-rounds : rounds 0 2 three (3 ∷ 5 ∷ 5 ∷ []) (tally 0 0 0) ≡ left (3 �
 unfolding three either among meets raise nextRound join byHalves choosing clear clearingTally rounds
 two-rounds = refl
 
+-- with floor 3 what is left is too light: it is not chosen, and not cleared
+above-three : rounds 3 3 three (3 ∷ 5 ∷ 5 ∷ []) (tally 0 0 0) ≡ left (3 ∷ 0 ∷ 0 ∷ []) (1 ∷ 3 ∷ 3 ∷ []) (tally 9 54 3)
+unfolding three either among meets raise nextRound join byHalves choosing clear clearingTally rounds
+above-three = refl
+
 -- a round that chooses none counts as much
 three-rounds : rounds 0 3 three (3 ∷ 5 ∷ 5 ∷ []) (tally 0 0 0) ≡ left (0 ∷ 0 ∷ 0 ∷ []) (1 ∷ 0 ∷ 3 ∷ []) (tally 9 54 3)
 unfolding three either among meets raise nextRound join byHalves choosing clear clearingTally rounds

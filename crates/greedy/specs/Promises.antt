@@ -26,7 +26,7 @@ unfoldable pub firstAt : ℕ → List ℕ → ℕ
 firstAt p [] = 0
 firstAt p (q ∷ s) = cond (eqb p q) 0 (suc (firstAt p s))
 
--- "the lowest-numbered subset of greatest weight; if that weight is 0 the choice is n, meaning none"
+-- "the lowest-numbered subset of greatest weight", "only if its weight is above the floor"; else "the choice is n, meaning none"
 unfoldable pub choice : ℕ → List (List ℕ) → List ℕ → ℕ
 choice f ss ws = cond (ltb f (greatest ws)) (firstAt (greatest ws) ws) (length ss)
 

@@ -1,4 +1,4 @@
--- "Rounds", over any list of subsets `ss` whose weights stand in a table of their own; f is the floor, 0 in document 01. Assumes nothing.
+-- "Rounds", over any list of subsets `ss` whose weights stand in a table of their own; f is the floor (document 02, W-202). Assumes nothing.
 use Prim.Native.Nat.{ℕ, zero, suc, _+_, _/_}
 use mathlib.Core.Bool.{cond}
 use mathlib.Core.List.{List, [], _∷_}
@@ -41,7 +41,8 @@ pub record Chosen : Type 0 where
   pub number : ℕ
   pub tally : Tally
 
--- "if that weight is 0 the choice is n, meaning none"; "the final test against 0": one comparison and four products
+-- "a subset is chosen only if its weight is above the floor"; else "the choice is n, meaning none". "The final test", at every floor: one comparison and
+-- four products
 unfoldable pub choosing : ℕ → List (List ℕ) → List ℕ → Tally → Chosen
 choosing f ss ws t =
     let best : Winner = byHalves (length ws) 0 ws t in

@@ -5,7 +5,7 @@ use native.Mathlib.Omega.{arith}
 use Rattle.refusal.specs.Answer.{Answer, finished, refused}
 use Rattle.refusal.specs.Number.{numberOf}
 use Rattle.refusal.specs.declared.Refusal.{Refusal}
-use Rattle.refusal.specs.declared.Refusal.the-variants.{CutOff, WrongField, WrongVersion, TooManyPairs, LeftOver, OutOfRange, RepeatedId, NotAShuffle, TooShort, NotCompatibility, SharedId, TooManyTogether}
+use Rattle.refusal.specs.declared.Refusal.the-variants.{CutOff, WrongField, WrongVersion, TooManyPairs, LeftOver, OutOfRange, RepeatedId, NotAShuffle, TooShort, NotCompatibility, SharedId, TooManyTogether, FloorTooHigh}
 use Rattle.greedy.specs.Tally.{tally}
 use Rattle.exchange.specs.Planning.{Plan, plan}
 use Rattle.reader.specs.Answers as Reader
@@ -45,6 +45,7 @@ from-one TooShort = omega arith
 from-one NotCompatibility = omega arith
 from-one SharedId = omega arith
 from-one TooManyTogether = omega arith
+from-one FloorTooHigh = omega arith
 
 at-0 : {Result : Type 0} (why : Refusal) → NumberedAt0 {Result = Result} (refused (numberOf why) 0)
 at-0 why k o e = let f : k ≡ numberOf why = cc in let g : o ≡ 0 = cc in (rw f (from-one why), g)

@@ -26,10 +26,10 @@ use Rattle.planner.specs.declared.Work.{Work}
 
 -- ## The call: `found` is what the checks found, and `r` what it returns
 
-module _ (n : ℕ) (M W s weights choices donors recipients : List ℕ) (room : ℕ) (found : Verdict)
-    (e : faultAt 0 found ≡ planFault (request n M W s) (lengths (length weights) (length choices) (length donors) (length recipients) room)) where
+module _ (n f : ℕ) (M W s weights choices donors recipients : List ℕ) (room : ℕ) (found : Verdict)
+    (e : faultAt 0 found ≡ planFault (request n f M W s) (lengths (length weights) (length choices) (length donors) (length recipients) room)) where
   abbrev a : Request
-  a = request n M W s
+  a = request n f M W s
 
   -- what was lent, with any table of records
   abbrev lends : List Cycle → Lent
@@ -51,7 +51,7 @@ module _ (n : ℕ) (M W s weights choices donors recipients : List ℕ) (room : 
         record {
           held = omega (arith, er .1);
           fits = omega (arith, er .1);
-          plans = λ old h. planning-is-right n M W s (lends old) _ (refused-equal old h);
+          plans = λ old h. planning-is-right n f M W s (lends old) _ (refused-equal old h);
         }
 
   -- a plan is made
@@ -95,5 +95,5 @@ module _ (n : ℕ) (M W s weights choices donors recipients : List ℕ) (room : 
           record {
             held = omega (arith, er .few, faultless .few);
             fits = omega (arith, er .few, faultless .long .records, some-long);
-            plans = λ old h. planning-is-right n M W s (lends old) _ (made-equal old h);
+            plans = λ old h. planning-is-right n f M W s (lends old) _ (made-equal old h);
           }

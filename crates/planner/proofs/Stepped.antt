@@ -8,7 +8,7 @@ use lib.ListN.{length, length-map}
 use Rattle.greedy.specs.Tally as Tallies
 use Rattle.greedy.specs.Rounds.{Left, rounds}
 use Rattle.exchange.specs.Subsets.{upToThree, order, subsetCount, entry, subsetWeight, evaluationTally}
-use Rattle.exchange.specs.Input.{noFloor, inputOf, request}
+use Rattle.exchange.specs.Input.{inputOf, request}
 use Rattle.exchange.specs.Planning.{roundCount, leftBy}
 use Rattle.gates.specs.Counting.{counted}
 use Rattle.gates.specs.declared.Tally.{Tally}
@@ -18,7 +18,7 @@ use Rattle.evaluation.proofs.AllWeights.{evaluating-le}
 use Rattle.rounds.specs.Preconditions.{Rounding}
 use Rattle.planner.specs.Preconditions.{Stepping}
 
-module _ (n : ℕ) (M W s weights choices : List ℕ) (asked : Stepping (request n M W s) weights choices) (zeros : Tally) (none : counted zeros ≡ Tallies.tally 0 0 0) where
+module _ (n f : ℕ) (M W s weights choices : List ℕ) (asked : Stepping (request n f M W s) weights choices) (zeros : Tally) (none : counted zeros ≡ Tallies.tally 0 0 0) where
   few : subsetCount (upToThree n) ≤ 1333333
   few = count-le n (asked .readable .few)
 
@@ -57,8 +57,8 @@ module _ (n : ℕ) (M W s weights choices : List ℕ) (asked : Stepping (request
           };
         }
 
-    pub stepped : (l : Left) → l ≡ rounds noFloor (length choices) (order (upToThree n)) evaluated (counted t) → l ≡ leftBy (inputOf (request n M W s))
+    pub stepped : (l : Left) → l ≡ rounds f (length choices) (order (upToThree n)) evaluated (counted t) → l ≡ leftBy (inputOf (request n f M W s))
     unfolding leftBy
     stepped l el =
-        el ∙ ap (λ (k : ℕ). rounds noFloor k (order (upToThree n)) evaluated (counted t)) (asked .all)
-        ∙ ap₂ (λ (ws : List ℕ) (u : Tallies.Tally). rounds noFloor (roundCount n) (order (upToThree n)) ws u) (e .0) (e .1 ∙ ap (evaluationTally (order (upToThree n))) none)
+        el ∙ ap (λ (k : ℕ). rounds f k (order (upToThree n)) evaluated (counted t)) (asked .all)
+        ∙ ap₂ (λ (ws : List ℕ) (u : Tallies.Tally). rounds f (roundCount n) (order (upToThree n)) ws u) (e .0) (e .1 ∙ ap (evaluationTally (order (upToThree n))) none)

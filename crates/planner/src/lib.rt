@@ -39,26 +39,28 @@ struct Work {
 // Evaluation, then all rounds; one tally, which begins at 0, is lent to both.
 fn steps(
     n: usize,
+    floor: u32,
     m: &[u8],
     w: &[u16],
     s: &[u16],
     weights: &mut [u32],
     choices: &mut [u32],
 ) -> Tally
-    requires { ⌜ Stepping (request n (now m) (now w) (now s)) (now weights) (now choices) ⌝ }
+    requires { ⌜ Stepping (request n floor (now m) (now w) (now s)) (now weights) (now choices) ⌝ }
     ensures { λ r.
-        let a = request n (now (m .entry)) (now (w .entry)) (now (s .entry)) in
+        let a = request n floor (now (m .entry)) (now (w .entry)) (now (s .entry)) in
         ⌜ left (now (weights .exit)) (now (choices .exit)) (counted r) ≡ leftBy (inputOf a) ⌝ }
 {
     let mut tally = gates::nothing_done();
     evaluation::evaluate(n, m, w, s, weights, &mut tally);
-    rounds::all_rounds(n, weights, choices, &mut tally);
+    rounds::all_rounds(n, floor, weights, choices, &mut tally);
     tally
 }
 
 // The plan, from checked input.
 fn make(
     n: usize,
+    floor: u32,
     m: &[u8],
     w: &[u16],
     s: &[u16],
@@ -67,16 +69,24 @@ fn make(
     donors: &mut [u16],
     recipients: &mut [u16],
 ) -> Work
-    requires { ⌜ Checked (request n (now m) (now w) (now s)) (now weights) (now choices) (now donors) (now recipients) ⌝ }
+    requires { ⌜ Checked (request n floor (now m) (now w) (now s)) (now weights) (now choices) (now donors) (now recipients) ⌝ }
     ensures { λ r.
-        let a = request n (now (m .entry)) (now (w .entry)) (now (s .entry)) in
+        let a = request n floor (now (m .entry)) (now (w .entry)) (now (s .entry)) in
         let old = lent (now (weights .entry)) (now (choices .entry)) (now (donors .entry)) (now (recipients .entry)) in
         let new = lent (now (weights .exit)) (now (choices .exit)) (now (donors .exit)) (now (recipients .exit)) in
         ⌜ Makes a old new r ⌝ }
 {
     let all = cursor::count(n);
     let rounds = n / 2;
-    let tally = steps(n, m, w, s, &mut weights[..all], &mut choices[..rounds]);
+    let tally = steps(
+        n,
+        floor,
+        m,
+        w,
+        s,
+        &mut weights[..all],
+        &mut choices[..rounds],
+    );
     let resolved = resolution::resolve(
         n,
         m,
@@ -118,9 +128,10 @@ fn turned_back(why: Refusal) -> Work
     }
 }
 
-// Plans the pool of n pairs whose tables are m and w, with the shuffle, for a caller that has room for so many records.
+// Plans the pool of n pairs whose tables are m and w, with the floor and the shuffle, for a caller that has room for so many records.
 fn plan_by_value(
     n: usize,
+    floor: u32,
     m: &[u8],
     w: &[u16],
     shuffle: &[u16],
@@ -131,13 +142,14 @@ fn plan_by_value(
     room: usize,
 ) -> Work
     ensures { λ r.
-        let a = request n (now (m .entry)) (now (w .entry)) (now (shuffle .entry)) in
+        let a = request n floor (now (m .entry)) (now (w .entry)) (now (shuffle .entry)) in
         let old = lent (now (weights .entry)) (now (choices .entry)) (now (donors .entry)) (now (recipients .entry)) in
         let new = lent (now (weights .exit)) (now (choices .exit)) (now (donors .exit)) (now (recipients .exit)) in
         ⌜ PlansByValue a old new room r ⌝ }
 {
     match validation::judge(
         n,
+        floor,
         m,
         w,
         shuffle,
@@ -148,13 +160,25 @@ fn plan_by_value(
         room,
     ) {
         Verdict::Faulty(why) => turned_back(why),
-        Verdict::Sound => make(n, m, w, shuffle, weights, choices, donors, recipients),
+        Verdict::Sound => make(
+            n,
+            floor,
+            m,
+            w,
+            shuffle,
+            weights,
+            choices,
+            donors,
+            recipients,
+        ),
     }
 }
 
-// Plans the pool of n pairs whose tables are m and w, with the shuffle; "the chosen cycles stand as records in a table lent by the caller".
+// Plans the pool of n pairs whose tables are m and w, with the floor and the shuffle; "the chosen cycles stand as records in a table lent by the
+// caller".
 pub fn plan(
     n: usize,
+    floor: u32,
     m: &[u8],
     w: &[u16],
     shuffle: &[u16],
@@ -165,12 +189,23 @@ pub fn plan(
     records: &mut [Cycle],
 ) -> Planning
     ensures { λ r.
-        let a = request n (now (m .entry)) (now (w .entry)) (now (shuffle .entry)) in
+        let a = request n floor (now (m .entry)) (now (w .entry)) (now (shuffle .entry)) in
         let t = lentPlan weights choices donors recipients records in
         ⌜ PlansRightly a (t .entry) (outcome (answerOf r) (t .exit)) ⌝ }
 {
     let room = records.len();
-    let work = plan_by_value(n, m, w, shuffle, weights, choices, donors, recipients, room);
+    let work = plan_by_value(
+        n,
+        floor,
+        m,
+        w,
+        shuffle,
+        weights,
+        choices,
+        donors,
+        recipients,
+        room,
+    );
     records::write(records, work.records, work.cycles);
     work.planning
 }

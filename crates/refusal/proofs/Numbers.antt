@@ -6,7 +6,7 @@ use lib.ListN.{getD}
 use Rattle.refusal.specs.Number.{numberOf}
 use Rattle.refusal.specs.Promises.{OwnNumbers}
 use Rattle.refusal.specs.declared.Refusal.{Refusal}
-use Rattle.refusal.specs.declared.Refusal.the-variants.{CutOff, WrongField, WrongVersion, TooManyPairs, LeftOver, OutOfRange, RepeatedId, NotAShuffle, TooShort, NotCompatibility, SharedId, TooManyTogether}
+use Rattle.refusal.specs.declared.Refusal.the-variants.{CutOff, WrongField, WrongVersion, TooManyPairs, LeftOver, OutOfRange, RepeatedId, NotAShuffle, TooShort, NotCompatibility, SharedId, TooManyTogether, FloorTooHigh}
 
 abbrev named : ℕ → Refusal
 named k =
@@ -24,6 +24,7 @@ named k =
     ∷ NotCompatibility
     ∷ SharedId
     ∷ TooManyTogether
+    ∷ FloorTooHigh
     ∷ []) k CutOff
 
 named-number : (a : Refusal) → named (numberOf a) ≡ a
@@ -39,6 +40,7 @@ named-number TooShort = refl
 named-number NotCompatibility = refl
 named-number SharedId = refl
 named-number TooManyTogether = refl
+named-number FloorTooHigh = refl
 
 pub own-numbers : OwnNumbers
 own-numbers a b e = sym (named-number a) ∙ ap named e ∙ named-number b

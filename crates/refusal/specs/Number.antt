@@ -2,7 +2,7 @@
 use Prim.Native.Nat.{ℕ}
 use Rattle.refusal.specs.Fault.{Fault, none, fault}
 use Rattle.refusal.specs.declared.Refusal.{Refusal}
-use Rattle.refusal.specs.declared.Refusal.the-variants.{CutOff, WrongField, WrongVersion, TooManyPairs, LeftOver, OutOfRange, RepeatedId, NotAShuffle, TooShort, NotCompatibility, SharedId, TooManyTogether}
+use Rattle.refusal.specs.declared.Refusal.the-variants.{CutOff, WrongField, WrongVersion, TooManyPairs, LeftOver, OutOfRange, RepeatedId, NotAShuffle, TooShort, NotCompatibility, SharedId, TooManyTogether, FloorTooHigh}
 use Rattle.refusal.specs.declared.Verdict.{Verdict}
 use Rattle.refusal.specs.declared.Verdict.the-variants.{Sound, Faulty}
 
@@ -20,6 +20,7 @@ numberOf NotCompatibility = 10
 -- "Refusals added here and later count as listed in document 01"
 numberOf SharedId = 11
 numberOf TooManyTogether = 12
+numberOf FloorTooHigh = 13
 
 -- what a check found, as a fault with a place
 unfoldable pub faultAt : ℕ → Verdict → Fault

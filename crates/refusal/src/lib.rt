@@ -26,6 +26,8 @@ pub enum Refusal {
     SharedId,
     // Whoever joins two sheets: they have more than 200 pairs together.
     TooManyTogether,
+    // The calling program again: the floor is above 200,000.
+    FloorTooHigh,
 }
 
 // What a check of one thing finds.
@@ -51,5 +53,6 @@ pub fn number(why: Refusal) -> u8
         Refusal::NotCompatibility => 10,
         Refusal::SharedId => 11,
         Refusal::TooManyTogether => 12,
+        Refusal::FloorTooHigh => 13,
     }
 }

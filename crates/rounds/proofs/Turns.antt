@@ -12,7 +12,6 @@ use Rattle.greedy.specs.Tally.{raise, nextRound}
 use Rattle.greedy.specs.Rounds.{Chosen, clear, clearBefore, clearingTally, clearingTallyBefore, Left, left, rounds}
 use Rattle.greedy.proofs.Choosing.{choosing-tally}
 use Rattle.greedy.proofs.Tallied.{clear-length}
-use Rattle.exchange.specs.Input.{noFloor}
 use Rattle.exchange.specs.Subsets.{upToThree, order, subsetCount}
 use Rattle.gates.specs.Counting.{counted}
 use Rattle.gates.specs.declared.Tally.{Tally}
@@ -49,32 +48,32 @@ chosenFirst i rest = left (rest .weights) (i ∷ rest .choices) (rest .tally)
 after-first : (cs : List ℕ) (i : ℕ) (rest : Left) → after cs (chosenFirst i rest) ≡ after (cs ++ (i ∷ [])) rest
 after-first cs i rest = ap (λ (l : List ℕ). left (rest .weights) l (rest .tally)) (sym (append-assoc cs (i ∷ []) (rest .choices)))
 
-pub record BeforeRound (n : ℕ) (old first : List ℕ) (t : Tally) (weights choices : List ℕ) (u : Tally) (k : ℕ) : Type 0 where
+pub record BeforeRound (n f : ℕ) (old first : List ℕ) (t : Tally) (weights choices : List ℕ) (u : Tally) (k : ℕ) : Type 0 where
   pub upto : k ≤ length first
   pub long : length weights ≡ length old
   pub wide : length choices ≡ length first
-  pub same : after (take k choices) (rounds noFloor (length first - k) (order (upToThree n)) weights (counted u)) ≡ rounds noFloor (length first) (order (upToThree n)) old (counted t)
+  pub same : after (take k choices) (rounds f (length first - k) (order (upToThree n)) weights (counted u)) ≡ rounds f (length first) (order (upToThree n)) old (counted t)
   pub room : RoomFor (length first - k) (length weights) u
 
-module _ (n : ℕ) (old first : List ℕ) (t : Tally) (asked : Rounding (upToThree n) old first t) where
-  pub begins : BeforeRound n old first t old first t 0
+module _ (n f : ℕ) (old first : List ℕ) (t : Tally) (asked : Rounding (upToThree n) old first t) where
+  pub begins : BeforeRound n f old first t old first t 0
   begins =
       let z : length first - 0 ≡ length first = omega arith in
       record {
         upto = omega arith;
         long = refl;
         wide = refl;
-        same = ap (λ (m : ℕ). rounds noFloor m (order (upToThree n)) old (counted t)) z;
+        same = ap (λ (m : ℕ). rounds f m (order (upToThree n)) old (counted t)) z;
         room = subst (λ (m : ℕ). RoomFor m (length old) t) (sym z) (asked .room);
       }
 
-  module _ (weights choices : List ℕ) (u : Tally) (k : ℕ) (inv : BeforeRound n old first t weights choices u k) where
-    pub ends : k ≡ length first → left weights choices (counted u) ≡ rounds noFloor (length first) (order (upToThree n)) old (counted t)
+  module _ (weights choices : List ℕ) (u : Tally) (k : ℕ) (inv : BeforeRound n f old first t weights choices u k) where
+    pub ends : k ≡ length first → left weights choices (counted u) ≡ rounds f (length first) (order (upToThree n)) old (counted t)
     unfolding rounds
     ends h =
         let z : length first - k ≡ 0 = omega arith in
         ap (λ (l : List ℕ). left weights l (counted u)) (sym (append-nil choices ∙ refl) ∙ ap (λ (l : List ℕ). l ++ []) (sym (take-all k choices (omega (arith, inv .wide)))))
-        ∙ ap (λ (m : ℕ). after (take k choices) (rounds noFloor m (order (upToThree n)) weights (counted u))) (sym z)
+        ∙ ap (λ (m : ℕ). after (take k choices) (rounds f m (order (upToThree n)) weights (counted u))) (sym z)
         ∙ inv .same
 
     module _ (more : k < length first) where
@@ -111,11 +110,11 @@ module _ (n : ℕ) (old first : List ℕ) (t : Tally) (asked : Rounding (upToThr
       }
 
       module _ (cs : List ℕ) (v : Tally) (at : SecretPlaces)
-          (ec : (cs ≡ set choices k (choiceOf (upToThree n) weights u .number)) × (counted v ≡ choiceOf (upToThree n) weights u .tally) × (shown at ≡ placesAt (upToThree n) (choiceOf (upToThree n) weights u .number))) where
+          (ec : (cs ≡ set choices k (choiceOf (upToThree n) f weights u .number)) × (counted v ≡ choiceOf (upToThree n) f weights u .tally) × (shown at ≡ placesAt (upToThree n) (choiceOf (upToThree n) f weights u .number))) where
         raised : (v .comparisons ≡ u .comparisons + length weights) × (v .products ≡ u .products + (5 * length weights - 1)) × (v .rounds ≡ u .rounds + 1)
         unfolding raise nextRound
         raised =
-            let e : counted v ≡ raise (length weights) (5 * length weights - 1) (nextRound (counted u)) = ec .1 ∙ choosing-tally noFloor (order (upToThree n)) weights (nextRound (counted u)) some in
+            let e : counted v ≡ raise (length weights) (5 * length weights - 1) (nextRound (counted u)) = ec .1 ∙ choosing-tally f (order (upToThree n)) weights (nextRound (counted u)) some in
             (ap (λ (x : Tallies.Tally). x .comparisons) e, ap (λ (x : Tallies.Tally). x .products) e, ap (λ (x : Tallies.Tally). x .rounds) e)
 
         pub asks-clear : Clearing (upToThree n) weights v
@@ -133,10 +132,10 @@ module _ (n : ℕ) (old first : List ℕ) (t : Tally) (asked : Rounding (upToThr
           m-left : length first - k - 1 ≡ m
           m-left = omega arith
 
-          weights-are : ws ≡ clearBefore m (getD (order (upToThree n)) (choiceOf (upToThree n) weights u .number) []) (order (upToThree n)) weights
-          weights-are = ew .0 ∙ ap₂ (λ (j : ℕ) (c : List ℕ). clearBefore j c (order (upToThree n)) weights) m-left (stands-all n (choiceOf (upToThree n) weights u .number) (asked .few) (shown at) (ec .2))
+          weights-are : ws ≡ clearBefore m (getD (order (upToThree n)) (choiceOf (upToThree n) f weights u .number) []) (order (upToThree n)) weights
+          weights-are = ew .0 ∙ ap₂ (λ (j : ℕ) (c : List ℕ). clearBefore j c (order (upToThree n)) weights) m-left (stands-all n (choiceOf (upToThree n) f weights u .number) (asked .few) (shown at) (ec .2))
 
-          tally-is : counted w ≡ clearingTallyBefore m (order (upToThree n)) (choiceOf (upToThree n) weights u .tally)
+          tally-is : counted w ≡ clearingTallyBefore m (order (upToThree n)) (choiceOf (upToThree n) f weights u .tally)
           tally-is = ew .1 ∙ ap₂ (λ (j : ℕ) (x : Tallies.Tally). clearingTallyBefore j (order (upToThree n)) x) m-left (ec .1)
 
           weights-long : length ws ≡ length weights
@@ -150,11 +149,11 @@ module _ (n : ℕ) (old first : List ℕ) (t : Tally) (asked : Rounding (upToThr
                 ap (λ (x : Tallies.Tally). x .rounds) (ew .1) ∙ le .2,
               )
 
-          pub next : BeforeRound n old first t ws cs w (k + 1)
+          pub next : BeforeRound n f old first t ws cs w (k + 1)
           unfolding rounds
           next =
               let ss = order (upToThree n) in
-              let c : Chosen = choiceOf (upToThree n) weights u in
+              let c : Chosen = choiceOf (upToThree n) f weights u in
               let z : length first - k ≡ suc m = omega arith in
               record {
                 upto = omega arith;
@@ -162,9 +161,9 @@ module _ (n : ℕ) (old first : List ℕ) (t : Tally) (asked : Rounding (upToThr
                 wide = ap length (ec .0) ∙ length-set choices k (c .number) ∙ inv .wide;
                 same = ap₂ (λ (l : List ℕ) (x : Left). after l x)
                     (ap (take (k + 1)) (ec .0) ∙ ap (λ (j : ℕ). take j (set choices k (c .number))) (add-one k) ∙ take-suc-set choices k (c .number) (omega (arith, inv .wide)))
-                    (ap₂ (λ (a : List ℕ) (b : Tallies.Tally). rounds noFloor m ss a b) weights-are tally-is)
-                    ∙ sym (after-first (take k choices) (c .number) (rounds noFloor m ss (clearBefore m (getD ss (c .number) []) ss weights) (clearingTallyBefore m ss (c .tally))))
-                    ∙ ap (λ (j : ℕ). after (take k choices) (rounds noFloor j ss weights (counted u))) (sym z)
+                    (ap₂ (λ (a : List ℕ) (b : Tallies.Tally). rounds f m ss a b) weights-are tally-is)
+                    ∙ sym (after-first (take k choices) (c .number) (rounds f m ss (clearBefore m (getD ss (c .number) []) ss weights) (clearingTallyBefore m ss (c .tally))))
+                    ∙ ap (λ (j : ℕ). after (take k choices) (rounds f j ss weights (counted u))) (sym z)
                     ∙ inv .same;
                 room = record {
                   comparisons = omega (arith, inv .room .comparisons, less (length weights), raised .0, tally-le .0, ap (λ (x : ℕ). m * x) weights-long);

@@ -1,5 +1,5 @@
-// Pools to try, and the plans that planning makes of them: document 01's k1 to k12, a pool of 36 and one of 200. What it prints is held to the
-// file 'stdout'. Every lent entry holds 99 before a call, and the first one past the filled part is printed too.
+// Pools to try, and the plans that planning makes of them: document 01's k1 to k12, pools with floors, one of 36 and one of 200. What it prints is held to
+// the file 'stdout'. Every lent entry holds 99 before a call, and the first one past the filled part is printed too.
 use cycle::Cycle;
 use planner::Planning;
 ghost use mathlib.Core.Path.{_≡_};
@@ -123,6 +123,7 @@ fn together(answer: Planning, records: [Cycle; 101]) -> Planned
 // Plans, lending a table of records.
 fn plan(
     n: usize,
+    floor: u32,
     m: &[u8],
     w: &[u16],
     shuffle: &[u16],
@@ -132,7 +133,7 @@ fn plan(
     recipients: &mut [u16],
 ) -> Planned
     ensures { λ r.
-        let a = request n (now (m .entry)) (now (w .entry)) (now (shuffle .entry)) in
+        let a = request n floor (now (m .entry)) (now (w .entry)) (now (shuffle .entry)) in
         let old = lent (now (weights .entry)) (now (choices .entry)) (now (donors .entry)) (now (recipients .entry)) in
         let new = lent (now (weights .exit)) (now (choices .exit)) (now (donors .exit)) (now (recipients .exit)) in
         ⌜ outcome (answerOf (r .answer)) (new (r .records))
@@ -141,6 +142,7 @@ fn plan(
     let mut records = fresh();
     let answer = planner::plan(
         n,
+        floor,
         m,
         w,
         shuffle,
@@ -154,7 +156,7 @@ fn plan(
 }
 
 // Plans a pool of at most 6 pairs and so many subsets, and prints the answer and what stands then in each table, with one entry past what is due.
-fn try_pool(name: &[u8], n: usize, subsets: usize, m: &[u8], w: &[u16], shuffle: &[u16])
+fn try_pool(name: &[u8], n: usize, floor: u32, subsets: usize, m: &[u8], w: &[u16], shuffle: &[u16])
     requires { ⌜ (n ≤ 6) × (subsets ≤ 35) ⌝ }
 {
     let past = n + 1;
@@ -168,6 +170,7 @@ fn try_pool(name: &[u8], n: usize, subsets: usize, m: &[u8], w: &[u16], shuffle:
     let mut recipients = [99u16; 7];
     let planned = plan(
         n,
+        floor,
         m,
         w,
         shuffle,
@@ -189,37 +192,37 @@ fn try_pool(name: &[u8], n: usize, subsets: usize, m: &[u8], w: &[u16], shuffle:
 }
 
 // Plans a pool of two pairs, each table in the order (0, 0), (0, 1), (1, 0), (1, 1).
-fn try_two(name: &[u8], m: [u8; 4], w: [u16; 4], shuffle: [u16; 2]) {
-    try_pool(name, 2, 1, &m, &w, &shuffle);
+fn try_two(name: &[u8], floor: u32, m: [u8; 4], w: [u16; 4], shuffle: [u16; 2]) {
+    try_pool(name, 2, floor, 1, &m, &w, &shuffle);
 }
 
 fn try_small() {
     let m = [0u8; 1];
     let w = [0u16; 1];
     let shuffle = [0u16; 1];
-    try_pool(b"k1:", 0, 0, &m, &w, &shuffle);
-    try_pool(b"k2:", 1, 0, &m, &w, &shuffle);
-    try_two(b"k3:", [0, 1, 1, 0], [0, 5, 7, 0], [0, 1]);
-    try_two(b"k4:", [0, 1, 0, 0], [0, 5, 0, 0], [0, 1]);
-    try_two(b"k5:", [0, 1, 1, 0], [0, 0, 0, 0], [0, 1]);
+    try_pool(b"k1:", 0, 0, 0, &m, &w, &shuffle);
+    try_pool(b"k2:", 1, 0, 0, &m, &w, &shuffle);
+    try_two(b"k3:", 0, [0, 1, 1, 0], [0, 5, 7, 0], [0, 1]);
+    try_two(b"k4:", 0, [0, 1, 0, 0], [0, 5, 0, 0], [0, 1]);
+    try_two(b"k5:", 0, [0, 1, 1, 0], [0, 0, 0, 0], [0, 1]);
 }
 
 fn try_triples() {
     let identity = [0u16, 1, 2];
     let all = [0u8, 1, 1, 1, 0, 1, 1, 1, 0];
     let alike = [0u16, 4, 4, 4, 0, 4, 4, 4, 0];
-    try_pool(b"k6:", 3, 4, &all, &alike, &identity);
+    try_pool(b"k6:", 3, 0, 4, &all, &alike, &identity);
     let reverse_heavier = [0u16, 1, 2, 2, 0, 1, 1, 2, 0];
-    try_pool(b"k7:", 3, 4, &all, &reverse_heavier, &identity);
+    try_pool(b"k7:", 3, 0, 4, &all, &reverse_heavier, &identity);
     let m = [0u8, 1, 1, 1, 0, 0, 1, 0, 0];
     let w = [0u16, 5, 5, 5, 0, 0, 5, 0, 0];
-    try_pool(b"k10:", 3, 4, &m, &w, &identity);
+    try_pool(b"k10:", 3, 0, 4, &m, &w, &identity);
     let other = [2u16, 0, 1];
-    try_pool(b"k10 with shuffle 2 0 1:", 3, 4, &m, &w, &other);
+    try_pool(b"k10 with shuffle 2 0 1:", 3, 0, 4, &m, &w, &other);
 }
 
 // 0 to 1 to 2 to 0 at 2; 0 and 3, 1 and 4, 2 and 5 both ways at 3.
-fn try_k8() {
+fn try_k8(name: &[u8], floor: u32) {
     let mut m = [0u8; 36];
     let mut w = [0u16; 36];
     m[1] = 1;
@@ -241,25 +244,127 @@ fn try_k8() {
     w[17] = 3;
     w[32] = 3;
     let identity = [0u16, 1, 2, 3, 4, 5];
-    try_pool(b"k8:", 6, 35, &m, &w, &identity);
+    try_pool(name, 6, floor, 35, &m, &w, &identity);
 }
 
 fn try_k9() {
     let m = [0u8, 1, 0, 0, 1, 0, 0, 0, 0, 0, 0, 1, 0, 0, 1, 0];
     let w = [0u16, 3, 0, 0, 3, 0, 0, 0, 0, 0, 0, 3, 0, 0, 3, 0];
     let identity = [0u16, 1, 2, 3];
-    try_pool(b"k9:", 4, 10, &m, &w, &identity);
+    try_pool(b"k9:", 4, 0, 10, &m, &w, &identity);
 }
 
 fn try_refusals() {
-    try_two(b"k11:", [0, 1, 1, 0], [0, 5, 7, 0], [0, 0]);
-    try_two(b"k12:", [0, 2, 1, 0], [0, 5, 7, 0], [0, 1]);
-    try_two(b"M(0, 0) is 1:", [1, 1, 1, 0], [0, 5, 7, 0], [0, 1]);
-    try_two(b"8 and 10:", [1, 2, 1, 0], [0, 5, 7, 0], [1, 1]);
+    try_two(b"k11:", 0, [0, 1, 1, 0], [0, 5, 7, 0], [0, 0]);
+    try_two(b"k12:", 0, [0, 2, 1, 0], [0, 5, 7, 0], [0, 1]);
+    try_two(b"M(0, 0) is 1:", 0, [1, 1, 1, 0], [0, 5, 7, 0], [0, 1]);
+    try_two(b"8 and 10:", 0, [1, 2, 1, 0], [0, 5, 7, 0], [1, 1]);
     let m = [2u8; 8];
     let w = [0u16; 9];
     let shuffle = [0u16; 3];
-    try_pool(b"9, 8 and 10:", 3, 4, &m, &w, &shuffle);
+    try_pool(b"9, 8 and 10:", 3, 0, 4, &m, &w, &shuffle);
+}
+
+// Two swaps, of weights 6 and 8; then one of weight 10, and one of weight 2 that shares a pair with it.
+fn try_swaps() {
+    let identity = [0u16, 1, 2, 3];
+    let apart = [0u8, 1, 0, 0, 1, 0, 0, 0, 0, 0, 0, 1, 0, 0, 1, 0];
+    let six_and_eight = [0u16, 3, 0, 0, 3, 0, 0, 0, 0, 0, 0, 4, 0, 0, 4, 0];
+    try_pool(
+        b"6 and 8, floor 5:",
+        4,
+        5,
+        10,
+        &apart,
+        &six_and_eight,
+        &identity,
+    );
+    try_pool(
+        b"6 and 8, floor 6:",
+        4,
+        6,
+        10,
+        &apart,
+        &six_and_eight,
+        &identity,
+    );
+    try_pool(
+        b"6 and 8, floor 8:",
+        4,
+        8,
+        10,
+        &apart,
+        &six_and_eight,
+        &identity,
+    );
+    let sharing = [0u8, 1, 1, 0, 1, 0, 0, 0, 1, 0, 0, 0, 0, 0, 0, 0];
+    let ten_and_two = [0u16, 5, 1, 0, 5, 0, 0, 0, 1, 0, 0, 0, 0, 0, 0, 0];
+    try_pool(
+        b"10 and 2, floor 5:",
+        4,
+        5,
+        10,
+        &sharing,
+        &ten_and_two,
+        &identity,
+    );
+}
+
+// The greatest weight that a cycle can have, 196,605.
+fn try_greatest() {
+    let identity = [0u16, 1, 2];
+    let m = [0u8, 1, 0, 0, 0, 1, 1, 0, 0];
+    let w = [0u16, 65535, 0, 0, 0, 65535, 65535, 0, 0];
+    try_pool(b"196605, floor 196604:", 3, 196604, 4, &m, &w, &identity);
+    try_pool(b"196605, floor 196605:", 3, 196605, 4, &m, &w, &identity);
+    try_pool(b"196605, floor 200000:", 3, 200000, 4, &m, &w, &identity);
+}
+
+// A floor that is too high, alone and with other faults.
+fn try_high() {
+    try_two(b"floor 200001:", 200001, [0, 1, 1, 0], [0, 5, 7, 0], [0, 1]);
+    let m = [0u8; 1];
+    let w = [0u16; 1];
+    let shuffle = [0u16; 1];
+    try_pool(
+        b"9 and not 13:",
+        2,
+        200000,
+        1,
+        &m[..0],
+        &w[..0],
+        &shuffle[..0],
+    );
+    try_pool(b"13 and 9:", 2, 200001, 1, &m[..0], &w[..0], &shuffle[..0]);
+    let mut weights = [99u32; 1];
+    let mut choices = [99u32; 1];
+    let mut donors = [99u16; 1];
+    let mut recipients = [99u16; 1];
+    let planned = plan(
+        201,
+        200001,
+        &m,
+        &w,
+        &shuffle,
+        &mut weights,
+        &mut choices,
+        &mut donors,
+        &mut recipients,
+    );
+    let answer = planned.answer;
+    print(b"4 and 13:");
+    print_answer(answer);
+    print(b"\n");
+}
+
+fn try_floors() {
+    try_two(b"k3, floor 11:", 11, [0, 1, 1, 0], [0, 5, 7, 0], [0, 1]);
+    try_two(b"k3, floor 12:", 12, [0, 1, 1, 0], [0, 5, 7, 0], [0, 1]);
+    try_k8(b"k8, floor 5:", 5);
+    try_k8(b"k8, floor 6:", 6);
+    try_swaps();
+    try_greatest();
+    try_high();
 }
 
 // A pool that a formula gives: an edge where (7i + 11j) mod 5 is below 2, of weight 1 + (31i + 17j) mod 997; place p holds pair 7p mod n.
@@ -293,7 +398,7 @@ fn fill_shuffle(n: usize, shuffle: &mut [u16])
     }
 }
 
-fn try_36() {
+fn try_36(name: &[u8], floor: u32) {
     let mut m = [0u8; 1296];
     let mut w = [0u16; 1296];
     let mut shuffle = [0u16; 36];
@@ -305,6 +410,7 @@ fn try_36() {
     let mut recipients = [99u16; 37];
     let planned = plan(
         36,
+        floor,
         &m,
         &w,
         &shuffle,
@@ -315,7 +421,7 @@ fn try_36() {
     );
     let answer = planned.answer;
     let records = planned.records;
-    print(b"36 pairs:");
+    print(name);
     print_answer(answer);
     print_choices(b"\n  choices", &choices, 19);
     print_pairs(b"\n  donors", &donors, 37);
@@ -336,6 +442,7 @@ fn try_200() {
     let mut recipients = [99u16; 201];
     let planned = plan(
         200,
+        0,
         &m,
         &w,
         &shuffle,
@@ -355,9 +462,11 @@ fn try_200() {
 fn main() {
     try_small();
     try_triples();
-    try_k8();
+    try_k8(b"k8:", 0);
     try_k9();
     try_refusals();
-    try_36();
+    try_floors();
+    try_36(b"36 pairs:", 0);
+    try_36(b"36 pairs, floor 2500:", 2500);
     try_200();
 }

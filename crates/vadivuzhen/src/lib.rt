@@ -161,6 +161,7 @@ pub extern "C" fn vadivuzhen_build(
 #[no_mangle]
 pub extern "C" fn vadivuzhen_plan(
     n: usize,
+    floor: u32,
     m: &[u8],
     w: &[u16],
     shuffle: &[u16],
@@ -171,7 +172,7 @@ pub extern "C" fn vadivuzhen_plan(
     records: &mut [Cycle],
 ) -> PlanAnswer
     ensures { λ r.
-        let a = request n (now (m .entry)) (now (w .entry)) (now (shuffle .entry)) in
+        let a = request n floor (now (m .entry)) (now (w .entry)) (now (shuffle .entry)) in
         let t = lentPlan weights choices donors recipients records in
         let due = planning a (t .entry) in
         ⌜ (r ≡ planNumbers (due .answer)) × NumberedAt0 (due .answer) ⌝
@@ -180,6 +181,7 @@ pub extern "C" fn vadivuzhen_plan(
 {
     let answer = planner::plan(
         n,
+        floor,
         m,
         w,
         shuffle,

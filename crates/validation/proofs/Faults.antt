@@ -17,15 +17,21 @@ use Rattle.refusal.proofs.Faults.{refuse-none, none-refuse, fault-refuse, then-
 use Rattle.pool.specs.Faults.{shuffleFault, roomFault}
 use Rattle.exchange.specs.Subsets.{entry}
 use Rattle.exchange.specs.Input.{Request}
-use Rattle.exchange.specs.Planning.{Lengths, shortToRead, shortToFill, tableFault, planFault}
+use Rattle.exchange.specs.Planning.{Lengths, mostFloor, shortToRead, shortToFill, tableFault, planFault}
 
--- ## 4 and 9
+-- ## 4, 13 and 9
 
 pub many : (n : ℕ) (g : Fault) → 200 < n → fault 4 0 ≡ (refuse 4 0 (ltb 200 n) then g)
 many n g h = sym (fault-then _ g (fault-refuse 4 0 _ (lt-ltb 200 n h)))
 
 pub not-many : (n : ℕ) (g : Fault) → n ≤ 200 → g ≡ (refuse 4 0 (ltb 200 n) then g)
 not-many n g h = sym (none-then _ g (none-refuse 4 0 _ (le-ltb 200 n h)))
+
+pub high : (f : ℕ) (g : Fault) → mostFloor < f → fault 13 0 ≡ (refuse 13 0 (ltb mostFloor f) then g)
+high f g h = sym (fault-then _ g (fault-refuse 13 0 _ (lt-ltb mostFloor f h)))
+
+pub not-high : (f : ℕ) (g : Fault) → f ≤ mostFloor → g ≡ (refuse 13 0 (ltb mostFloor f) then g)
+not-high f g h = sym (none-then _ g (none-refuse 13 0 _ (le-ltb mostFloor f h)))
 
 pub short : (space due : ℕ) → space < due → fault 9 0 ≡ roomFault space due
 unfolding roomFault
@@ -72,12 +78,15 @@ either-none a b e d = rw e d
 -- ## The checks, one after another: `a`, `b` and `c` are what each found
 
 -- of the tables that are read, by their lengths
-module _ (n m w s : ℕ) (a : Verdict) (ea : faultAt 0 a ≡ (refuse 4 0 (ltb 200 n) then shortToRead n m w s)) (ga : a ≡ Sound) where
-  read : (refuse 4 0 (ltb 200 n) then shortToRead n m w s) ≡ none
+module _ (n f m w s : ℕ) (a : Verdict) (ea : faultAt 0 a ≡ (refuse 4 0 (ltb 200 n) then refuse 13 0 (ltb mostFloor f) then shortToRead n m w s)) (ga : a ≡ Sound) where
+  read : (refuse 4 0 (ltb 200 n) then refuse 13 0 (ltb mostFloor f) then shortToRead n m w s) ≡ none
   read = sound-none 0 a ea ga
 
   pub read-few : n ≤ 200
   read-few = ltb-false 200 n (refuse-none 4 0 _ (then-none _ _ read .0))
+
+  lengths : shortToRead n m w s ≡ none
+  lengths = then-none _ _ (then-none _ _ read .1) .1
 
   room : (space due : ℕ) → roomFault space due ≡ none → due ≤ space
   unfolding roomFault
@@ -85,20 +94,26 @@ module _ (n m w s : ℕ) (a : Verdict) (ea : faultAt 0 a ≡ (refuse 4 0 (ltb 20
 
   pub read-compatibility : n * n ≤ m
   unfolding shortToRead
-  read-compatibility = room _ _ (then-none _ _ (then-none _ _ read .1) .0)
+  read-compatibility = room _ _ (then-none _ _ lengths .0)
 
   pub read-shuffle : n ≤ s
   unfolding shortToRead
-  read-shuffle = room _ _ (then-none _ _ (then-none _ _ (then-none _ _ read .1) .1) .1)
+  read-shuffle = room _ _ (then-none _ _ (then-none _ _ lengths .1) .1)
 
-module _ (r : Request) (z : Lengths) (a : Verdict)
-    (ea : faultAt 0 a ≡ (refuse 4 0 (ltb 200 (r .scope .pairs)) then shortToRead (r .scope .pairs) (length (r .compatibilities)) (length (r .weights)) (length (r .shuffle)))) where
+-- the faults that are looked for by the numbers and lengths alone, of what is read
+abbrev toRead : Request → Fault
+toRead r =
+    refuse 4 0 (ltb 200 (r .scope .pairs))
+    then refuse 13 0 (ltb mostFloor (r .floor))
+    then shortToRead (r .scope .pairs) (length (r .compatibilities)) (length (r .weights)) (length (r .shuffle))
+
+module _ (r : Request) (z : Lengths) (a : Verdict) (ea : faultAt 0 a ≡ toRead r) where
   abbrev later : Fault
   later = shuffleFault 0 (r .scope .pairs) (λ j. getD (r .shuffle) j 0) then tableFault (r .scope .pairs) (r .compatibilities)
 
-  in-two : planFault r z ≡ ((refuse 4 0 (ltb 200 (r .scope .pairs)) then shortToRead (r .scope .pairs) (length (r .compatibilities)) (length (r .weights)) (length (r .shuffle))) then shortToFill (r .scope) z then later)
+  in-two : planFault r z ≡ (toRead r then shortToFill (r .scope) z then later)
   unfolding planFault
-  in-two = sym (then-assoc _ _ _)
+  in-two = ap (λ (f : Fault). refuse 4 0 (ltb 200 (r .scope .pairs)) then f) (sym (then-assoc _ _ _)) ∙ sym (then-assoc _ _ _)
 
   pub judge-read : (why : Refusal) → a ≡ Faulty why → faultAt 0 (Faulty why) ≡ planFault r z
   unfolding faultAt

@@ -1,4 +1,4 @@
-// What planning checks of its input before anything is filled: 4, 9, 8, 10.
+// What planning checks of its input before anything is filled: 4, 13, 9, 8, 10.
 use refusal::Refusal;
 use refusal::Verdict;
 ghost use mathlib.Core.Path.{_≡_};
@@ -10,14 +10,20 @@ ghost use Rattle.refusal.specs.Fault.{refuse, _then_};
 ghost use Rattle.refusal.specs.Number.{faultAt};
 ghost use Rattle.exchange.specs.Subsets.{upToThree, entry};
 ghost use Rattle.exchange.specs.Input.{request};
-ghost use Rattle.exchange.specs.Planning.{lengths, shortToRead, shortToFill, tableFault, planFault};
+ghost use Rattle.exchange.specs.Planning.{lengths, mostFloor, shortToRead, shortToFill, tableFault, planFault};
 
-// 4, then 9 of the tables that are read, by their lengths.
-fn readable(n: usize, m: usize, w: usize, shuffle: usize) -> Verdict
-    ensures { λ r. ⌜ faultAt 0 r ≡ (refuse 4 0 (ltb 200 n) then shortToRead n m w shuffle) ⌝ }
+// "Planning takes a floor, 0 to 200,000."
+const MOST_FLOOR: u32 = 200000;
+
+// 4, then 13, then 9 of the tables that are read, by their lengths.
+fn readable(n: usize, floor: u32, m: usize, w: usize, shuffle: usize) -> Verdict
+    ensures { λ r. ⌜ faultAt 0 r ≡ (refuse 4 0 (ltb 200 n) then refuse 13 0 (ltb mostFloor floor) then shortToRead n m w shuffle) ⌝ }
 {
     if n > 200 {
         return Verdict::Faulty(Refusal::TooManyPairs);
+    }
+    if floor > MOST_FLOOR {
+        return Verdict::Faulty(Refusal::FloorTooHigh);
     }
     if m < n * n {
         return Verdict::Faulty(Refusal::TooShort);
@@ -94,9 +100,10 @@ fn compatibility(n: usize, m: &[u8]) -> Verdict
     Verdict::Sound
 }
 
-// "Planning checks 4, 9, 8, 10."
+// "Planning checks 4, 9, 8, 10", with 13 "after 4".
 pub fn judge(
     n: usize,
+    floor: u32,
     m: &[u8],
     w: &[u16],
     shuffle: &[u16],
@@ -107,10 +114,10 @@ pub fn judge(
     room: usize,
 ) -> Verdict
     ensures { λ r.
-        let a = request n (now (m .entry)) (now (w .entry)) (now (shuffle .entry)) in
+        let a = request n floor (now (m .entry)) (now (w .entry)) (now (shuffle .entry)) in
         ⌜ faultAt 0 r ≡ planFault a (lengths weights choices donors recipients room) ⌝ }
 {
-    match readable(n, m.len(), w.len(), shuffle.len()) {
+    match readable(n, floor, m.len(), w.len(), shuffle.len()) {
         Verdict::Faulty(why) => {
             return Verdict::Faulty(why);
         }

@@ -19,7 +19,7 @@ returns : tie.Need-returns
 returns c =
     let won = c .before .before in
     let made = c .final-test .ensures in
-    chosen _ _ _ (won .before .before .before .pre) _ (won .choose-part .ensures) _ (made .0) (made .1) (made .2)
+    chosen _ _ _ (won .before .before .before .pre) _ (won .choose-part .ensures) _ _ (made .0) (made .1) (made .2)
 
 pub choice-spec : {M : Type 1} → statement M
 choice-spec = tie.close (tie.spec (λ c κs. search needs) choose-part-requires final-test-requires returns)

@@ -19,7 +19,7 @@ returns c =
     let stored = c .before .before .before .before in
     let chosen = stored .before .before in
     let begun = chosen .before in
-    stored-is _ _ _ _ _ (start begun .pre) _ (begun .begin-round .ensures) _ (chosen .choice .ensures) _ (stored .store-u32 .ensures)
+    stored-is _ _ _ _ _ (start begun .pre) _ (begun .begin-round .ensures) _ _ (chosen .choice .ensures) _ (stored .store-u32 .ensures)
 
 pub chosen-in-round-spec : {M : Type 1} → statement M
 chosen-in-round-spec = tie.close (tie.spec (λ c κs. search needs) choice-requires store-u32-requires (λ c. search needs) returns)

@@ -31,8 +31,8 @@ returns c =
     let nowhere = some .before in
     let none = nowhere .before in
     let a = start some .args in (
-      number-is (a .n) (a .none) (a .best) _ _ (none .before .known .ensures) (some .comparison .ensures .0) _ _ (none .known2 .ensures) (number .pick .ensures .0),
-      places-are-tested (a .n) (a .none) (a .best) _ _ (none .before .known .ensures) (some .comparison .ensures .0) _ _ _ _ (nowhere .known3 .ensures)
+      number-is (a .n) (a .floor) (a .none) (a .best) _ _ (none .before .known .ensures) (some .comparison .ensures .0) _ _ (none .known2 .ensures) (number .pick .ensures .0),
+      places-are-tested (a .n) (a .floor) (a .none) (a .best) _ _ (none .before .known .ensures) (some .comparison .ensures .0) _ _ _ _ (nowhere .known3 .ensures)
           (u .pick2 .ensures .0) (v .pick3 .ensures .0) (w .pick4 .ensures .0),
       raised-then (raised-then (raised-then (raised-then (some .comparison .ensures .1) (number .pick .ensures .1)) (u .pick2 .ensures .1))
           (v .pick3 .ensures .1)) (w .pick4 .ensures .1),

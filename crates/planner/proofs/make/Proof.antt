@@ -15,22 +15,22 @@ abbrev after-steps : tie.After-resolve-arg → tie.After-steps
 after-steps c = c .before .before .before .before .before
 
 slice-aggregate-steps : tie.Need-slice-aggregate-steps
-slice-aggregate-steps c = weights-front _ _ _ _ _ _ _ _ (start (c .before) .pre) _ (c .before .count .ensures)
+slice-aggregate-steps c = weights-front _ _ _ _ _ _ _ _ _ (start (c .before) .pre) _ (c .before .count .ensures)
 
 slice-aggregate-steps-2 : tie.Need-slice-aggregate-steps-2
 slice-aggregate-steps-2 c =
     let count = c .before .before in
-    choices-front _ _ _ _ _ _ _ _ (start count .pre) _ (count .count .ensures)
+    choices-front _ _ _ _ _ _ _ _ _ (start count .pre) _ (count .count .ensures)
 
 steps-requires : tie.Need-steps-requires
 steps-requires c κs =
     let count = c .before .before in
-    asks-steps _ _ _ _ _ _ _ _ (start count .pre) _ (count .count .ensures)
+    asks-steps _ _ _ _ _ _ _ _ _ (start count .pre) _ (count .count .ensures)
 
 slice-aggregate-resolve : tie.Need-slice-aggregate-resolve
 slice-aggregate-resolve c =
     let s = start (after-count (after-steps c)) in
-    choices-part _ _ _ _ _ _ _ _ (s .pre) _ (after-count (after-steps c) .count .ensures) _ _ _ (after-steps c .steps .ensures)
+    choices-part _ _ _ _ _ _ _ _ _ (s .pre) _ (after-count (after-steps c) .count .ensures) _ _ _ (after-steps c .steps .ensures)
 
 slice-aggregate-resolve-2 : tie.Need-slice-aggregate-resolve-2
 slice-aggregate-resolve-2 c =
@@ -46,7 +46,7 @@ resolve-requires : tie.Need-resolve-requires
 resolve-requires c κs =
     let after-resolve-arg = c .before .before in
     let count = after-count (after-steps (after-resolve-arg)) in
-    asks-resolve _ _ _ _ _ _ _ _ (start count .pre) _ (count .count .ensures) _ _ _ (after-steps (after-resolve-arg) .steps .ensures)
+    asks-resolve _ _ _ _ _ _ _ _ _ (start count .pre) _ (count .count .ensures) _ _ _ (after-steps (after-resolve-arg) .steps .ensures)
 
 returns : tie.Need-returns
 returns c =
@@ -56,10 +56,10 @@ returns c =
     let all = after-count stepped in
     let pre = start all .pre in
     record {
-      made = plan-is _ _ _ _ _ _ _ _ pre _ (all .count .ensures) _ _ _ (stepped .steps .ensures) (made .resolve .result) _ _
+      made = plan-is _ _ _ _ _ _ _ _ _ pre _ (all .count .ensures) _ _ _ (stepped .steps .ensures) (made .resolve .result) _ _
           (made .resolve .ensures) _ (c .counts-of .ensures);
-      few = cycles-few _ _ _ _ _ _ _ _ pre _ (all .count .ensures) _ _ _ (stepped .steps .ensures) (made .resolve .result) _ _ (made .resolve .ensures);
-      leaves = lent-is _ _ _ _ _ _ _ _ pre _ (all .count .ensures) _ _ _ (stepped .steps .ensures) (made .resolve .result) _ _ (made .resolve .ensures);
+      few = cycles-few _ _ _ _ _ _ _ _ _ pre _ (all .count .ensures) _ _ _ (stepped .steps .ensures) (made .resolve .result) _ _ (made .resolve .ensures);
+      leaves = lent-is _ _ _ _ _ _ _ _ _ pre _ (all .count .ensures) _ _ _ (stepped .steps .ensures) (made .resolve .result) _ _ (made .resolve .ensures);
     }
 
 pub make-spec : {M : Type 1} → statement M

@@ -11,19 +11,19 @@ after-judge c = c .before .before .before .before .before .before
 make-requires : tie.Need-make-requires
 make-requires c κs =
     let after-enum-told = c .before .before .before .before in
-    call-asks _ _ _ _ _ _ _ _ _ (after-judge c .judge .result) (after-judge c .judge .ensures) (after-enum-told .enum-told .given .1)
+    call-asks _ _ _ _ _ _ _ _ _ _ (after-judge c .judge .result) (after-judge c .judge .ensures) (after-enum-told .enum-told .given .1)
 
 returns : tie.Need-returns
 returns c =
     let j = c .before .before .before .before in
-    call-refused _ _ _ _ _ _ _ _ _ (j .judge .result) (j .judge .ensures) _ (c .before .before .why .given .1) (c .turned-back .result) (c .turned-back .ensures)
+    call-refused _ _ _ _ _ _ _ _ _ _ (j .judge .result) (j .judge .ensures) _ (c .before .before .why .given .1) (c .turned-back .result) (c .turned-back .ensures)
 
 returns-2 : tie.Need-returns-2
 returns-2 c =
     let m = c .before .before .before .before .before .before .before .before in
     let after-enum-told = m .before .before .before .before .before in
     let j = after-enum-told .before .before in
-    call-made _ _ _ _ _ _ _ _ _ (j .judge .result) (j .judge .ensures) (after-enum-told .enum-told .given .1) (m .make .result) _ (m .make .ensures)
+    call-made _ _ _ _ _ _ _ _ _ _ (j .judge .result) (j .judge .ensures) (after-enum-told .enum-told .given .1) (m .make .result) _ (m .make .ensures)
 
 pub plan-by-value-spec : {M : Type 1} → statement M
 plan-by-value-spec =

@@ -13,12 +13,12 @@ slice-aggregate-plan-4 : tie.Need-slice-aggregate-plan-4
 slice-aggregate-plan-4 c = sym (length-replicate {A = ℕ} 1333301 99)
 
 slice-aggregate-print-choices-2 : tie.Need-slice-aggregate-print-choices-2
-slice-aggregate-print-choices-2 c = sym (after-plan c .plan .kept .1 .1 .1 .1 .1 .0)
+slice-aggregate-print-choices-2 c = sym (after-plan c .plan .kept .1 .1 .1 .1 .1 .1 .0)
 
 slice-aggregate-print-pairs-2 : tie.Need-slice-aggregate-print-pairs-2
 slice-aggregate-print-pairs-2 c =
     let after-choices3 = c .before .before .before in
-    sym (after-plan after-choices3 .plan .kept .1 .1 .1 .1 .1 .1 .1 .0)
+    sym (after-plan after-choices3 .plan .kept .1 .1 .1 .1 .1 .1 .1 .1 .0)
 
 pub try-200-spec : {M : Type 1} → statement M
 try-200-spec =

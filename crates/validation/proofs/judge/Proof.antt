@@ -1,4 +1,5 @@
 -- `validation::judge` meets its contract. Assumes nothing.
+use Prim.Native.Nat.{ℕ}
 use Rattle.validation.proofs.Faults.{judge-read, read-few, read-compatibility, read-shuffle, judge-fill, judge-shuffle, judge-table}
 use borrow.Author.Needs.{needs}
 use Rattle.validation.proofs.judge.Statement.{statement}
@@ -11,6 +12,10 @@ after-enum-told c = c .before .before .before
 abbrev after-readable : tie.After-enum-told2 → tie.After-readable
 after-readable c = after-enum-told c .before .before
 
+-- the floor, as it was lent
+abbrev floor : tie.After-readable → ℕ
+floor c = c .before .before .before .before .args .floor
+
 returns : tie.Need-returns
 returns c =
     let readable = c .before .before .before in
@@ -19,7 +24,7 @@ returns c =
 fillable-requires : tie.Need-fillable-requires
 fillable-requires c κs =
     let readable = c .before .before in
-    read-few _ _ _ _ (readable .readable .result) (readable .readable .ensures) (c .enum-told .given .1)
+    read-few _ (floor readable) _ _ _ (readable .readable .result) (readable .readable .ensures) (c .enum-told .given .1)
 
 returns-2 : tie.Need-returns-2
 returns-2 c =
@@ -29,7 +34,7 @@ returns-2 c =
     (after-fillable .fillable .result) (after-fillable .fillable .ensures) _ (c .before .why2 .given .1)
 
 shuffle-requires : tie.Need-shuffle-requires
-shuffle-requires c κs = read-shuffle _ _ _ _ (after-readable c .readable .result) (after-readable c .readable .ensures) (after-enum-told c .enum-told .given .1)
+shuffle-requires c κs = read-shuffle _ (floor (after-readable c)) _ _ _ (after-readable c .readable .result) (after-readable c .readable .ensures) (after-enum-told c .enum-told .given .1)
 
 returns-3 : tie.Need-returns-3
 returns-3 c =
@@ -43,9 +48,9 @@ returns-3 c =
 compatibility-requires : tie.Need-compatibility-requires
 compatibility-requires c κs =
     let after-enum-told2 = c .before .before .before in (
-      read-few _ _ _ _ (after-readable after-enum-told2 .readable .result) (after-readable after-enum-told2 .readable .ensures)
+      read-few _ (floor (after-readable after-enum-told2)) _ _ _ (after-readable after-enum-told2 .readable .result) (after-readable after-enum-told2 .readable .ensures)
           (after-enum-told after-enum-told2 .enum-told .given .1),
-      read-compatibility _ _ _ _ (after-readable after-enum-told2 .readable .result)
+      read-compatibility _ (floor (after-readable after-enum-told2)) _ _ _ (after-readable after-enum-told2 .readable .result)
           (after-readable after-enum-told2 .readable .ensures) (after-enum-told after-enum-told2 .enum-told .given .1),
     )
 
