@@ -11,6 +11,9 @@
 
 #define PAIRS VADIVUZHEN_MOST_PAIRS
 
+/* The floor that the program `plan` uses: any exchange may be planned that weighs something. */
+#define FLOOR 0
+
 /* One byte more than the longest sheet, so that a longer one is seen to be too long. */
 static uint8_t sheet[VADIVUZHEN_SHEET(PAIRS) + 1];
 
@@ -76,7 +79,7 @@ static int plan(size_t length)
         return refused(built.refusal, 0);
 
     struct vadivuzhen_plan_answer made = vadivuzhen_plan(
-        pool.pairs, m, LENGTH(m), w, LENGTH(w), shuffle, LENGTH(shuffle),
+        pool.pairs, FLOOR, m, LENGTH(m), w, LENGTH(w), shuffle, LENGTH(shuffle),
         weights, LENGTH(weights), choices, LENGTH(choices),
         donors, LENGTH(donors), recipients, LENGTH(recipients), records, LENGTH(records));
     if (made.refusal != VADIVUZHEN_FINISHED)

@@ -63,7 +63,8 @@ enum vadivuzhen_refusal {
     VADIVUZHEN_TOO_MANY_TOGETHER = 12, /* they have more than 200 pairs together */
     /* the calling program */
     VADIVUZHEN_TOO_SHORT = 9,       /* a lent buffer or table is too short */
-    VADIVUZHEN_NOT_COMPATIBILITY = 10 /* a compatibility entry is above 1, or a pair's own is not 0 */
+    VADIVUZHEN_NOT_COMPATIBILITY = 10, /* a compatibility entry is above 1, or a pair's own is not 0 */
+    VADIVUZHEN_FLOOR_TOO_HIGH = 13     /* the floor is above 200,000 */
 };
 
 /* ---- Lengths that suffice, in elements, for n pairs; n is 0 to 200, and may be a constant expression. It is evaluated more than once ---- */
@@ -184,6 +185,9 @@ VADIVUZHEN_ANSWERS struct vadivuzhen_build_answer vadivuzhen_build(
 
 /* ---- Planning ---- */
 
+/* the highest floor */
+#define VADIVUZHEN_MOST_FLOOR 200000
+
 /* A record: an exchange, as pairs in giving order. The donor of each gives to the patient of the next, and the last to the first. */
 struct vadivuzhen_cycle {
     uint16_t first;
@@ -195,24 +199,28 @@ struct vadivuzhen_plan_answer {
     uint32_t refusal;
     size_t cycles;        /* how many exchanges are planned */
     uint64_t weight;      /* of the plan: the sum of their weights */
-    uint64_t comparisons; /* the tally: what the gates did, the same for every pool of n pairs */
+    uint64_t comparisons; /* the tally: what the gates did, the same for every pool of n pairs and every floor */
     uint64_t products;
     uint64_t rounds;
 };
 
 /* Plans the pool of n pairs whose tables are m and w, built by vadivuzhen_build or the caller's own, with the shuffle. W of a pair's own is not read, and
- * a present edge may weigh 0.
+ * a present edge may weigh 0. An exchange is planned only if its weight is above the floor, which is 0 to VADIVUZHEN_MOST_FLOOR; with floor 0 any may be that
+ * weighs something.
  * Fills VADIVUZHEN_SUBSETS(n) weights, those left after the last round; VADIVUZHEN_ROUNDS(n) choices, each a subset's number, or the number of all subsets
  * for none; n donors, who gives to patient i, and n recipients, whom donor i gives to, with n for nobody; and of the records as many as there are cycles,
- * in order of choice.
- * Refuses 4; 9, where m or w is shorter than n rows of n, the shuffle than n, weights, choices, donors or recipients than what is filled, or the records
- * than VADIVUZHEN_RECORDS(n); 8; 10.
+ * in order of choice. A weight at or below the floor is not set to 0 for that: it is 0 afterwards where the subset shares a place with an earlier choice,
+ * like any other.
+ * Refuses 4; 13, where the floor is above VADIVUZHEN_MOST_FLOOR; 9, where m or w is shorter than n rows of n, the shuffle than n, weights, choices, donors
+ * or recipients than what is filled, or the records than VADIVUZHEN_RECORDS(n); 8; 10.
  * Proved: a plan is made if and only if there are none of these faults. Of every plan made: its donors and recipients are those of Algorithm 1 of arXiv
- * 2302.13880; all its cycles can be carried out; no pair is in two of them; no other set of exchanges of two or three pairs that can all be carried out,
- * with no pair in two of them, weighs more than three times as much; and the tally depends on n alone: with T triples and P twos among n pairs and
- * R = n / 2 rounds, rounds are R, comparisons T + R (T + P), and products 2P + 7T + R (5 (T + P) - 1) + (R - 1) (2P + 3T), or 0 where R is 0. */
+ * 2302.13880, with the floor for the 0 of its line 7; all its cycles can be carried out; each of them weighs more than the floor; no pair is in two of
+ * them; no other set of exchanges of two or three pairs that can all be carried out and each weigh more than the floor, with no pair in two of them, weighs
+ * more than three times as much, and with floor 0 neither does one of which some weigh 0; and the tally depends on n alone, at every floor: with T triples
+ * and P twos among n pairs and R = n / 2 rounds, rounds are R, comparisons T + R (T + P), and products 2P + 7T + R (5 (T + P) - 1) + (R - 1) (2P + 3T), or 0
+ * where R is 0. */
 VADIVUZHEN_ANSWERS struct vadivuzhen_plan_answer vadivuzhen_plan(
-    size_t n,
+    size_t n, uint32_t floor,
     const uint8_t *m, size_t m_length,
     const uint16_t *w, size_t w_length,
     const uint16_t *shuffle, size_t shuffle_length,
