@@ -140,7 +140,7 @@ static void a_record(void)
     uint16_t donors[4] = {99, 99, 99, 99}, recipients[4] = {99, 99, 99, 99};
     struct vadivuzhen_cycle records[2] = {{99, 99, 99}, {99, 99, 99}};
     struct vadivuzhen_plan_answer plan =
-        vadivuzhen_plan(3, m, 9, w, 9, order, 3, weights, 5, choices, 2, donors, 4, recipients, 4, records, 2);
+        vadivuzhen_plan(3, 0, m, 9, w, 9, order, 3, weights, 5, choices, 2, donors, 4, recipients, 4, records, 2);
     check(plan.refusal == VADIVUZHEN_FINISHED && plan.cycles == 1 && plan.weight == 10, "k10 is planned");
     check(plan.comparisons == 5 && plan.products == 32 && plan.rounds == 1, "its tally");
     check(recipients[0] == 2 && recipients[1] == 3 && recipients[2] == 0 && donors[0] == 2 && donors[2] == 0, "its partners");
@@ -149,11 +149,93 @@ static void a_record(void)
           "nothing past what is filled");
 
     records[0].first = 99;
-    plan = vadivuzhen_plan(3, m, 9, w, 9, order, 3, weights, 5, choices, 2, donors, 4, recipients, 4, records, 0);
+    plan = vadivuzhen_plan(3, 0, m, 9, w, 9, order, 3, weights, 5, choices, 2, donors, 4, recipients, 4, records, 0);
     check(plan.refusal == VADIVUZHEN_TOO_SHORT && plan.rounds == 0 && records[0].first == 99, "no room for records is refused");
     static const uint8_t two[9] = {0, 2, 1, 1, 0, 0, 1, 0, 0};
-    plan = vadivuzhen_plan(3, two, 9, w, 9, order, 3, weights, 5, choices, 2, donors, 4, recipients, 4, records, 2);
+    plan = vadivuzhen_plan(3, 0, two, 9, w, 9, order, 3, weights, 5, choices, 2, donors, 4, recipients, 4, records, 2);
     check(plan.refusal == VADIVUZHEN_NOT_COMPATIBILITY, "an entry of 2 is refused");
+}
+
+/* The tables of two pairs that planning is lent, each with an entry on either side; what it reads and what it fills. The middle is lent. */
+struct lent {
+    uint8_t m[6];
+    uint16_t w[6], order[4];
+    uint32_t weights[3], choices[3];
+    uint16_t donors[4], recipients[4];
+    struct vadivuzhen_cycle records[3];
+};
+
+/* Document 01's k3, and 99 in all other entries. */
+static struct lent k3(void)
+{
+    static const uint8_t m[4] = {0, 1, 1, 0};
+    static const uint16_t w[4] = {0, 5, 7, 0}, order[2] = {0, 1};
+    struct lent lent = {
+        {99, 0, 0, 0, 0, 99}, {99, 0, 0, 0, 0, 99}, {99, 0, 0, 99}, {99, 99, 99}, {99, 99, 99},
+        {99, 99, 99, 99}, {99, 99, 99, 99}, {{99, 99, 99}, {99, 99, 99}, {99, 99, 99}},
+    };
+    memcpy(lent.m + 1, m, sizeof m);
+    memcpy(lent.w + 1, w, sizeof w);
+    memcpy(lent.order + 1, order, sizeof order);
+    return lent;
+}
+
+/* Plans n pairs with that floor; m, w and the shuffle are lent whole, or as tables of length 0. */
+static struct vadivuzhen_plan_answer plan_of(struct lent *lent, size_t n, uint32_t floor, int whole)
+{
+    return vadivuzhen_plan(
+        n, floor, lent->m + 1, whole ? 4 : 0, lent->w + 1, whole ? 4 : 0, lent->order + 1, whole ? 2 : 0,
+        lent->weights + 1, 1, lent->choices + 1, 1, lent->donors + 1, 2, lent->recipients + 1, 2, lent->records + 1, 1);
+}
+
+/* Has every table each entry of the other's? The structs may have gaps, which nobody looks at. */
+static int alike(const struct lent *one, const struct lent *other)
+{
+    return memcmp(one->m, other->m, sizeof one->m) == 0 && memcmp(one->w, other->w, sizeof one->w) == 0
+        && memcmp(one->order, other->order, sizeof one->order) == 0 && memcmp(one->weights, other->weights, sizeof one->weights) == 0
+        && memcmp(one->choices, other->choices, sizeof one->choices) == 0 && memcmp(one->donors, other->donors, sizeof one->donors) == 0
+        && memcmp(one->recipients, other->recipients, sizeof one->recipients) == 0
+        && memcmp(one->records, other->records, sizeof one->records) == 0;
+}
+
+/* Is n pairs with that floor refused by that number, with all memory as it was? */
+static int plan_refused(size_t n, uint32_t floor, int whole, uint32_t number)
+{
+    struct lent lent = k3(), before = k3();
+    struct vadivuzhen_plan_answer plan = plan_of(&lent, n, floor, whole);
+    return plan.refusal == number && plan.cycles == 0 && plan.weight == 0 && plan.comparisons == 0 && plan.products == 0 && plan.rounds == 0
+        && alike(&lent, &before);
+}
+
+/* Is k3 with that floor planned, with a choice, a weight and partners, and nothing changed beside them? Its tally is always the same. */
+static int k3_planned(uint32_t floor, size_t cycles, uint64_t weight, uint32_t choice, uint16_t first, uint16_t second)
+{
+    struct lent lent = k3(), due = k3();
+    struct vadivuzhen_plan_answer plan = plan_of(&lent, 2, floor, 1);
+    due.weights[1] = 12;
+    due.choices[1] = choice;
+    due.donors[1] = due.recipients[1] = first;
+    due.donors[2] = due.recipients[2] = second;
+    if (cycles == 1)
+        due.records[1] = (struct vadivuzhen_cycle){0, 1, 2};
+    return plan.refusal == VADIVUZHEN_FINISHED && plan.cycles == cycles && plan.weight == weight
+        && plan.comparisons == 1 && plan.products == 6 && plan.rounds == 1 && alike(&lent, &due);
+}
+
+/* Planning with a floor: what is chosen is above it, and a floor too high is refused after too many pairs and before all else. */
+static void floors(void)
+{
+    check(k3_planned(0, 1, 12, 0, 1, 0), "k3 with floor 0 is planned");
+    check(k3_planned(11, 1, 12, 0, 1, 0), "and with floor 11");
+    check(k3_planned(12, 0, 0, 1, 2, 2), "with floor 12 nothing is chosen, and the weight stays");
+    check(k3_planned(VADIVUZHEN_MOST_FLOOR, 0, 0, 1, 2, 2), "and with floor 200,000");
+
+    check(plan_refused(2, 200001, 1, VADIVUZHEN_FLOOR_TOO_HIGH), "floor 200,001 is refused, and all memory as it was");
+    check(plan_refused(2, UINT32_MAX, 1, VADIVUZHEN_FLOOR_TOO_HIGH), "and floor 4,294,967,295");
+    check(plan_refused(0, 200001, 1, VADIVUZHEN_FLOOR_TOO_HIGH), "and for no pairs");
+    check(plan_refused(2, 200001, 0, VADIVUZHEN_FLOOR_TOO_HIGH), "before tables too short");
+    check(plan_refused(2, 200000, 0, VADIVUZHEN_TOO_SHORT), "which are refused at 200,000");
+    check(plan_refused(201, 200001, 0, VADIVUZHEN_TOO_MANY_PAIRS), "and after too many pairs");
 }
 
 /* The longest texts, in buffers of the lengths that suffice. */
@@ -178,8 +260,9 @@ static void numbers(void)
     check(VADIVUZHEN_CUT_OFF == 1 && VADIVUZHEN_WRONG_FIELD == 2 && VADIVUZHEN_WRONG_VERSION == 3 && VADIVUZHEN_TOO_MANY_PAIRS == 4
               && VADIVUZHEN_LEFT_OVER == 5 && VADIVUZHEN_OUT_OF_RANGE == 6 && VADIVUZHEN_REPEATED_ID == 7 && VADIVUZHEN_NOT_A_SHUFFLE == 8
               && VADIVUZHEN_TOO_SHORT == 9 && VADIVUZHEN_NOT_COMPATIBILITY == 10 && VADIVUZHEN_SHARED_ID == 11
-              && VADIVUZHEN_TOO_MANY_TOGETHER == 12,
+              && VADIVUZHEN_TOO_MANY_TOGETHER == 12 && VADIVUZHEN_FLOOR_TOO_HIGH == 13,
           "the refusals' numbers");
+    check(VADIVUZHEN_MOST_PAIRS == 200 && VADIVUZHEN_MOST_FLOOR == 200000, "the limits");
     check(sizeof(struct vadivuzhen_cycle) == 6, "a record is three numbers of 16 bits");
 }
 
@@ -189,6 +272,7 @@ int main(void)
     joins();
     joins_refused();
     a_record();
+    floors();
     texts();
     numbers();
     return 0;
