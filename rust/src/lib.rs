@@ -11,8 +11,9 @@
 //! way to call it from Rust. It adds types in which wrong lengths cannot be
 //! said: a [`Pool`] has none of the faults of a pool, [`Tables`] are N rows of
 //! N, and a [`Plan`] has all that planning leaves, with the ids to print it by.
-//! [`join()`] makes one sheet of two, such as a sheet and its addendum. Nothing
-//! here is proved but what is called; [`raw`] has the calls themselves.
+//! [`join()`] makes one sheet of two, such as a sheet and its addendum.
+//! [`Pool::plan_above`] leaves out exchanges that are too light to travel for.
+//! Nothing here is proved but what is called; [`raw`] has the calls themselves.
 //!
 //! "Document 01", which the comments cite, is the scope agreed with the buyer.
 //!
@@ -83,7 +84,7 @@ mod refused;
 mod tables;
 
 pub use crate::join::join;
-pub use crate::plan::{Plan, Tally};
+pub use crate::plan::{Plan, Tally, MOST_FLOOR};
 pub use crate::pool::{Age, Blood, Pair, Pool, LONGEST_SHEET, MOST_PAIRS};
 pub use crate::raw::Cycle;
 pub use crate::refused::{Refusal, Refused, UnknownRefusal};

@@ -5,8 +5,11 @@ use crate::refused::{finished, sound, text, Refused};
 use crate::tables::Tables;
 use std::fmt;
 
+/// The greatest floor. The heaviest exchange there can be weighs less.
+pub const MOST_FLOOR: u32 = 200_000;
+
 /// How many operations on secrets a plan took. It is the same for all pools
-/// of equally many pairs.
+/// of equally many pairs, and at every floor.
 #[derive(Clone, Copy, Debug, Default, PartialEq, Eq, Hash)]
 pub struct Tally {
     /// Comparisons.
@@ -19,8 +22,10 @@ pub struct Tally {
 
 /// A plan of N pairs.
 ///
-/// Its cycles are executable and no pair is in two of them, and no other such
-/// set of cycles weighs more than three times as much.
+/// Its cycles are executable, each weighs more than the floor that was planned
+/// with, and no pair is in two of them; and no other such set of cycles weighs
+/// more than three times as much. With floor 0 no other set of executable
+/// cycles does, weightless ones among them, that has no pair in two.
 ///
 /// Pairs go by their numbers, from 0 to N − 1; their ids are for the printout,
 /// which `Display` shows as well. A plan holds a weight for each of
@@ -41,7 +46,7 @@ pub struct Plan {
 }
 
 impl Plan {
-    pub(crate) fn make(tables: &Tables, shuffle: &[u16]) -> Result<Plan, Refused> {
+    pub(crate) fn make(tables: &Tables, floor: u32, shuffle: &[u16]) -> Result<Plan, Refused> {
         let n = tables.pairs();
         let rounds = n / 2;
         // As many subsets as there are triples among one more.
@@ -57,6 +62,7 @@ impl Plan {
         };
         plan.answer = raw::plan(
             n,
+            floor,
             tables.compatibilities(),
             tables.weights(),
             shuffle,
@@ -134,7 +140,7 @@ impl Plan {
 
     /// The weight of each subset in the published order, as after the last
     /// round: 0 where the subset shares a place with the choice of an earlier
-    /// round.
+    /// round. What is not above the floor stands here like any other weight.
     pub fn weights(&self) -> &[u32] {
         &self.weights
     }

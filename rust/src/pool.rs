@@ -248,4 +248,41 @@ impl Pool {
             Err(refused) => panic!("what is built was turned back: {refused}"),
         }
     }
+
+    /// The pool's plan in which every exchange weighs more than the floor, so
+    /// that nobody is called in for a lighter one. With floor 0 it is that of
+    /// [`plan`](Pool::plan).
+    ///
+    /// # Errors
+    ///
+    /// Refused is a floor above [`MOST_FLOOR`](crate::MOST_FLOOR), and nothing
+    /// else.
+    ///
+    /// # Example
+    ///
+    /// ```
+    /// use vadivuzhen::{Age, Blood, Pair, Pool};
+    ///
+    /// let pair = |id, donor_blood, patient_blood| Pair {
+    ///     id,
+    ///     donor_blood,
+    ///     patient_blood,
+    ///     donor_age: Age::Young,
+    ///     patient_age: Age::Young,
+    ///     donor_antigens: 0,
+    ///     patient_antigens: 0,
+    ///     patient_antibodies: 0,
+    /// };
+    /// let pairs = [pair(11, Blood::A, Blood::B), pair(12, Blood::B, Blood::A)];
+    /// let pool = Pool::new(&pairs, &[0, 1])?;
+    ///
+    /// // The exchange of the two weighs 2,900.
+    /// assert_eq!(pool.plan_above(2_899)?, pool.plan());
+    /// let none = pool.plan_above(2_900)?;
+    /// assert_eq!(none.print(), "PLAN 2 0 0\n11 - -\n12 - -\nCOUNTS 1 6 1\n");
+    /// # Ok::<(), vadivuzhen::Refused>(())
+    /// ```
+    pub fn plan_above(&self, floor: u32) -> Result<Plan, Refused> {
+        self.tables().plan_above(floor, &self.shuffle)
+    }
 }

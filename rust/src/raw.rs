@@ -295,11 +295,21 @@ pub fn build(n: usize, fields: Fields<'_>, m: &mut [u8], w: &mut [u16]) -> Build
 }
 
 /// Plans a pool of `n` pairs from M, W and the shuffle into the lent tables.
-pub fn plan(n: usize, m: &[u8], w: &[u16], shuffle: &[u16], into: Planned<'_>) -> PlanAnswer {
+/// An exchange is planned only if its weight is above the floor. The floor may
+/// be any number; one above [`MOST_FLOOR`](crate::MOST_FLOOR) is refused.
+pub fn plan(
+    n: usize,
+    floor: u32,
+    m: &[u8],
+    w: &[u16],
+    shuffle: &[u16],
+    into: Planned<'_>,
+) -> PlanAnswer {
     // SAFETY: as in `read`. A record is three 16-bit numbers with no gap.
     unsafe {
         vadivuzhen_plan(
             n,
+            floor,
             m.as_ptr(),
             m.len(),
             w.as_ptr(),
@@ -445,6 +455,7 @@ extern "C" {
 
     fn vadivuzhen_plan(
         n: usize,
+        floor: u32,
         m: *const u8,
         m_length: usize,
         w: *const u16,

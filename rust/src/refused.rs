@@ -36,6 +36,8 @@ pub enum Refusal {
     SharedId = 11,
     /// 12: two sheets have more than 200 pairs together.
     TooManyTogether = 12,
+    /// 13: the floor is above 200,000.
+    FloorTooHigh = 13,
 }
 
 impl Refusal {
@@ -53,6 +55,7 @@ impl Refusal {
         Refusal::NotCompatibility,
         Refusal::SharedId,
         Refusal::TooManyTogether,
+        Refusal::FloorTooHigh,
     ];
 
     /// Document 01's number. It is not 0, which in an answer means that the
@@ -165,6 +168,10 @@ impl fmt::Display for Refused {
             Refusal::TooManyTogether => write!(
                 f,
                 "the two sheets have more than 200 pairs together; join smaller ones"
+            ),
+            Refusal::FloorTooHigh => write!(
+                f,
+                "the floor is above 200,000, and so above every exchange; plan with a lower one"
             ),
         }
     }

@@ -96,6 +96,36 @@ impl Tables {
     /// pair's number once, and a table of compatibilities with an entry above
     /// 1 or a pair's own not 0.
     pub fn plan(&self, shuffle: &[u16]) -> Result<Plan, Refused> {
-        Plan::make(self, shuffle)
+        self.plan_above(0, shuffle)
+    }
+
+    /// The plan in which every exchange weighs more than the floor, so that
+    /// nobody is called in for a lighter one. With floor 0 it is that of
+    /// [`plan`](Tables::plan).
+    ///
+    /// # Errors
+    ///
+    /// Refused is a floor above [`MOST_FLOOR`](crate::MOST_FLOOR); then what
+    /// [`plan`](Tables::plan) refuses.
+    ///
+    /// # Example
+    ///
+    /// ```
+    /// use vadivuzhen::{Refusal, Tables, MOST_FLOOR};
+    ///
+    /// // Two pairs; the donor of each may give to the other's patient.
+    /// let tables = Tables::new(vec![11, 12], vec![0, 1, 1, 0], vec![0, 5, 7, 0])?;
+    /// assert_eq!(tables.plan(&[0, 1])?.weight(), 12);
+    ///
+    /// // Their exchange is above 11, and is not above 12.
+    /// assert_eq!(tables.plan_above(11, &[0, 1])?.weight(), 12);
+    /// assert_eq!(tables.plan_above(12, &[0, 1])?.cycles(), 0);
+    ///
+    /// let high = tables.plan_above(MOST_FLOOR + 1, &[0, 1]);
+    /// assert_eq!(high.expect_err("a floor too high").why, Refusal::FloorTooHigh);
+    /// # Ok::<(), vadivuzhen::Refused>(())
+    /// ```
+    pub fn plan_above(&self, floor: u32, shuffle: &[u16]) -> Result<Plan, Refused> {
+        Plan::make(self, floor, shuffle)
     }
 }

@@ -1,7 +1,8 @@
 //! The safe types: what they refuse, and that a refusal says what to do.
 
 use vadivuzhen::{
-    join, Age, Blood, Cycle, Pair, Pool, Refusal, Refused, Tables, UnknownRefusal, LONGEST_SHEET,
+    join, raw, Age, Blood, Cycle, Pair, Plan, Pool, Refusal, Refused, Tables, UnknownRefusal,
+    LONGEST_SHEET, MOST_FLOOR,
 };
 
 /// The pair of that id; any two of these suit each other.
@@ -168,6 +169,105 @@ fn own_tables_are_planned_or_refused() {
     assert_eq!(own.why, Refusal::NotCompatibility);
 }
 
+/// Document 01's k3: the exchange of the two pairs weighs 12.
+fn k3() -> Tables {
+    Tables::new(vec![7, 8], vec![0, 1, 1, 0], vec![0, 5, 7, 0]).expect("tables for two")
+}
+
+/// What each planned cycle weighs by these tables, in order of choice.
+fn cycle_weights(tables: &Tables, plan: &Plan) -> Vec<u32> {
+    let n = tables.pairs();
+    let weigh = |cycle: &Cycle| {
+        let pairs = [cycle.first, cycle.second, cycle.third].map(usize::from);
+        let pairs = &pairs[..if pairs[2] == n { 2 } else { 3 }];
+        let next = pairs.iter().cycle().skip(1);
+        let edges = pairs.iter().zip(next);
+        edges
+            .map(|(from, to)| u32::from(tables.weights()[from * n + to]))
+            .sum()
+    };
+    plan.records().iter().map(weigh).collect()
+}
+
+#[test]
+fn only_what_is_above_the_floor_is_planned() {
+    let tables = k3();
+    let plan = tables.plan(&[0, 1]).expect("a plan");
+    for floor in [0, 1, 11] {
+        assert_eq!(tables.plan_above(floor, &[0, 1]).as_ref(), Ok(&plan));
+    }
+    assert_eq!((plan.weight(), plan.choices()), (12, &[0][..]));
+    for floor in [12, 13, 196_605, 199_999, MOST_FLOOR] {
+        let none = tables
+            .plan_above(floor, &[0, 1])
+            .expect("a plan of nothing");
+        assert_eq!((none.weight(), none.cycles()), (0, 0));
+        assert_eq!((none.choices(), none.records()), (&[1][..], &[][..]));
+        assert_eq!((none.donor_of(0), none.recipient_of(1)), (None, None));
+        // The weight stands as it was evaluated, and what was done is the same.
+        assert_eq!(none.weights(), [12]);
+        assert_eq!(none.tally(), plan.tally());
+    }
+}
+
+#[test]
+fn a_floor_cuts_a_plan_off() {
+    let pool = Pool::read(include_bytes!("../../examples/thirty_six.sheet")).expect("a sheet");
+    let (tables, whole) = (pool.tables(), pool.plan());
+    let weights = cycle_weights(&tables, &whole);
+    assert_eq!(
+        weights.iter().map(|&w| u64::from(w)).sum::<u64>(),
+        whole.weight()
+    );
+    let near = weights.iter().flat_map(|&weight| [weight - 1, weight]);
+    let mut counts: Vec<usize> = Vec::new();
+    for floor in near.chain([0, MOST_FLOOR]) {
+        let plan = pool
+            .plan_above(floor)
+            .expect("a floor that is not too high");
+        assert_eq!(tables.plan_above(floor, pool.shuffle()).as_ref(), Ok(&plan));
+        let above = weights.iter().filter(|&&weight| weight > floor).count();
+        assert_eq!(plan.records(), &whole.records()[..above]);
+        assert!(cycle_weights(&tables, &plan).iter().all(|&w| w > floor));
+        assert_eq!(plan.ids(), pool.ids());
+        assert_eq!(plan.tally(), whole.tally());
+        counts.push(above);
+    }
+    assert_eq!(pool.plan_above(0), Ok(whole));
+    counts.sort();
+    counts.dedup();
+    assert!(counts.len() > 3, "floors make only {counts:?} cycles");
+}
+
+#[test]
+fn a_floor_too_high_is_refused_before_the_tables() {
+    let high = Err(refused(Refusal::FloorTooHigh, 0));
+    let wrong = Tables::new(vec![7, 8], vec![1, 1, 1, 0], vec![0, 5, 7, 0]);
+    let wrong = wrong.expect("tables for two");
+    for floor in [MOST_FLOOR + 1, u32::MAX] {
+        assert_eq!(pool(3).plan_above(floor), high);
+        assert_eq!(pool(0).plan_above(floor), high);
+        for shuffle in [&[0, 1][..], &[0, 0], &[0], &[]] {
+            assert_eq!(k3().plan_above(floor, shuffle), high);
+            assert_eq!(wrong.plan_above(floor, shuffle), high);
+        }
+    }
+    // The highest floor is none too high, and hides no other fault.
+    let why = |tables: &Tables, shuffle: &[u16]| {
+        let refused = tables.plan_above(MOST_FLOOR, shuffle);
+        refused.expect_err("a fault").why
+    };
+    assert_eq!(why(&k3(), &[0]), Refusal::TooShort);
+    assert_eq!(why(&k3(), &[0, 0]), Refusal::NotAShuffle);
+    assert_eq!(why(&wrong, &[0, 1]), Refusal::NotCompatibility);
+    // No tables have more than 200 pairs; of the bare call that comes first.
+    let refusal = |n, floor| raw::plan(n, floor, &[], &[], &[], raw::Planned::default()).refusal;
+    assert_eq!(refusal(201, MOST_FLOOR + 1), 4);
+    assert_eq!(refusal(200, MOST_FLOOR + 1), 13);
+    assert_eq!(refusal(200, MOST_FLOOR), 9);
+    assert_eq!(refusal(0, MOST_FLOOR), 0);
+}
+
 #[test]
 fn a_plan_is_printed_with_its_own_pairs_ids() {
     let examples = [
@@ -206,7 +306,7 @@ fn a_plan_is_printed_with_its_own_pairs_ids() {
 
 #[test]
 fn every_refusal_has_its_number_and_says_what_to_do() {
-    assert_eq!(Refusal::ALL.len(), 12);
+    assert_eq!(Refusal::ALL.len(), 13);
     for (&why, number) in Refusal::ALL.iter().zip(1..) {
         assert_eq!(why.number(), number);
         assert_eq!(Refusal::try_from(number), Ok(why));
@@ -216,14 +316,14 @@ fn every_refusal_has_its_number_and_says_what_to_do() {
         assert!(told.starts_with(&format!("refusal {number}: ")));
         assert!(told.contains("; "), "{told}");
     }
-    let longest = refused(Refusal::TooManyTogether, usize::MAX);
-    assert_eq!(longest.print(), format!("REFUSED 12 {}\n", usize::MAX));
+    let longest = refused(Refusal::FloorTooHigh, usize::MAX);
+    assert_eq!(longest.print(), format!("REFUSED 13 {}\n", usize::MAX));
 }
 
 #[test]
 fn a_number_of_no_refusal_is_said_to_be_unknown() {
     // 0 is a call that finished; later requests go up to 22.
-    for number in (13..=22).chain([0, 23, 256 + 1, u32::MAX]) {
+    for number in (14..=22).chain([0, 23, 256 + 1, u32::MAX]) {
         let unknown = Refusal::try_from(number).expect_err("no refusal");
         assert_eq!(unknown, UnknownRefusal(number));
         assert!(unknown.to_string().starts_with(&format!("{number} is ")));
