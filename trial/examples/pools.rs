@@ -1,6 +1,6 @@
-//! Prints document 01's pools k1 to k12, a pool of 36 and one of 200, with the
-//! plans that this planner makes of them, in the words of the program `try_pools`
-//! of the proved library: what the two print is compared.
+//! Prints document 01's pools k1 to k12, some with a floor, a pool of 36 and one
+//! of 200, with the plans that this planner makes of them, in the words of the
+//! program `try_pools` of the proved library: what the two print is compared.
 
 use reference::{plan, Room};
 
@@ -32,10 +32,19 @@ struct Tables {
     records: Vec<u32>,
 }
 
+/// What is planned: a number of pairs with a floor, M, W and the shuffle.
+struct Lent<'a> {
+    n: usize,
+    floor: u32,
+    m: &'a [u8],
+    w: &'a [u16],
+    shuffle: &'a [u16],
+}
+
 /// Plans, with tables of `room` entries, the records flat: three each.
-fn planned(n: usize, m: &[u8], w: &[u16], shuffle: &[u16], room: Room, flat: usize) -> Tables {
+fn planned(lent: &Lent<'_>, room: Room, flat: usize) -> Tables {
     let wide = |t: &[u16]| t.iter().map(|&p| u32::from(p)).collect::<Vec<u32>>();
-    match plan(n, m, w, shuffle, room) {
+    match plan(lent.n, lent.floor, lent.m, lent.w, lent.shuffle, room) {
         Ok((plan, tally)) => Tables {
             answer: format!(
                 "weight {} cycles {} tally {} {} {}",
@@ -62,16 +71,25 @@ fn planned(n: usize, m: &[u8], w: &[u16], shuffle: &[u16], room: Room, flat: usi
     }
 }
 
+/// The tables for a pool of at most 6 pairs, and one entry more in most.
+const SMALL: Room = Room {
+    weights: 36,
+    choices: 4,
+    donors: 7,
+    recipients: 7,
+    records: 4,
+};
+
 /// A pool of at most 6 pairs.
-fn small(name: &str, n: usize, m: &[u8], w: &[u16], shuffle: &[u16]) {
-    let room = Room {
-        weights: 36,
-        choices: 4,
-        donors: 7,
-        recipients: 7,
-        records: 4,
+fn small(name: &str, n: usize, floor: u32, m: &[u8], w: &[u16], shuffle: &[u16]) {
+    let lent = Lent {
+        n,
+        floor,
+        m,
+        w,
+        shuffle,
     };
-    let t = planned(n, m, w, shuffle, room, 12);
+    let t = planned(&lent, SMALL, 12);
     println!("{name}: {}", t.answer);
     println!("{}", line("weights", &t.weights, (n * n * n - n) / 6 + 1));
     println!("{}", line("choices", &t.choices, n / 2 + 1));
@@ -93,8 +111,19 @@ fn pool(n: usize, edges: &[(usize, usize, u16)]) -> (Vec<u8>, Vec<u16>) {
 
 fn of_edges(name: &str, n: usize, edges: &[(usize, usize, u16)], shuffle: &[u16]) {
     let (m, w) = pool(n, edges);
-    small(name, n, &m, &w, shuffle);
+    small(name, n, 0, &m, &w, shuffle);
 }
+
+/// The same pool with each of these floors, and the identity shuffle.
+fn with_floors(name: &str, n: usize, edges: &[(usize, usize, u16)], floors: &[u32]) {
+    let (m, w) = pool(n, edges);
+    for &floor in floors {
+        let name = format!("{name}, floor {floor}");
+        small(&name, n, floor, &m, &w, &IDENTITY[..n]);
+    }
+}
+
+const IDENTITY: [u16; 6] = [0, 1, 2, 3, 4, 5];
 
 /// An edge where (7i + 11j) mod 5 is below 2, of weight 1 + (31i + 17j) mod
 /// 997; place p holds pair 7p mod n.
@@ -128,7 +157,6 @@ fn main() {
     of_edges("k4", 2, &[(0, 1, 5)], &[0, 1]);
     of_edges("k5", 2, &[(0, 1, 0), (1, 0, 0)], &[0, 1]);
 
-    let identity = [0, 1, 2, 3, 4, 5];
     let forward = [(0, 1), (1, 2), (2, 0)];
     let backward = [(1, 0), (2, 1), (0, 2)];
     let at = |edges: &[(usize, usize)], weight: u16| -> Vec<(usize, usize, u16)> {
@@ -138,42 +166,80 @@ fn main() {
         "k6",
         3,
         &[at(&forward, 4), at(&backward, 4)].concat(),
-        &identity[..3],
+        &IDENTITY[..3],
     );
     of_edges(
         "k7",
         3,
         &[at(&forward, 1), at(&backward, 2)].concat(),
-        &identity[..3],
+        &IDENTITY[..3],
     );
     let k10 = at(&[(0, 1), (1, 0), (0, 2), (2, 0)], 5);
-    of_edges("k10", 3, &k10, &identity[..3]);
+    of_edges("k10", 3, &k10, &IDENTITY[..3]);
     of_edges("k10 with shuffle 2 0 1", 3, &k10, &[2, 0, 1]);
     let both = at(&[(0, 3), (3, 0), (1, 4), (4, 1), (2, 5), (5, 2)], 3);
-    of_edges("k8", 6, &[at(&forward, 2), both].concat(), &identity);
+    let k8 = [at(&forward, 2), both].concat();
+    of_edges("k8", 6, &k8, &IDENTITY);
     of_edges(
         "k9",
         4,
         &at(&[(0, 1), (1, 0), (2, 3), (3, 2)], 3),
-        &identity[..4],
+        &IDENTITY[..4],
     );
 
     of_edges("k11", 2, &[(0, 1, 5), (1, 0, 7)], &[0, 0]);
-    small("k12", 2, &[0, 2, 1, 0], &[0, 5, 7, 0], &[0, 1]);
-    small("M(0, 0) is 1", 2, &[1, 1, 1, 0], &[0, 5, 7, 0], &[0, 1]);
-    small("8 and 10", 2, &[1, 2, 1, 0], &[0, 5, 7, 0], &[1, 1]);
-    small("9, 8 and 10", 3, &[2; 8], &[0; 9], &[0; 3]);
+    small("k12", 2, 0, &[0, 2, 1, 0], &[0, 5, 7, 0], &[0, 1]);
+    small("M(0, 0) is 1", 2, 0, &[1, 1, 1, 0], &[0, 5, 7, 0], &[0, 1]);
+    small("8 and 10", 2, 0, &[1, 2, 1, 0], &[0, 5, 7, 0], &[1, 1]);
+    small("9, 8 and 10", 3, 0, &[2; 8], &[0; 9], &[0; 3]);
+
+    with_floors("k3", 2, &[(0, 1, 5), (1, 0, 7)], &[11, 12]);
+    with_floors("k8", 6, &k8, &[5, 6]);
+    let (six, eight) = (at(&[(0, 1), (1, 0)], 3), at(&[(2, 3), (3, 2)], 4));
+    with_floors("6 and 8", 4, &[six, eight].concat(), &[5, 6, 8]);
+    let (ten, two) = (at(&[(0, 1), (1, 0)], 5), at(&[(0, 2), (2, 0)], 1));
+    with_floors("10 and 2", 4, &[ten, two].concat(), &[5]);
+    let floors = [196_604, 196_605, 200_000];
+    with_floors("196605", 3, &at(&forward, 65_535), &floors);
+    let (m, w) = pool(2, &[(0, 1, 5), (1, 0, 7)]);
+    small("floor 200001", 2, 200_001, &m, &w, &[0, 1]);
+    small("9 and not 13", 2, 200_000, &[], &[], &[]);
+    small("13 and 9", 2, 200_001, &[], &[], &[]);
+    let lent = Lent {
+        n: 201,
+        floor: 200_001,
+        m: &[],
+        w: &[],
+        shuffle: &[],
+    };
+    println!("4 and 13: {}", planned(&lent, SMALL, 12).answer);
 
     let (m, w, shuffle) = large(36);
-    let t = planned(36, &m, &w, &shuffle, room_past(36), 55);
-    println!("36 pairs: {}", t.answer);
-    println!("{}", line("choices", &t.choices, 19));
-    println!("{}", line("donors", &t.donors, 37));
-    println!("{}", line("recipients", &t.recipients, 37));
-    println!("{}", line("records", &t.records, 55));
+    for (name, floor) in [("36 pairs", 0), ("36 pairs, floor 2500", 2_500)] {
+        let lent = Lent {
+            n: 36,
+            floor,
+            m: &m,
+            w: &w,
+            shuffle: &shuffle,
+        };
+        let t = planned(&lent, room_past(36), 55);
+        println!("{name}: {}", t.answer);
+        println!("{}", line("choices", &t.choices, 19));
+        println!("{}", line("donors", &t.donors, 37));
+        println!("{}", line("recipients", &t.recipients, 37));
+        println!("{}", line("records", &t.records, 55));
+    }
 
     let (m, w, shuffle) = large(200);
-    let t = planned(200, &m, &w, &shuffle, room_past(200), 301);
+    let lent = Lent {
+        n: 200,
+        floor: 0,
+        m: &m,
+        w: &w,
+        shuffle: &shuffle,
+    };
+    let t = planned(&lent, room_past(200), 301);
     println!("200 pairs: {}", t.answer);
     println!("{}", line("choices", &t.choices, 101));
     println!("{}", line("recipients", &t.recipients, 201));

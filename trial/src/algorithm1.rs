@@ -1,9 +1,9 @@
-//! Algorithm 1 of arXiv 2302.13880, line by line.
+//! Algorithm 1 of arXiv 2302.13880, line by line, with a floor in line 7.
 //!
 //! Where the planner by rounds keeps every subset and turns weights to 0,
 //! this one keeps a set and takes subsets out of it, until none is left that
-//! weighs anything. It makes its own set, so that a slip in the published
-//! order of [`crate::subsets`] would show.
+//! weighs more than the floor. It makes its own set, so that a slip in the
+//! published order of [`crate::subsets`] would show.
 
 /// A cycle of the compatibility graph, or one that could be.
 #[derive(Clone, Copy)]
@@ -40,8 +40,15 @@ struct Entry {
 
 /// Donors and recipients of all pairs, by Algorithm 1. N means none.
 ///
-/// The tables and the shuffle must be such as planning accepts.
-pub fn algorithm1(n: usize, m: &[u8], w: &[u16], shuffle: &[u16]) -> (Vec<u16>, Vec<u16>) {
+/// The tables and the shuffle must be such as planning accepts. The floor may
+/// be any: with 0 it is the paper's algorithm.
+pub fn algorithm1(
+    n: usize,
+    floor: u32,
+    m: &[u8],
+    w: &[u16],
+    shuffle: &[u16],
+) -> (Vec<u16>, Vec<u16>) {
     // 1: Shuffle the graph. Node a of the shuffled graph is pair shuffle[a].
     let pair = |node: usize| usize::from(shuffle[node]);
     let edge = |(from, to): (usize, usize)| -> Option<u32> {
@@ -77,10 +84,11 @@ pub fn algorithm1(n: usize, m: &[u8], w: &[u16], shuffle: &[u16]) -> (Vec<u16>, 
         }
     }
 
-    // 6 to 10: While something weighs, take the first of maximum weight and
-    // remove whatever meets it.
+    // 6 to 10: While something weighs more than the floor, take the first of
+    // maximum weight and remove whatever meets it. Line 7 of the paper asks
+    // "weights(s) > 0"; by W-202 it is the floor that weights(s) is above.
     let mut chosen = Vec::new();
-    while let Some(max) = first_of_maximum_weight(&set).filter(|max| max.weight > 0) {
+    while let Some(max) = first_of_maximum_weight(&set).filter(|max| max.weight > floor) {
         chosen.push(max.cycle);
         set.retain(|entry| !entry.cycle.meets(&max.cycle));
     }
@@ -116,9 +124,9 @@ mod tests {
             m: vec![0, 1, 1, 1, 0, 1, 1, 1, 0],
             w: vec![4; 9],
         };
-        let identity = algorithm1(3, &all.m, &all.w, &[0, 1, 2]);
+        let identity = algorithm1(3, 0, &all.m, &all.w, &[0, 1, 2]);
         assert_eq!(identity, (vec![2, 0, 1], vec![1, 2, 0]));
-        let turned = algorithm1(3, &all.m, &all.w, &[0, 2, 1]);
+        let turned = algorithm1(3, 0, &all.m, &all.w, &[0, 2, 1]);
         assert_eq!(turned, (vec![1, 2, 0], vec![2, 0, 1]));
     }
 
@@ -126,6 +134,17 @@ mod tests {
     fn nothing_is_chosen_where_nothing_weighs() {
         let weightless = Tables::of_edges(2, &[(0, 1, 0), (1, 0, 0)]);
         let none = (vec![2, 2], vec![2, 2]);
-        assert_eq!(algorithm1(2, &weightless.m, &weightless.w, &[1, 0]), none);
+        let (m, w) = (&weightless.m, &weightless.w);
+        assert_eq!(algorithm1(2, 0, m, w, &[1, 0]), none);
+    }
+
+    #[test]
+    fn what_weighs_as_much_as_the_floor_is_not_chosen() {
+        let Tables { m, w } = Tables::of_edges(2, &[(0, 1, 5), (1, 0, 7)]);
+        let both = (vec![1, 0], vec![1, 0]);
+        assert_eq!(algorithm1(2, 11, &m, &w, &[0, 1]), both);
+        let none = (vec![2, 2], vec![2, 2]);
+        assert_eq!(algorithm1(2, 12, &m, &w, &[0, 1]), none);
+        assert_eq!(algorithm1(2, u32::MAX, &m, &w, &[0, 1]), none);
     }
 }

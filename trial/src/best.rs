@@ -22,9 +22,26 @@ pub struct Best {
 ///
 /// Where there are more than [`MOST_PAIRS`] pairs.
 pub fn best(n: usize, m: &[u8], w: &[u16]) -> Best {
+    best_of(n, &|cycle| cycle_weight(cycle, n, m, w))
+}
+
+/// The heaviest among the sets "whose cycles all weigh more than the floor"
+/// (W-202). The empty set is one.
+///
+/// # Panics
+///
+/// Where there are more than [`MOST_PAIRS`] pairs.
+pub fn best_above(n: usize, floor: u32, m: &[u8], w: &[u16]) -> Best {
+    best_of(n, &|cycle| {
+        cycle_weight(cycle, n, m, w).filter(|&weight| weight > floor)
+    })
+}
+
+/// The heaviest set of the cycles that have a weight.
+fn best_of(n: usize, weigh: &dyn Fn(&[usize]) -> Option<u32>) -> Best {
     assert!(n <= MOST_PAIRS, "{n} pairs have too many sets to try");
     let free: Vec<usize> = (0..n).collect();
-    best_among(&free, &|cycle| cycle_weight(cycle, n, m, w))
+    best_among(&free, weigh)
 }
 
 /// The best set among the free pairs: the first of them sits out, or is in a
@@ -104,10 +121,30 @@ mod tests {
         for (a, b) in [(0, 3), (1, 4), (2, 5)] {
             edges.extend([(a, b, 3), (b, a, 3)]);
         }
-        let tables = Tables::of_edges(6, &edges);
-        let best = best(6, &tables.m, &tables.w);
+        let Tables { m, w } = Tables::of_edges(6, &edges);
+        let best = best(6, &m, &w);
         assert_eq!(best.weight, 18);
         assert_eq!(best.cycles, [[2, 5], [1, 4], [0, 3]]);
+
+        assert_eq!(best_above(6, 5, &m, &w), best);
+        // All its cycles weigh 6.
+        assert_eq!(best_above(6, 6, &m, &w), Best::default());
+    }
+
+    #[test]
+    fn cycles_at_the_floor_are_in_no_set() {
+        // Pair 0 with 1, or with 2: 10 or 2. Pairs 3 and 4: 12.
+        let edges = [
+            (0, 1, 5),
+            (1, 0, 5),
+            (0, 2, 1),
+            (2, 0, 1),
+            (3, 4, 6),
+            (4, 3, 6),
+        ];
+        let Tables { m, w } = Tables::of_edges(5, &edges);
+        let weights = [0, 1, 9, 10, 11, 12].map(|floor| best_above(5, floor, &m, &w).weight);
+        assert_eq!(weights, [22, 22, 22, 12, 12, 0]);
     }
 
     #[test]

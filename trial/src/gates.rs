@@ -3,10 +3,12 @@
 //! In service every weight, choice and node is a secret share, and the only
 //! things one can do with secrets are to multiply and to compare them, each
 //! through a gate. Here the secrets are plain 32-bit words and the gates
-//! count themselves. What is public (N, the published order, the number of
-//! the round) may decide an `if`; a secret never does, so that two pools of
-//! equally many pairs go through the very same gates. (That is so in the
-//! source; what a compiler makes of plain words is its own affair.)
+//! count themselves. What is public (N, the floor, the published order, the
+//! number of the round) may decide an `if`; a secret never does, so that two
+//! pools of equally many pairs go through the very same gates. The floor
+//! decides none: it is compared with the heaviest subset's weight, by a gate,
+//! in every round. (That is so in the source; what a compiler makes of plain
+//! words is its own affair.)
 //!
 //! Sums and differences of secrets are free, and so is making a vector of
 //! ones and zeros from chosen places; document 01 does not tally them.
@@ -39,12 +41,13 @@ pub fn pick(bit: Word, a: Word, b: Word, tally: &mut Tally) -> Word {
 /// Plans a pool of `n` pairs as [`crate::plan`] does, with the same checks.
 pub fn plan(
     n: usize,
+    floor: u32,
     m: &[u8],
     w: &[u16],
     shuffle: &[u16],
     room: Room,
 ) -> Result<(Plan, Tally), Reason> {
-    check(n, m, w, shuffle, room)?;
+    check(n, floor, m, w, shuffle, room)?;
 
     let edges = shuffled_edges(n, m, w, shuffle);
     let nodes = nodes(n);
@@ -54,7 +57,7 @@ pub fn plan(
     let mut evaluated = evaluate(n, &edges, &nodes, &mut tally);
     let mut choices = Vec::with_capacity(rounds);
     for round in 1..=rounds {
-        let choice = choose(n, &nodes, &evaluated.weights, &mut tally);
+        let choice = choose(n, floor, &nodes, &evaluated.weights, &mut tally);
         if round < rounds {
             clear(n, &nodes, &mut evaluated.weights, choice, &mut tally);
         }
@@ -152,12 +155,18 @@ struct Candidate {
 }
 
 /// Chooses the first subset of greatest weight, and the number of subsets
-/// with nodes N if that weight is 0: a comparison and four products after
-/// those of the joins.
-fn choose(n: usize, nodes: &[Nodes], weights: &[Word], tally: &mut Tally) -> Candidate {
+/// with nodes N if that weight is not above the floor: a comparison and four
+/// products after those of the joins, whatever the floor.
+fn choose(
+    n: usize,
+    floor: Word,
+    nodes: &[Nodes],
+    weights: &[Word],
+    tally: &mut Tally,
+) -> Candidate {
     let best = choose_part(nodes, weights, 0, tally);
     let none = n as Word;
-    let valid = at_least(best.weight, 1, tally);
+    let valid = at_least(best.weight, floor + 1, tally);
     Candidate {
         number: pick(valid, best.number, weights.len() as Word, tally),
         nodes: best.nodes.map(|node| pick(valid, node, none, tally)),

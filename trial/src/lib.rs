@@ -21,13 +21,16 @@
 //! | module         | document 02                                        |
 //! |----------------|----------------------------------------------------|
 //! | [`mod@join`]   | W-201: late registrations join the sheet           |
+//! | [`planner`]    | W-202: a floor below which nobody travels          |
 //!
 //! Beside the planner by rounds stand four others:
 //!
 //! - [`mod@algorithm1`], the loop over a shrinking set as the paper (arXiv
-//!   2302.13880) prints it, which demand 2 names as the measure;
-//! - [`mod@best`], the heaviest set of exchanges there is, found by trying
-//!   them all, for the factor three of demand 3;
+//!   2302.13880) prints it, which demand 2 names as the measure, with the
+//!   floor of W-202 in its line 7;
+//! - [`mod@best`], the heaviest set of exchanges there is, of all or of those
+//!   above the floor, found by trying them all, for the factor three of
+//!   demand 3;
 //! - [`gates`], the rounds made of counting gates with no branch on a secret;
 //! - [`straight`], the plan as one writes it when nothing is secret and
 //!   nothing is counted.
@@ -45,13 +48,18 @@
 //! let n = pool.len();
 //!
 //! let tables = build(n, pool.fields(), n * n, n * n).unwrap();
-//! let (plan, tally) =
-//!     plan(n, &tables.m, &tables.w, &pool.shuffle, Room::due(n)).unwrap();
-//!
+//! let planned = |floor| {
+//!     plan(n, floor, &tables.m, &tables.w, &pool.shuffle, Room::due(n)).unwrap()
+//! };
+//! let (plan, tally) = planned(0);
 //! assert_eq!(
 //!     printed(&pool.ids, &plan, tally),
 //!     "PLAN 2 1 2900\n11 12 12\n12 11 11\nCOUNTS 1 6 1\n",
 //! );
+//!
+//! // Nobody travels for an exchange that is not above the floor.
+//! assert_eq!(planned(2_899).0, plan);
+//! assert_eq!(planned(2_900).0.cycles(), 0);
 //! ```
 
 #![forbid(unsafe_code)]
@@ -73,9 +81,9 @@ pub mod tables;
 pub mod tally;
 
 pub use crate::algorithm1::algorithm1;
-pub use crate::best::best;
+pub use crate::best::{best, best_above};
 pub use crate::join::join;
-pub use crate::planner::{plan, Plan, Room};
+pub use crate::planner::{plan, Plan, Room, MOST_FLOOR};
 pub use crate::pool::{Fields, Pool};
 pub use crate::printout::printed;
 pub use crate::refusal::{Reason, Refusal};

@@ -1,13 +1,16 @@
 //! The planner by rounds.
 //!
-//! Evaluate every subset, choose R times the heaviest and clear its
-//! neighbours, then turn the choices into donors and recipients. Each step
-//! raises the tally by what it does, at the line that does it.
+//! Evaluate every subset, choose R times the heaviest that is above the floor
+//! and clear its neighbours, then turn the choices into donors and recipients.
+//! Each step raises the tally by what it does, at the line that does it.
 
 use crate::pool::{is_shuffle, MOST_PAIRS};
 use crate::refusal::Reason;
 use crate::subsets::{self, Subset};
 use crate::tally::Tally;
+
+/// The greatest floor (W-202). No cycle weighs so much.
+pub const MOST_FLOOR: u32 = 200_000;
 
 /// The lengths of the tables that a caller lends to be filled.
 #[derive(Clone, Copy, Debug, PartialEq, Eq)]
@@ -73,17 +76,19 @@ impl Plan {
     }
 }
 
-/// Plans a pool of `n` pairs from lent tables, with room for the outcome.
+/// Plans a pool of `n` pairs from lent tables, with room for the outcome. "A
+/// subset is chosen only if its weight is above the floor" (W-202).
 ///
-/// Checks 4; 9 for any table too short; 8; 10.
+/// Checks 4; 13; 9 for any table too short; 8; 10.
 pub fn plan(
     n: usize,
+    floor: u32,
     m: &[u8],
     w: &[u16],
     shuffle: &[u16],
     room: Room,
 ) -> Result<(Plan, Tally), Reason> {
-    check(n, m, w, shuffle, room)?;
+    check(n, floor, m, w, shuffle, room)?;
 
     let graph = Graph { n, m, w, shuffle };
     let subsets = subsets::published(n);
@@ -93,7 +98,7 @@ pub fn plan(
     let mut weights = evaluate(&graph, &subsets, &mut tally);
     let mut choices = Vec::with_capacity(rounds);
     for round in 1..=rounds {
-        let choice = choose(&weights, &mut tally);
+        let choice = choose(&weights, floor, &mut tally);
         if round < rounds {
             let chosen = subsets.get(choice);
             clear(&mut weights, &subsets, chosen, &mut tally);
@@ -106,9 +111,19 @@ pub fn plan(
 }
 
 /// The checks of planning, in order.
-pub fn check(n: usize, m: &[u8], w: &[u16], shuffle: &[u16], room: Room) -> Result<(), Reason> {
+pub fn check(
+    n: usize,
+    floor: u32,
+    m: &[u8],
+    w: &[u16],
+    shuffle: &[u16],
+    room: Room,
+) -> Result<(), Reason> {
     if n > MOST_PAIRS {
         return Err(Reason::TooManyPairs);
+    }
+    if floor > MOST_FLOOR {
+        return Err(Reason::FloorTooHigh);
     }
     if m.len() < n * n || w.len() < n * n || shuffle.len() < n || !room.suffices(n) {
         return Err(Reason::TooShort);
@@ -197,12 +212,12 @@ struct Winner {
 }
 
 /// The lowest-numbered subset of greatest weight, or the number of subsets if
-/// all weights are 0. There must be a subset.
-fn choose(weights: &[u32], tally: &mut Tally) -> usize {
+/// that weight is not above the floor. There must be a subset.
+fn choose(weights: &[u32], floor: u32, tally: &mut Tally) -> usize {
     let winner = winner(weights, 0, tally);
     tally.comparisons += 1;
     tally.products += 4;
-    if winner.weight > 0 {
+    if winner.weight > floor {
         winner.number
     } else {
         weights.len()
@@ -234,7 +249,8 @@ fn join(left: Winner, right: Winner, tally: &mut Tally) -> Winner {
     }
 }
 
-/// Gives weight 0 to every subset that shares a place with the chosen one.
+/// Gives weight 0 to every subset that shares a place with the chosen one,
+/// whether it is above the floor or not; and to no other.
 fn clear(weights: &mut [u32], subsets: &[Subset], chosen: Option<&Subset>, tally: &mut Tally) {
     let mut taken = [false; MOST_PAIRS];
     for &place in chosen.map_or(&[][..], Subset::places) {
@@ -291,13 +307,25 @@ mod tests {
         let n = 3;
         let good = Tables::empty(n);
         let shuffle = [2, 0, 1];
-        let reason = |n, tables: &Tables, shuffle: &[u16], room| {
-            plan(n, &tables.m, &tables.w, shuffle, room).err()
+        let with = |n, floor, tables: &Tables, shuffle: &[u16], room| {
+            plan(n, floor, &tables.m, &tables.w, shuffle, room).err()
         };
+        let reason = |n, tables: &Tables, shuffle: &[u16], room| with(n, 0, tables, shuffle, room);
         assert_eq!(reason(n, &good, &shuffle, Room::due(n)), None);
         let many = Some(Reason::TooManyPairs);
         assert_eq!(reason(201, &good, &shuffle, Room::due(n)), many);
         assert_eq!(reason(usize::MAX, &good, &shuffle, Room::due(n)), many);
+
+        // A floor too high, whatever else is wrong, but for too many pairs.
+        let high = Some(Reason::FloorTooHigh);
+        let none = Tables::empty(0);
+        for floor in [MOST_FLOOR + 1, u32::MAX] {
+            assert_eq!(with(n, floor, &good, &shuffle, Room::due(n)), high);
+            assert_eq!(with(n, floor, &none, &[], Room::due(0)), high);
+            assert_eq!(with(0, floor, &none, &[], Room::due(0)), high);
+            assert_eq!(with(201, floor, &none, &[], Room::due(0)), many);
+        }
+        assert_eq!(with(n, MOST_FLOOR, &good, &shuffle, Room::due(n)), None);
 
         // Every table alone too short, all else being wrong as well.
         let short = Some(Reason::TooShort);
@@ -340,7 +368,7 @@ mod tests {
                 tables.m[entry] = value;
                 tables.m.push(9);
                 let wrong = value > 1 || diagonal && value > 0;
-                let answer = plan(n, &tables.m, &tables.w, &[0, 1, 2, 3], Room::due(n));
+                let answer = plan(n, 0, &tables.m, &tables.w, &[0, 1, 2, 3], Room::due(n));
                 assert_eq!(answer.err(), wrong.then_some(Reason::Entry));
             }
         }
@@ -352,11 +380,12 @@ mod tests {
         let edges = [(0, 1, 4), (1, 0, 4), (1, 2, 3), (2, 0, 3)];
         let mut tables = Tables::of_edges(n, &edges);
         let mut shuffle = vec![1, 2, 0];
-        let exact = plan(n, &tables.m, &tables.w, &shuffle, Room::due(n));
+        let exact = plan(n, 0, &tables.m, &tables.w, &shuffle, Room::due(n));
         tables.m.extend([7; 5]);
         tables.w.extend([7; 2]);
         shuffle.extend([0, 500]);
-        assert_eq!(plan(n, &tables.m, &tables.w, &shuffle, Room::due(9)), exact);
+        let longer = plan(n, 0, &tables.m, &tables.w, &shuffle, Room::due(9));
+        assert_eq!(longer, exact);
         assert_eq!(exact.unwrap().0.weight, 10);
     }
 }

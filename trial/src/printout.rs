@@ -13,6 +13,9 @@ pub const MOST_READ: usize = sheet::LONGEST + 1;
 /// For how many pairs the program lends buffers.
 pub const LENT_PAIRS: usize = 40;
 
+/// The floor that the program plans with: "`plan` uses it" (W-202).
+pub const FLOOR: u32 = 0;
+
 /// The printout of a plan for pairs with these ids.
 pub fn printed(ids: &[u32], plan: &Plan, tally: Tally) -> String {
     Printed {
@@ -113,7 +116,8 @@ pub fn program(input: &[u8]) -> String {
         let table = LENT_PAIRS * LENT_PAIRS;
         let tables = build(n, pool.fields(), table, table).map_err(no_place)?;
         let room = Room::due(LENT_PAIRS);
-        let (plan, tally) = plan(n, &tables.m, &tables.w, &pool.shuffle, room).map_err(no_place)?;
+        let (m, w) = (&tables.m, &tables.w);
+        let (plan, tally) = plan(n, FLOOR, m, w, &pool.shuffle, room).map_err(no_place)?;
         Ok(printed(&pool.ids, &plan, tally))
     });
     outcome.unwrap_or_else(refused)

@@ -3,6 +3,8 @@
 //! Everything comes from a seed and from nothing else, so that whatever goes
 //! wrong can be run again.
 
+use crate::best::cycle_weight;
+use crate::planner::MOST_FLOOR;
 use crate::pool::{Pool, MOST_PAIRS};
 use crate::sheet;
 use crate::tables::Tables;
@@ -174,6 +176,37 @@ fn traps(random: &mut Random, n: usize) -> Tables {
         }
     }
     tables
+}
+
+/// The greatest weight that a cycle can have.
+pub const GREATEST_WEIGHT: u32 = 3 * u16::MAX as u32;
+
+/// A floor that planning accepts, for these tables of `n` pairs: 0 as often as
+/// not; else a small one, or the weight of some cycle or one beside it, or one
+/// near the greatest weight, or near the greatest floor, or any.
+pub fn floor(random: &mut Random, n: usize, tables: &Tables) -> u32 {
+    match random.below(12) {
+        0 => random.between(1, 10) as u32,
+        1 | 2 => weight_of_some_cycle(random, n, tables),
+        3 => weight_of_some_cycle(random, n, tables).saturating_sub(1),
+        4 => random.between(0, 2) as u32 + GREATEST_WEIGHT - 1,
+        5 => MOST_FLOOR - random.below(2) as u32,
+        6 => random.below(MOST_FLOOR as usize + 1) as u32,
+        _ => 0,
+    }
+}
+
+/// The weight of an executable cycle, if a few draws come upon one; else 0.
+fn weight_of_some_cycle(random: &mut Random, n: usize, tables: &Tables) -> u32 {
+    for _ in 0..if n < 2 { 0 } else { 30 } {
+        let length = random.between(2, n.min(3));
+        let pairs = random.shuffle(n);
+        let cycle: Vec<usize> = pairs[..length].iter().map(|&pair| pair.into()).collect();
+        if let Some(weight) = cycle_weight(&cycle, n, &tables.m, &tables.w) {
+            return weight;
+        }
+    }
+    0
 }
 
 /// What a pool in its fields is like.
@@ -497,9 +530,29 @@ mod tests {
             let kind = random.one_of(&TableKind::ALL);
             let tables = tables(random, n, kind);
             let room = crate::Room::due(n);
-            crate::planner::check(n, &tables.m, &tables.w, &pool.shuffle, room)
+            let floor = floor(random, n, &tables);
+            crate::planner::check(n, floor, &tables.m, &tables.w, &pool.shuffle, room)
                 .expect("no fault in the tables");
         });
+    }
+
+    #[test]
+    fn floors_are_where_they_tell() {
+        let n = 9;
+        let mut random = Random::new(202);
+        let tables = tables(&mut random, n, TableKind::Ties);
+        let floors: Vec<u32> = (0..2_000).map(|_| floor(&mut random, n, &tables)).collect();
+        // Cycles of ties weigh 2 to 9.
+        for floor in (0..=10).chain([196_604, 196_605, 196_606, 199_999, 200_000]) {
+            assert!(floors.contains(&floor), "{floor}");
+        }
+        let zeros = floors.iter().filter(|&&floor| floor == 0).count();
+        assert!((500..1_500).contains(&zeros), "{zeros} zeros");
+        // Where there is no cycle, and where there cannot be one.
+        for n in [0, 1, 2] {
+            let none = Tables::empty(n);
+            assert_eq!(weight_of_some_cycle(&mut random, n, &none), 0);
+        }
     }
 
     #[test]

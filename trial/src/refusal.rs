@@ -30,11 +30,13 @@ pub enum Reason {
     SharedId = 11,
     /// 12: two sheets have more than 200 pairs together.
     TooManyTogether = 12,
+    /// 13: the floor is above 200,000.
+    FloorTooHigh = 13,
 }
 
 impl Reason {
     /// All reasons, by number.
-    pub const ALL: [Reason; 12] = [
+    pub const ALL: [Reason; 13] = [
         Reason::CutOff,
         Reason::NotDue,
         Reason::Version,
@@ -47,6 +49,7 @@ impl Reason {
         Reason::Entry,
         Reason::SharedId,
         Reason::TooManyTogether,
+        Reason::FloorTooHigh,
     ];
 
     /// Document 01's number.

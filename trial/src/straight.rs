@@ -1,15 +1,23 @@
 //! The plan as one writes it when nothing is secret.
 //!
 //! No gate, no tally, no recursion: one scan finds the heaviest subset, one
-//! more clears its neighbours, and where nothing is left the rounds stop.
+//! more clears its neighbours, and where nothing is left above the floor the
+//! rounds stop.
 
 use crate::planner::{check, Plan, Room};
 use crate::refusal::Reason;
 use crate::subsets::{self, Subset};
 
 /// Plans a pool of `n` pairs as [`crate::plan`] does, with the same checks.
-pub fn plan(n: usize, m: &[u8], w: &[u16], shuffle: &[u16], room: Room) -> Result<Plan, Reason> {
-    check(n, m, w, shuffle, room)?;
+pub fn plan(
+    n: usize,
+    floor: u32,
+    m: &[u8],
+    w: &[u16],
+    shuffle: &[u16],
+    room: Room,
+) -> Result<Plan, Reason> {
+    check(n, floor, m, w, shuffle, room)?;
 
     let pair = |place: u16| usize::from(shuffle[usize::from(place)]);
     // The weight of the cycle through two or three places; 0 if it is none.
@@ -48,7 +56,7 @@ pub fn plan(n: usize, m: &[u8], w: &[u16], shuffle: &[u16], room: Room) -> Resul
 
     for round in 0..rounds {
         let (choice, weight) = heaviest(&weights);
-        if weight == 0 {
+        if weight <= floor {
             break;
         }
         choices.push(choice as u32);

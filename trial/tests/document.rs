@@ -11,14 +11,14 @@ use reference::{
 fn planned(tables: &Tables, shuffle: &[u16]) -> (Plan, Tally) {
     let n = shuffle.len();
     let (m, w, room) = (&tables.m, &tables.w, Room::due(n));
-    let (plan, tally) = plan(n, m, w, shuffle, room).unwrap();
+    let (plan, tally) = plan(n, 0, m, w, shuffle, room).unwrap();
     assert_eq!(
-        gates::plan(n, m, w, shuffle, room),
+        gates::plan(n, 0, m, w, shuffle, room),
         Ok((plan.clone(), tally))
     );
-    assert_eq!(straight::plan(n, m, w, shuffle, room), Ok(plan.clone()));
+    assert_eq!(straight::plan(n, 0, m, w, shuffle, room), Ok(plan.clone()));
     assert_eq!(
-        algorithm1(n, m, w, shuffle),
+        algorithm1(n, 0, m, w, shuffle),
         (plan.donors.clone(), plan.recipients.clone())
     );
     (plan, tally)
@@ -154,13 +154,13 @@ fn k11_and_k12() {
     let tables = Tables::empty(2);
     let room = Room::due(2);
     assert_eq!(
-        plan(2, &tables.m, &tables.w, &[0, 0], room),
+        plan(2, 0, &tables.m, &tables.w, &[0, 0], room),
         Err(Reason::Shuffle)
     );
     let mut tables = Tables::of_edges(2, &[(0, 1, 5), (1, 0, 7)]);
     tables.m[1] = 2;
     assert_eq!(
-        plan(2, &tables.m, &tables.w, &[0, 1], room),
+        plan(2, 0, &tables.m, &tables.w, &[0, 1], room),
         Err(Reason::Entry)
     );
 }

@@ -1,5 +1,5 @@
-//! Plans of random pools: by rounds and by Algorithm 1, against the best
-//! there is, and with the tally that demand 3 fixes.
+//! Plans of random pools with floor 0: by rounds and by Algorithm 1, against
+//! the best there is, and with the tally that demand 3 fixes.
 
 use reference::best::cycle_weight;
 use reference::random::{pool, tables, trials, PoolKind, Random, TableKind};
@@ -20,13 +20,13 @@ fn any_tables(random: &mut Random, n: usize) -> Tables {
 /// Plans with every planner and checks all that holds of every plan.
 fn planned(n: usize, tables: &Tables, shuffle: &[u16]) -> Plan {
     let (m, w, room) = (&tables.m, &tables.w, Room::due(n));
-    let (plan, tally) = plan(n, m, w, shuffle, room).unwrap();
+    let (plan, tally) = plan(n, 0, m, w, shuffle, room).unwrap();
     assert_eq!(tally, Tally::demanded(n));
     assert_eq!(
-        gates::plan(n, m, w, shuffle, room),
+        gates::plan(n, 0, m, w, shuffle, room),
         Ok((plan.clone(), tally))
     );
-    assert_eq!(straight::plan(n, m, w, shuffle, room), Ok(plan.clone()));
+    assert_eq!(straight::plan(n, 0, m, w, shuffle, room), Ok(plan.clone()));
     assert_filled(n, tables, shuffle, &plan);
     plan
 }
@@ -77,7 +77,7 @@ fn rounds_are_algorithm_1() {
         let tables = any_tables(random, n);
         let shuffle = random.shuffle(n);
         let plan = planned(n, &tables, &shuffle);
-        let (donors, recipients) = algorithm1(n, &tables.m, &tables.w, &shuffle);
+        let (donors, recipients) = algorithm1(n, 0, &tables.m, &tables.w, &shuffle);
         assert_eq!(plan.donors, donors);
         assert_eq!(plan.recipients, recipients);
     });
@@ -91,7 +91,7 @@ fn every_kind_at_every_size_up_to_thirty() {
             let tables = tables(&mut random, n, kind);
             let shuffle = random.shuffle(n);
             let plan = planned(n, &tables, &shuffle);
-            let both = algorithm1(n, &tables.m, &tables.w, &shuffle);
+            let both = algorithm1(n, 0, &tables.m, &tables.w, &shuffle);
             assert_eq!((plan.donors, plan.recipients), both);
         }
     }
@@ -124,7 +124,7 @@ fn tallies_follow_the_closed_form() {
         for kind in [TableKind::Empty, TableKind::Dense] {
             let tables = tables(&mut random, n, kind);
             let shuffle = random.shuffle(n);
-            let (_, tally) = plan(n, &tables.m, &tables.w, &shuffle, Room::due(n)).unwrap();
+            let (_, tally) = plan(n, 0, &tables.m, &tables.w, &shuffle, Room::due(n)).unwrap();
             assert_eq!(tally, Tally::demanded(n), "{n} pairs");
         }
     }
@@ -136,7 +136,7 @@ fn two_hundred_pairs() {
     let pool = pool(&mut Random::new(200), n, PoolKind::Dense);
     let tables = build(n, pool.fields(), n * n, n * n).unwrap();
     let plan = planned(n, &tables, &pool.shuffle);
-    let both = algorithm1(n, &tables.m, &tables.w, &pool.shuffle);
+    let both = algorithm1(n, 0, &tables.m, &tables.w, &pool.shuffle);
     assert_eq!((plan.donors, plan.recipients), both);
 }
 
@@ -151,7 +151,7 @@ fn the_heaviest_tables_overflow_nothing() {
         tables.m[(2 * k + 1) * n + 2 * k] = 1;
     }
     let shuffle = Random::new(6).shuffle(n);
-    let plan = straight::plan(n, &tables.m, &tables.w, &shuffle, Room::due(n)).unwrap();
+    let plan = straight::plan(n, 0, &tables.m, &tables.w, &shuffle, Room::due(n)).unwrap();
     assert_eq!(plan.cycles(), 100);
     assert_eq!(plan.weight, 200 * 65_535);
     assert_filled(n, &tables, &shuffle, &plan);
