@@ -6,7 +6,7 @@ use crate::sheets::TABLES;
 use crate::Cases;
 use reference::pool::{MOST_AGE, MOST_BLOOD, MOST_PAIRS};
 use reference::sheet::{length, offset_of_pair, offset_of_shuffle, START};
-use reference::Pool;
+use reference::{Pool, MOST_FLOOR};
 
 /// Something that makes an input faulty, unless another fault undoes it.
 pub struct Fault<T> {
@@ -54,6 +54,16 @@ impl<T: Clone + 'static> Faults<T> {
 
 /// Numbers of pairs that are too great, some of them so that a square wraps.
 const TOO_MANY: [usize; 5] = [MOST_PAIRS + 1, 1 << 16, 1 << 32, 1 << 63, usize::MAX];
+
+/// Floors that are too high: by one, such as are within the limit where bits are
+/// lost or a sign is seen, and the greatest number.
+pub const TOO_HIGH: [u32; 5] = [
+    MOST_FLOOR + 1,
+    (1 << 18) + 1,
+    1 << 31,
+    u32::MAX - 1,
+    u32::MAX,
+];
 
 /// Shorter lengths: one less, and none.
 fn shorter(length: usize) -> Vec<usize> {
@@ -325,6 +335,13 @@ pub fn of_planning(sound: &Input) -> Faults<Input> {
             input.n = many
         });
     }
+    for high in TOO_HIGH {
+        faults.add(format!("floor {high}"), move |input| input.floor = high);
+    }
+    // No fault, and it must hide none.
+    faults.add(format!("floor {MOST_FLOOR}"), |input| {
+        input.floor = MOST_FLOOR
+    });
     for short in shorter(n * n) {
         faults.add(format!("M has {short}"), move |input| {
             input.m.truncate(short)

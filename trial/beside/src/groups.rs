@@ -2,16 +2,18 @@
 //! size and kind are taken from the seed too, so that seeds in a row go
 //! through all of them.
 
-use crate::faults::{of_fields, of_joining, of_planning, of_reading, Fields, Joining, Reading};
+use crate::faults::{
+    of_fields, of_joining, of_planning, of_reading, Fields, Joining, Reading, TOO_HIGH,
+};
 use crate::lent::{same, Answered, Outcome};
-use crate::plans::{made, plans, prints, prints_refusal, Input};
+use crate::plans::{made, plans, prints, prints_refusal, weights, Input};
 use crate::sheets::{builds, enough, joins, more, reads, there_and_back, writes, TABLES};
 use crate::Cases;
 use reference::pool::MOST_PAIRS;
 use reference::printout::{self, Printed};
-use reference::random::{damaged, pool, pools_apart, tables, PoolKind, Random, TableKind};
+use reference::random::{damaged, floor, pool, pools_apart, tables, PoolKind, Random, TableKind};
 use reference::sheet::{self, length};
-use reference::{best, build, Pool, Reason, Room, Tables, Tally};
+use reference::{best, best_above, build, Plan, Pool, Reason, Room, Tables, Tally, MOST_FLOOR};
 
 /// Trials of one sort.
 pub struct Group {
@@ -26,14 +28,18 @@ pub struct Group {
 }
 
 /// All groups.
-pub const ALL: [Group; 16] = [
+pub const ALL: [Group; 17] = [
     Group {
         name: "plans",
         trials: SIZES * KINDS * 3,
-        due: &[0],
+        due: &[0, 13],
         run: |seed, random, cases| {
-            plan(random, (seed % SIZES) as usize, seed / SIZES)?;
+            let (n, kind) = ((seed % SIZES) as usize, seed / SIZES);
+            plan(random, n, kind)?;
             cases.add(0);
+            if random.chance(1, 4) {
+                cases.add(too_high(random, n, kind)?);
+            }
             Ok(())
         },
     },
@@ -42,7 +48,7 @@ pub const ALL: [Group; 16] = [
         trials: KINDS,
         due: &[0],
         run: |seed, random, cases| {
-            plan(random, 100, seed)?;
+            large_plan(random, 100, seed)?;
             cases.add(0);
             Ok(())
         },
@@ -52,7 +58,7 @@ pub const ALL: [Group; 16] = [
         trials: 3,
         due: &[0],
         run: |seed, random, cases| {
-            plan(random, 200, seed)?;
+            large_plan(random, 200, seed)?;
             cases.add(0);
             Ok(())
         },
@@ -62,6 +68,12 @@ pub const ALL: [Group; 16] = [
         trials: 20_000,
         due: &[0],
         run: bound,
+    },
+    Group {
+        name: "floors",
+        trials: FLOOR_SIZES * KINDS * 10,
+        due: &[0, 13],
+        run: floors,
     },
     Group {
         name: "tallies",
@@ -114,7 +126,7 @@ pub const ALL: [Group; 16] = [
     Group {
         name: "faults-of-planning",
         trials: 14,
-        due: &[0, 4, 8, 9, 10],
+        due: &[0, 4, 8, 9, 10, 13],
         run: faults_of_planning,
     },
     Group {
@@ -132,13 +144,16 @@ pub const ALL: [Group; 16] = [
     Group {
         name: "safe-crate",
         trials: 2_000,
-        due: &[0, 1, 2, 3, 4, 5, 6, 7, 8, 11, 12],
+        due: &[0, 1, 2, 3, 4, 5, 6, 7, 8, 11, 12, 13],
         run: safe_crate,
     },
 ];
 
 /// Sizes from 0 to 60.
 const SIZES: u64 = 61;
+
+/// Sizes from 0 to 16, with many floors each.
+const FLOOR_SIZES: u64 = 17;
 
 /// Kinds of tables: a caller's own, and built ones.
 const KINDS: u64 = (TableKind::ALL.len() + PoolKind::ALL.len()) as u64;
@@ -156,9 +171,11 @@ fn tables_of(random: &mut Random, n: usize, kind: u64) -> Result<Tables, String>
 }
 
 /// Tables of that kind and a shuffle, in tables that are often longer than
-/// they need be.
+/// they need be; and a floor, 0 or any that is not too high.
 fn input(random: &mut Random, n: usize, kind: u64) -> Result<Input, String> {
-    let Tables { mut m, mut w } = tables_of(random, n, kind)?;
+    let tables = tables_of(random, n, kind)?;
+    let floor = floor(random, n, &tables);
+    let Tables { mut m, mut w } = tables;
     let mut shuffle = random.shuffle(n);
     m.extend((0..more(random)).map(|_| random.byte()));
     w.extend((0..more(random)).map(|_| random.bits() as u16));
@@ -173,6 +190,7 @@ fn input(random: &mut Random, n: usize, kind: u64) -> Result<Input, String> {
     };
     Ok(Input {
         n,
+        floor,
         m,
         w,
         shuffle,
@@ -186,20 +204,120 @@ fn plan(random: &mut Random, n: usize, kind: u64) -> Result<(), String> {
     Ok(())
 }
 
-/// Three times the plan's weight is at least that of the best set.
-fn bound(seed: u64, random: &mut Random, cases: &mut Cases) -> Result<(), String> {
-    let n = (seed % 9) as usize;
-    let input = input(random, n, seed / 9)?;
-    let (plan, _) = made(random, &input)?;
-    let best = best(n, &input.m, &input.w);
-    if plan.weight > best.weight || 3 * plan.weight < best.weight {
-        return Err(format!("weight {} beside {best:?}", plan.weight));
+/// One of few large plans. Of seeds in a row every other has floor 0, and of
+/// those of one kind too.
+fn large_plan(random: &mut Random, n: usize, seed: u64) -> Result<(), String> {
+    let mut input = input(random, n, seed)?;
+    if (seed + seed / KINDS) % 2 == 0 {
+        input.floor = 0;
     }
-    cases.add(0);
+    made(random, &input)?;
     Ok(())
 }
 
-/// Two pools of equally many pairs have the same tally, demand 3's.
+/// Sound tables with a floor that is too high.
+fn too_high(random: &mut Random, n: usize, kind: u64) -> Answered {
+    let mut input = input(random, n, kind)?;
+    input.floor = random.one_of(&TOO_HIGH);
+    match plans(random, &input)? {
+        Err(Reason::FloorTooHigh) => Ok(Reason::FloorTooHigh.number()),
+        other => Err(format!("floor {}: {other:?}", input.floor)),
+    }
+}
+
+/// Three times the plan's weight is at least that of the best set whose cycles
+/// all weigh more than the floor; with floor 0, of the best set there is.
+fn bound(seed: u64, random: &mut Random, cases: &mut Cases) -> Result<(), String> {
+    let n = (seed % 9) as usize;
+    let mut input = input(random, n, seed / 9)?;
+    let rival = best_above(n, input.floor, &input.m, &input.w);
+    let every = best(n, &input.m, &input.w);
+    for (floor, best) in [(input.floor, rival), (0, every)] {
+        input.floor = floor;
+        let (plan, _) = made(random, &input)?;
+        if plan.weight > best.weight || 3 * plan.weight < best.weight {
+            let weight = plan.weight;
+            return Err(format!("floor {floor}: weight {weight} beside {best:?}"));
+        }
+        cases.add(0);
+    }
+    Ok(())
+}
+
+/// Floors at which plans of cycles of these weights differ: at each weight,
+/// directly below it and above it; and the ends.
+fn telling_floors(weights: &[u32]) -> Vec<u32> {
+    let near = |&weight: &u32| [weight.saturating_sub(1), weight, weight + 1];
+    let mut floors: Vec<u32> = weights.iter().flat_map(near).collect();
+    floors.extend([0, 1, MOST_FLOOR - 1, MOST_FLOOR]);
+    floors.sort();
+    floors.dedup();
+    floors
+}
+
+/// One pool with many floors: the cycles planned with a floor are the first of
+/// those planned with 0, just those above it, and all tallies are the same. The
+/// safe crate's plans are those too, by the library's own answers alone.
+fn floors(seed: u64, random: &mut Random, cases: &mut Cases) -> Result<(), String> {
+    let n = (seed % FLOOR_SIZES) as usize;
+    let mut input = input(random, n, seed / FLOOR_SIZES)?;
+    input.floor = 0;
+    let (whole, tally) = made(random, &input)?;
+    let weights = weights(&input, &whole);
+
+    let ids = (0..n as u32).collect();
+    let (m, w) = (input.m[..n * n].to_vec(), input.w[..n * n].to_vec());
+    let tables = vadivuzhen::Tables::new(ids, m, w).map_err(|refused| refused.to_string())?;
+    let safely = |floor| tables.plan_above(floor, &input.shuffle);
+    let safely_whole = tables.plan(&input.shuffle);
+    same("the plan with floor 0", safely(0), safely_whole.clone())?;
+    let safely_whole = safely_whole.map_err(|refused| refused.to_string())?;
+
+    for floor in telling_floors(&weights) {
+        let above = weights.iter().filter(|&&weight| weight > floor).count();
+        let told = |what: &str| format!("{what} with floor {floor}, and the first with 0");
+        let higher = Input {
+            floor,
+            ..input.clone()
+        };
+        let (plan, counted) = made(random, &higher)?;
+        same(&told("records"), &plan.records[..], &whole.records[..above])?;
+        same(&told("the tally"), counted, tally)?;
+        same(&told("choices"), &plan.choices, &chosen(&whole, above))?;
+
+        let plan = safely(floor).map_err(|refused| refused.to_string())?;
+        let first = &safely_whole.records()[..above];
+        same(&told("records, safely"), plan.records(), first)?;
+        let weight = weights[..above]
+            .iter()
+            .map(|&weight| u64::from(weight))
+            .sum();
+        same(&told("the weight, safely"), plan.weight(), weight)?;
+        same(
+            &told("the tally, safely"),
+            plan.tally(),
+            safely_whole.tally(),
+        )?;
+        cases.add(0);
+    }
+    for floor in TOO_HIGH {
+        let why = safely(floor).map_err(|refused| (refused.why, refused.place));
+        let high = Err((vadivuzhen::Refusal::FloorTooHigh, 0));
+        same(&format!("floor {floor}"), why, high)?;
+        cases.add(Reason::FloorTooHigh.number());
+    }
+    Ok(())
+}
+
+/// The first choices of a plan, so many, and then none.
+fn chosen(plan: &Plan, count: usize) -> Vec<u32> {
+    let mut choices = plan.choices[..count].to_vec();
+    choices.resize(plan.choices.len(), plan.weights.len() as u32);
+    choices
+}
+
+/// Two pools of equally many pairs have the same tally, demand 3's, each with a
+/// floor of its own.
 fn tallies(seed: u64, random: &mut Random, cases: &mut Cases) -> Result<(), String> {
     let n = (seed % SIZES) as usize;
     let kinds = [random.bits(), random.bits()];
@@ -425,9 +543,12 @@ fn faults_of_planning(seed: u64, random: &mut Random, cases: &mut Cases) -> Resu
     // Of 200 pairs there would be too many plans to make.
     let n = faulty(seed).min(9);
     let kind = random.bits();
-    let Tables { m, w } = tables_of(random, n, kind)?;
+    let tables = tables_of(random, n, kind)?;
+    let floor = floor(random, n, &tables);
+    let Tables { m, w } = tables;
     let sound = Input {
         n,
+        floor,
         m,
         w,
         shuffle: random.shuffle(n),
@@ -506,9 +627,9 @@ const MANY: usize = 1 << 62;
 
 /// The refusals that there are, and other numbers.
 fn printed_refusals(seed: u64, random: &mut Random, cases: &mut Cases) -> Result<(), String> {
-    let number = match seed % 15 {
-        number @ 0..=12 => number as u32,
-        13 => u32::MAX,
+    let number = match seed % 16 {
+        number @ 0..=13 => number as u32,
+        14 => u32::MAX,
         _ => any_number(random) as u32,
     };
     let place = match random.below(4) {
@@ -536,6 +657,31 @@ fn safely_joined(random: &mut Random, cases: &mut Cases) -> Outcome {
     )
 }
 
+/// A pool planned by the safe crate with a floor, at times one too high.
+fn safely_above(random: &mut Random, pool: &vadivuzhen::Pool) -> Answered {
+    let (n, tables) = (pool.len(), pool.tables());
+    let tables = Tables {
+        m: tables.compatibilities().to_vec(),
+        w: tables.weights().to_vec(),
+    };
+    let floor = match random.below(4) {
+        0 => random.one_of(&TOO_HIGH),
+        _ => floor(random, n, &tables),
+    };
+    let plan = reference::plan(n, floor, &tables.m, &tables.w, pool.shuffle(), Room::due(n));
+    let number = plan.as_ref().err().map_or(0, |reason| reason.number());
+    let text = match plan {
+        Ok((plan, tally)) => printout::printed(pool.ids(), &plan, tally),
+        Err(reason) => printout::refused(reason.at(0)),
+    };
+    let safely = match pool.plan_above(floor) {
+        Ok(plan) => plan.print(),
+        Err(refused) => refused.print(),
+    };
+    same(&format!("the printout with floor {floor}"), safely, text)?;
+    Ok(number)
+}
+
 /// Sheets through the safe crate, from the bytes to the printout.
 fn safe_crate(_: u64, random: &mut Random, cases: &mut Cases) -> Result<(), String> {
     safely_joined(random, cases)?;
@@ -552,6 +698,7 @@ fn safe_crate(_: u64, random: &mut Random, cases: &mut Cases) -> Result<(), Stri
             let again = vadivuzhen::Pool::new(&pairs, pool.shuffle());
             same("the pool, from its pairs", again.as_ref(), Ok(&pool))?;
             same("the sheet, written again", pool.write(), sheet)?;
+            cases.add(safely_above(random, &pool)?);
             pool.plan().print()
         }
         Err(refused) => refused.print(),

@@ -1,6 +1,7 @@
 //! Planning and printing beside the reference.
 
 use crate::lent::{same, Answered, Lent};
+use reference::best::cycle_weight;
 use reference::printout::Printed;
 use reference::random::Random;
 use reference::{algorithm1, printout, Plan, Reason, Room, Tally};
@@ -12,6 +13,8 @@ use vadivuzhen::Cycle;
 pub struct Input {
     /// The number of pairs.
     pub n: usize,
+    /// The floor.
+    pub floor: u32,
     /// Compatibilities.
     pub m: Vec<u8>,
     /// Weights.
@@ -44,7 +47,7 @@ fn refused(reason: Reason) -> PlanAnswer {
 
 /// Plans, and gives the plan on which both agree, or the refusal.
 pub fn plans(random: &mut Random, input: &Input) -> Result<Result<(Plan, Tally), Reason>, String> {
-    let &Input { n, room, .. } = input;
+    let &Input { n, floor, room, .. } = input;
     let mut m = Lent::of(random, &input.m);
     let mut w = Lent::of(random, &input.w);
     let mut shuffle = Lent::of(random, &input.shuffle);
@@ -55,6 +58,7 @@ pub fn plans(random: &mut Random, input: &Input) -> Result<Result<(Plan, Tally),
     let mut records = Lent::empty(random, room.records);
     let answer = raw::plan(
         n,
+        floor,
         m.read(),
         w.read(),
         shuffle.read(),
@@ -70,7 +74,7 @@ pub fn plans(random: &mut Random, input: &Input) -> Result<Result<(Plan, Tally),
     w.unchanged("W")?;
     shuffle.unchanged("the shuffle")?;
 
-    let plan = reference::plan(n, &input.m, &input.w, &input.shuffle, room);
+    let plan = reference::plan(n, floor, &input.m, &input.w, &input.shuffle, room);
     // A refusal fills nothing.
     let nothing = Plan::default();
     let (expected, left) = match &plan {
@@ -95,17 +99,37 @@ fn cycle(&[first, second, third]: &[u16; 3]) -> Cycle {
     }
 }
 
-/// Plans what has no fault. The plan must be that of Algorithm 1 as well, and
-/// its tally that of demand 3.
+/// Plans what has no fault. The plan must be that of Algorithm 1 as well, with
+/// every cycle above the floor, and its tally that of demand 3.
 pub fn made(random: &mut Random, input: &Input) -> Result<(Plan, Tally), String> {
-    let n = input.n;
+    let &Input { n, floor, .. } = input;
     let (plan, tally) = plans(random, input)?
         .map_err(|reason| format!("both refuse sound tables: {}", reason.number()))?;
     same("the tally, by demand 3", tally, Tally::demanded(n))?;
-    let (donors, recipients) = algorithm1(n, &input.m, &input.w, &input.shuffle);
+    let (donors, recipients) = algorithm1(n, floor, &input.m, &input.w, &input.shuffle);
     same("donors, by Algorithm 1", &plan.donors, &donors)?;
     same("recipients, by Algorithm 1", &plan.recipients, &recipients)?;
+    if let Some(light) = weights(input, &plan)
+        .iter()
+        .find(|&&weight| weight <= floor)
+    {
+        return Err(format!(
+            "a planned cycle weighs {light}, with floor {floor}"
+        ));
+    }
     Ok((plan, tally))
+}
+
+/// The weight of each planned cycle by the lent tables, in order of choice; of
+/// one that is not executable, 0.
+pub fn weights(input: &Input, plan: &Plan) -> Vec<u32> {
+    let n = input.n;
+    let weigh = |record: &[u16; 3]| {
+        let pairs = record.iter().map(|&pair| usize::from(pair));
+        let cycle: Vec<usize> = pairs.filter(|&pair| pair < n).collect();
+        cycle_weight(&cycle, n, &input.m, &input.w).unwrap_or(0)
+    };
+    plan.records.iter().map(weigh).collect()
 }
 
 /// Prints a plan into a buffer of `room` bytes.
