@@ -1,15 +1,18 @@
 //! Times reading, building, planning and joining by the proved library; beside
 //! its planning the same gates in plain Rust, and a planner that counts
-//! nothing; and beside its joining the same in plain Rust.
+//! nothing; and beside its joining the same in plain Rust. Planning is timed
+//! with floor 0, and once more with a floor that leaves about half the cycles.
 //!
 //! `cargo run --release [-- SIZE..]` prints Markdown.
 
+use reference::best::cycle_weight;
 use reference::random::{pool, pools_apart, PoolKind, Random};
-use reference::{gates, sheet, straight, subsets, Pool, Room, Tally};
+use reference::{gates, sheet, straight, subsets, Plan, Pool, Room, Tally};
 use std::fs;
 use std::hint::black_box;
 use std::time::Duration;
-use vadivuzhen::{raw, Cycle};
+use vadivuzhen::raw::{self, PlanAnswer};
+use vadivuzhen::Cycle;
 
 /// The seed of every pool.
 const SEED: u64 = 20_230_227;
@@ -45,6 +48,8 @@ fn main() {
     print_times(&timed);
     println!();
     print_joins(&timed);
+    println!();
+    print_floors(&timed);
     println!();
     print_gates(&timed);
 }
@@ -94,6 +99,12 @@ struct Timed {
     straight: Times,
     join: Times,
     plain_join: Times,
+    /// A floor in the middle of the planned cycles' weights, how many of how
+    /// many cycles are planned with it, and planning with it.
+    floor: u32,
+    cycles: [usize; 2],
+    plan_above: Times,
+    gates_above: Times,
 }
 
 impl Timed {
@@ -108,6 +119,69 @@ impl Timed {
 fn sheet_of(pool: &Pool) -> Vec<u8> {
     reference::write(pool.len(), pool.fields(), &pool.shuffle, sheet::LONGEST)
         .expect("a sound pool is written")
+}
+
+/// The tables that planning fills.
+struct Filled {
+    weights: Vec<u32>,
+    choices: Vec<u32>,
+    donors: Vec<u16>,
+    recipients: Vec<u16>,
+    records: Vec<Cycle>,
+}
+
+impl Filled {
+    fn new(n: usize) -> Filled {
+        Filled {
+            weights: vec![0; subsets::count(n)],
+            choices: vec![0; n / 2],
+            donors: vec![0; n],
+            recipients: vec![0; n],
+            records: vec![Cycle::default(); n / 2],
+        }
+    }
+
+    fn lent(&mut self) -> raw::Planned<'_> {
+        raw::Planned {
+            weights: &mut self.weights,
+            choices: &mut self.choices,
+            donors: &mut self.donors,
+            recipients: &mut self.recipients,
+            records: &mut self.records,
+        }
+    }
+
+    /// What was planned here is that plan with that tally.
+    fn assert_is(&self, answer: PlanAnswer, plan: &Plan, tally: Tally) {
+        assert_eq!(answer.refusal, 0);
+        assert_eq!(
+            (&self.weights, &self.choices),
+            (&plan.weights, &plan.choices)
+        );
+        assert_eq!(self.donors, plan.donors);
+        assert_eq!(self.recipients, plan.recipients);
+        assert_eq!(answer.cycles, plan.cycles());
+        let cycle = |record: &Cycle| [record.first, record.second, record.third];
+        let cycles: Vec<[u16; 3]> = self.records[..answer.cycles].iter().map(cycle).collect();
+        assert_eq!(cycles, plan.records);
+        assert_eq!(answer.weight, u64::from(plan.weight));
+        let counted = Tally {
+            comparisons: answer.comparisons,
+            products: answer.products,
+            rounds: answer.rounds,
+        };
+        assert_eq!(counted, tally);
+    }
+}
+
+/// The weight of the middle one of the planned cycles; 0 where there is none.
+fn middle_weight(n: usize, m: &[u8], w: &[u16], plan: &Plan) -> u32 {
+    let Some(record) = plan.records.get(plan.cycles() / 2) else {
+        return 0;
+    };
+    let pairs = record.iter().map(|&pair| usize::from(pair));
+    let cycle: Vec<usize> = pairs.filter(|&pair| pair < n).collect();
+    cycle_weight(&cycle, n, m, w).expect("a planned cycle is executable")
 }
 
 /// Times all work on a pool of `n` pairs, taking turns, so that whatever else
@@ -126,9 +200,7 @@ fn timed(n: usize) -> Timed {
         [(); 3].map(|()| vec![0; n]);
     let mut shuffle = vec![0; n];
     let (mut m, mut w) = (vec![0; n * n], vec![0; n * n]);
-    let (mut weights, mut choices) = (vec![0; subsets::count(n)], vec![0; n / 2]);
-    let (mut donors, mut recipients) = (vec![0; n], vec![0; n]);
-    let mut records = vec![Cycle::default(); n / 2];
+    let mut filled = Filled::new(n);
 
     let mut timed = Timed {
         n,
@@ -139,6 +211,10 @@ fn timed(n: usize) -> Timed {
         straight: Times::default(),
         join: Times::default(),
         plain_join: Times::default(),
+        floor: 0,
+        cycles: [0; 2],
+        plan_above: Times::default(),
+        gates_above: Times::default(),
     };
     let often = 1 + (PAIRS_TO_TIME / n.max(1)).pow(3) as u32;
     let start = processor_time();
@@ -173,30 +249,43 @@ fn timed(n: usize) -> Timed {
         let build = timed
             .build
             .add(often, || raw::build(n, fields, &mut m, &mut w));
-        let plan = timed.plan.add(often, || {
-            raw::plan(
-                n,
-                &m,
-                &w,
-                &shuffle,
-                raw::Planned {
-                    weights: &mut weights,
-                    choices: &mut choices,
-                    donors: &mut donors,
-                    recipients: &mut recipients,
-                    records: &mut records,
-                },
-            )
-        });
+        assert_eq!((read.refusal, build.refusal), (0, 0));
+
+        // All make the same plan, and those that count count alike.
         let room = Room::due(n);
+        let plan = timed.plan.add(often, || {
+            raw::plan(n, black_box(0), &m, &w, &shuffle, filled.lent())
+        });
         let (by_gates, tally) = timed
             .gates
-            .add(often, || gates::plan(n, &m, &w, &shuffle, room))
+            .add(often, || {
+                gates::plan(n, black_box(0), &m, &w, &shuffle, room)
+            })
             .expect("a plan by gates");
         let by_straight = timed
             .straight
-            .add(often, || straight::plan(n, &m, &w, &shuffle, room))
+            .add(often, || {
+                straight::plan(n, black_box(0), &m, &w, &shuffle, room)
+            })
             .expect("a straight plan");
+        filled.assert_is(plan, &by_gates, tally);
+        assert_eq!(by_gates, by_straight);
+
+        // The same with a floor.
+        let floor = middle_weight(n, &m, &w, &by_gates);
+        let above = timed.plan_above.add(often, || {
+            raw::plan(n, black_box(floor), &m, &w, &shuffle, filled.lent())
+        });
+        let (gates_above, tally_above) = timed
+            .gates_above
+            .add(often, || {
+                gates::plan(n, black_box(floor), &m, &w, &shuffle, room)
+            })
+            .expect("a plan by gates, with a floor");
+        filled.assert_is(above, &gates_above, tally_above);
+        assert_eq!(tally_above, tally);
+        timed.floor = floor;
+        timed.cycles = [above.cycles, plan.cycles];
 
         let joins = often.max(JOINS_TO_TIME);
         let join = timed.join.add(joins, || {
@@ -210,24 +299,6 @@ fn timed(n: usize) -> Timed {
             .expect("two sheets joined");
         assert_eq!((join.refusal, join.length), (0, joined.len()));
         assert_eq!(joined, plainly_joined);
-
-        // All three made the same plan, and those that count counted alike.
-        assert_eq!((read.refusal, build.refusal, plan.refusal), (0, 0, 0));
-        assert_eq!(by_gates, by_straight);
-        assert_eq!((&weights, &choices), (&by_gates.weights, &by_gates.choices));
-        assert_eq!(donors, by_gates.donors);
-        assert_eq!(recipients, by_gates.recipients);
-        assert_eq!(plan.cycles, by_gates.cycles());
-        let cycle = |record: &Cycle| [record.first, record.second, record.third];
-        let cycles: Vec<[u16; 3]> = records[..plan.cycles].iter().map(cycle).collect();
-        assert_eq!(cycles, by_gates.records);
-        assert_eq!(plan.weight, u64::from(by_gates.weight));
-        let counted = Tally {
-            comparisons: plan.comparisons,
-            products: plan.products,
-            rounds: plan.rounds,
-        };
-        assert_eq!(counted, tally);
         runs += 1;
     }
     timed
@@ -262,6 +333,24 @@ fn print_joins(timed: &[Timed]) {
             t.join.cell(),
             t.plain_join.cell(),
             ratio(&t.join, &t.plain_join),
+        );
+    }
+}
+
+/// Planning with a floor, beside planning with 0 and beside the same gates.
+fn print_floors(timed: &[Timed]) {
+    println!("| pairs | floor | cycles of those with floor 0 | plan with the floor | (a) with the floor | plan with the floor / with 0 | plan / (a), with the floor |");
+    println!("|--:|--:|--:|--:|--:|--:|--:|");
+    for t in timed {
+        let [some, all] = t.cycles;
+        println!(
+            "| {} | {} | {some} of {all} | {} | {} | {} | {} |",
+            t.n,
+            t.floor,
+            t.plan_above.cell(),
+            t.gates_above.cell(),
+            ratio(&t.plan_above, &t.plan),
+            ratio(&t.plan_above, &t.gates_above),
         );
     }
 }
