@@ -24,8 +24,8 @@ pub struct Tally {
 ///
 /// Its cycles are executable, each weighs more than the floor that was planned
 /// with, and no pair is in two of them; and no other such set of cycles weighs
-/// more than three times as much. With floor 0 no other set of executable
-/// cycles does, weightless ones among them, that has no pair in two.
+/// more than three times as much. With floor 0 that holds of every set of
+/// executable cycles with no pair in two of them, weightless ones included.
 ///
 /// Pairs go by their numbers, from 0 to N − 1; their ids are for the printout,
 /// which `Display` shows as well. A plan holds a weight for each of

@@ -181,9 +181,9 @@ fn traps(random: &mut Random, n: usize) -> Tables {
 /// The greatest weight that a cycle can have.
 pub const GREATEST_WEIGHT: u32 = 3 * u16::MAX as u32;
 
-/// A floor that planning accepts, for these tables of `n` pairs: 0 as often as
-/// not; else a small one, or the weight of some cycle or one beside it, or one
-/// near the greatest weight, or near the greatest floor, or any.
+/// A floor that planning accepts, for these tables of `n` pairs: 0 more often
+/// than any other; else a small one, or the weight of some cycle or one less, or
+/// one near the greatest weight, or near the greatest floor, or any.
 pub fn floor(random: &mut Random, n: usize, tables: &Tables) -> u32 {
     match random.below(12) {
         0 => random.between(1, 10) as u32,

@@ -55,8 +55,8 @@ impl<T: Clone + 'static> Faults<T> {
 /// Numbers of pairs that are too great, some of them so that a square wraps.
 const TOO_MANY: [usize; 5] = [MOST_PAIRS + 1, 1 << 16, 1 << 32, 1 << 63, usize::MAX];
 
-/// Floors that are too high: by one, such as are within the limit where bits are
-/// lost or a sign is seen, and the greatest number.
+/// Floors that are too high: by one; such as would pass if bits were lost or a
+/// sign were seen; and the greatest numbers.
 pub const TOO_HIGH: [u32; 5] = [
     MOST_FLOOR + 1,
     (1 << 18) + 1,

@@ -204,11 +204,11 @@ fn plan(random: &mut Random, n: usize, kind: u64) -> Result<(), String> {
     Ok(())
 }
 
-/// One of few large plans. Of seeds in a row every other has floor 0, and of
-/// those of one kind too.
+/// One of few large plans. Of any three seeds in a row at least one has floor 0,
+/// and of the seeds of one kind every other has.
 fn large_plan(random: &mut Random, n: usize, seed: u64) -> Result<(), String> {
     let mut input = input(random, n, seed)?;
-    if (seed + seed / KINDS) % 2 == 0 {
+    if (seed % 2 + seed / KINDS % 2) % 2 == 0 {
         input.floor = 0;
     }
     made(random, &input)?;
