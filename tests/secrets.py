@@ -5,6 +5,7 @@ an index or make one by hand, nor write a count. What types can't say is held he
 The rules say what may stand there, and refuse all else; what they name (the interface of `gates`, the drivers, the places where a table is indexed) is
 changed here first. Below them stand cheats: each is applied to a copy, and the compiler, or a rule where the compiler takes it, must refuse it in the
 right words. Every rule has one."""
+import concurrent.futures
 import pathlib
 import re
 import shutil
@@ -632,31 +633,42 @@ def compiled(folder, crate):
     return run.returncode == 0, run.stdout + run.stderr
 
 
-with tempfile.TemporaryDirectory() as folder:
-    copy = pathlib.Path(folder)
-    for name in 'crates', 'crates.txt', 'target/rlib', 'target/stamp':
-        (shutil.copytree if (top / name).is_dir() else shutil.copy)(top / name, copy / name)
-    refusing = set()
-    for crate, what, edits, by, words in CHEATS:
-        cheat = texts[crate]
-        for old, new in edits:
-            check(cheat.count(old) == 1, f'{crate}: {what}: the edit does not fit')
-            cheat = cheat.replace(old, new)
-        file = copy / 'crates' / crate / 'src/lib.rt'
-        file.write_text(cheat)
-        taken, said = compiled(copy, crate)
-        file.write_text(texts[crate])
-        if by is COMPILER:
-            first = next((line for line in said.splitlines() if 'error[' in line), 'nothing')
-            print(f'{crate}: {what}: the compiler: {first[first.find("error["):]}')
-            check(not taken and words in said, f'{crate}: {what}: the compiler says: {said}')
-        else:
-            lines = [line for rule, line in faults(texts | {crate: cheat}) if rule is by]
-            print(f'{crate}: {what}: {by.__name__}: {"; ".join(lines)}')
-            check(words in lines, f'{crate}: {what}: no rule refuses it')
-            check(taken, f'{crate}: {what}: the compiler refuses it already: {said}')
-            refusing.add(by)
-    for rule in RULES:
-        check(rule in refusing, f'no cheat is refused by the rule {rule.__name__}')
+def tried(cheats):
+    """Of each of these cheats, in a copy of the tree: its text, whether every edit fits, and what the compiler says."""
+    with tempfile.TemporaryDirectory() as folder:
+        copy = pathlib.Path(folder)
+        for name in 'crates', 'crates.txt', 'target/rlib', 'target/stamp':
+            (shutil.copytree if (top / name).is_dir() else shutil.copy)(top / name, copy / name)
+        outcomes = []
+        for crate, what, edits, by, words in cheats:
+            cheat, fits = texts[crate], True
+            for old, new in edits:
+                fits = fits and cheat.count(old) == 1
+                cheat = cheat.replace(old, new)
+            file = copy / 'crates' / crate / 'src/lib.rt'
+            file.write_text(cheat)
+            outcomes.append((cheat, fits, *compiled(copy, crate)))
+            file.write_text(texts[crate])
+        return outcomes
+
+
+half = len(CHEATS) // 2
+with concurrent.futures.ThreadPoolExecutor(2) as pool:
+    outcomes = sum(pool.map(tried, (CHEATS[:half], CHEATS[half:])), [])
+refusing = set()
+for (crate, what, edits, by, words), (cheat, fits, taken, said) in zip(CHEATS, outcomes):
+    check(fits, f'{crate}: {what}: the edit does not fit')
+    if by is COMPILER:
+        first = next((line for line in said.splitlines() if 'error[' in line), 'nothing')
+        print(f'{crate}: {what}: the compiler: {first[first.find("error["):]}')
+        check(not taken and words in said, f'{crate}: {what}: the compiler says: {said}')
+    else:
+        lines = [line for rule, line in faults(texts | {crate: cheat}) if rule is by]
+        print(f'{crate}: {what}: {by.__name__}: {"; ".join(lines)}')
+        check(words in lines, f'{crate}: {what}: no rule refuses it')
+        check(taken, f'{crate}: {what}: the compiler refuses it already: {said}')
+        refusing.add(by)
+for rule in RULES:
+    check(rule in refusing, f'no cheat is refused by the rule {rule.__name__}')
 
 close()

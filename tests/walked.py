@@ -116,8 +116,8 @@ def checked(folder, crate):
     return run.returncode == 0, run.stdout + run.stderr
 
 
-def tried(crate):
-    """Whether the crate as it stands, and each of its changes, comes out as it must; with a line on each, and all that was said."""
+def tried(crate, changes):
+    """Whether the crate as it stands, and each of these changes of it, comes out as it must; with a line on each, and all that was said."""
     with tempfile.TemporaryDirectory() as folder:
         copy = pathlib.Path(folder)
         for name in 'crates', 'crates.txt', 'walks', 'target/rlib', 'target/stamp':
@@ -126,9 +126,7 @@ def tried(crate):
         code, described = source.read_text(), functions.read_text()
         proved, said = checked(copy, crate)
         outcomes = [(proved, f'{crate}: as it stands: {"" if proved else "not "}proved', said)]
-        for of, function, what, edits, redescribed, due, found in CHANGES:
-            if of != crate:
-                continue
+        for _, function, what, edits, redescribed, due, found in changes:
             changed(source, code, edits)
             changed(functions, described, redescribed)
             subprocess.run([sys.executable, 'walks/walk.py'], cwd=copy, check=True)
@@ -140,8 +138,11 @@ def tried(crate):
     return outcomes
 
 
+# two copies at a time, with at most four changes each
+crates = [change[0] for change in CHANGES]
+parts = [(crate, [change for change in CHANGES if change[0] == crate][k:k + 4]) for crate in dict.fromkeys(crates) for k in range(0, crates.count(crate), 4)]
 with concurrent.futures.ThreadPoolExecutor(2) as pool:
-    for outcomes in pool.map(tried, dict.fromkeys(change[0] for change in CHANGES)):
+    for outcomes in pool.map(tried, *zip(*parts)):
         for ok, line, said in outcomes:
             print(line[:300])
             check(ok, f'{line}: {said}')

@@ -86,6 +86,7 @@ module _ (n : ℕ) (t : Tables) (p : Read n t) (old : Graph) (room : (1600 ≤ l
       let held : n ≤ length (t .shuffle) = p .faultless .hold .shuffle in
       record {
         few = p .few;
+        low = omega arith;
         compatibilities = omega (arith, square-most n (p .few), h .0);
         weights = omega (arith, square-most n (p .few), h .1);
         shuffle = omega (arith, length-take-le n (t .shuffle) held);

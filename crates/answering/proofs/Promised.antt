@@ -79,7 +79,7 @@ module _ (n : ℕ) (pair : ℕ → Pair) (s : ℕ → ℕ) (w : Faultless n pair
         exchanges = planned-set noFloor 3 n m v (table n s) seated (λ i j _ _. compatibility-most pair i j);
         number = refl;
         weighs = refl;
-        factor = λ cs h. rival-factor noFloor 3 n m v (table n s) seated cs h (all-count m v cs);
+        factor = λ cs h. rival-factor noFloor 3 n m v (table n s) seated cs h (all-count noFloor refl m v cs);
         counts = tallied noFloor n m v (table n s);
         partners = partners;
         cycles = same;

@@ -57,7 +57,7 @@ module _ (n : ℕ) (M W s : List ℕ) (p : FaultlessTables (request n noFloor M 
     accepted =
         record {
           few = omega (arith, p .few);
-          low = omega arith;
+          low = p .low;
           long =
               record {
                 compatibility = p .compatibilities;

@@ -8,14 +8,15 @@ use Rattle.refusal.specs.Answer.{Answer, outcome}
 use Rattle.cycle.specs.declared.Cycle.{Cycle}
 use Rattle.exchange.specs.Input.{Request, inputOf}
 use Rattle.exchange.specs.Resolution.{donorTable, recipientTable}
-use Rattle.exchange.specs.Planning.{Lent, Plan, plannedBy, planFrom}
+use Rattle.exchange.specs.Planning.{Lent, Plan, mostFloor, plannedBy, planFrom}
 use Rattle.exchange.specs.Faultless.{Compatibility, Shuffles}
 use Rattle.exchange.specs.Promises.{PlansRightly}
 use Rattle.buffers.specs.Most.{most}
 
--- tables M and W of at most 40 pairs, and a shuffle, that planning does not refuse
+-- tables M and W of at most 40 pairs, a floor and a shuffle, that planning does not refuse
 pub record FaultlessTables (r : Request) : Type 0 where
   pub few : r .scope .pairs ≤ most
+  pub low : r .floor ≤ mostFloor
   pub compatibilities : r .scope .pairs * r .scope .pairs ≤ length (r .compatibilities)
   pub weights : r .scope .pairs * r .scope .pairs ≤ length (r .weights)
   pub shuffle : r .scope .pairs ≤ length (r .shuffle)

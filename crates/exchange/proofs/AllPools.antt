@@ -52,6 +52,7 @@ rival-of-k8 = record {
     apart = ((refl, (refl, tt)), ((refl, tt), (tt, tt)));
   };
   weight = refl;
+  above = (omega arith, (omega arith, (omega arith, tt)));
 }
   where
     m : ℕ → ℕ → ℕ

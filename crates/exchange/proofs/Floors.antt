@@ -1,5 +1,5 @@
 -- Floor 0 gives document 01's plans, and a higher floor cuts off the end of a plan. Assumes nothing.
-use Prim.Native.Nat.{ℕ, zero, suc, _≤_, _<_}
+use Prim.Native.Nat.{ℕ, zero, suc, _≤_}
 use mathlib.Core.Bool.{Bool, true, false, cond}
 use mathlib.Core.List.{List, [], _∷_, _++_, map, map-append, List·Memᴰ·head}
 use mathlib.Core.Path.{_≡_, refl, sym, ap, ap₂, _∙_}
@@ -11,19 +11,17 @@ use Rattle.laws.specs.Below.{either}
 use Rattle.laws.proofs.Below.{either-false}
 use Rattle.laws.specs.Lent.{filled}
 use Rattle.refusal.specs.Fault.{Fault, refuse, _then_}
-use Rattle.refusal.specs.Answer.{Outcome, finished, unless}
+use Rattle.refusal.specs.Answer.{Outcome, unless}
 use Rattle.refusal.proofs.Faults.{none-then, none-refuse}
 use Rattle.greedy.specs.Rounds.{Left}
 use Rattle.greedy.proofs.Floorless.{rounds-zero}
-use Rattle.exchange.specs.Subsets.{subsets, order, entry, weigh, heaviest, pairsAt, bestCycle, subsetWeight}
+use Rattle.exchange.specs.Subsets.{subsets, entry, weigh, heaviest, pairsAt, bestCycle, subsetWeight}
 use Rattle.exchange.specs.Resolution.{resolved, recordOf, recipientTable, donorTable, total}
-use Rattle.exchange.specs.Input.{Request, input, inputWith, inputOf, request}
+use Rattle.exchange.specs.Input.{Request, input, inputOf, request}
 use Rattle.exchange.specs.Planning as Planning
 use Rattle.exchange.specs.Planning.{Lent, lent, Plan, plan, mostFloor, lengthsOf, planFrom, filledLent, plannedBy}
-use Rattle.exchange.specs.Algorithm1 as Algorithm1
 use Rattle.exchange.specs.Algorithm1.{someAbove, without, Loop, loop}
 use Rattle.exchange.specs.Rivals.{Each}
-use Rattle.exchange.specs.Promises.{planned}
 use Rattle.exchange.specs.Floors.{planFault, leftBy, planning, FloorZeroIsToday, CutOff, FloorCutsOff}
 use Rattle.exchange.proofs.Weighed.{each-heaviest}
 use Rattle.exchange.proofs.Inverse.{Invertible, invertible}

@@ -1,15 +1,13 @@
 -- Every plan made meets the guarantee. Assumes nothing.
-use Prim.Native.Nat.{ℕ, suc, _≤_, _<_}
+use Prim.Native.Nat.{ℕ, suc, _-_, _≤_, _<_}
 use mathlib.Core.Bool.{Bool, true, false, cond}
 use mathlib.Core.List.{List, [], _∷_, map, flatMap}
-use mathlib.Core.Logic.{inl, inr}
 use mathlib.Core.Path.{_≡_, refl, sym, ap, ap₂, _∙_}
 use native.Mathlib.Omega.{arith}
-use native.Mathlib.Nat.{eq-zero-or-pos}
 use lib.Dec.{ltb}
 use lib.ListN.{length, getD, take, drop, length-map, length-append, length-drop, List·getD-append}
 use lib.Seq.{take-at}
-use borrow.Author.Tests.{eq-eqb, ne-eqb, le-leb}
+use borrow.Author.Tests.{eq-eqb, ne-eqb}
 use Rattle.laws.specs.Below.{Some}
 use Rattle.laws.proofs.Below.{length-table, getD-table}
 use Rattle.laws.specs.Lent.{filled}
@@ -17,10 +15,12 @@ use Rattle.refusal.specs.Fault.{Fault, none, fault}
 use Rattle.refusal.specs.Answer.{Outcome, finished, unless}
 use Rattle.greedy.specs.Places.{meets}
 use Rattle.greedy.specs.Tally.{tally}
-use Rattle.greedy.proofs.Counts.{shared, NoneTwice, shared-join, shared-sym, meets-shared}
-use Rattle.greedy.proofs.Bound.{places, subset-met}
+use Rattle.greedy.proofs.Counts.{NoneTwice}
+use Rattle.greedy.specs.Promises.{Remains}
+use Rattle.greedy.proofs.Bound.{subset-met}
+use Rattle.greedy.proofs.Remaining.{met-at, weights-remain, remains-alike}
 use Rattle.greedy.proofs.Tallied.{rounds-length}
-use Rattle.exchange.specs.Subsets.{subsets, order, edges, entry, pairsAt, bestCycle, subsetWeight, evaluationTally}
+use Rattle.exchange.specs.Subsets.{subsets, order, subsetCount, edges, entry, pairsAt, bestCycle, subsetWeight, evaluationTally}
 use Rattle.exchange.specs.Resolution.{resolved, recordOf, pairsOf, recipientBy, donorBy, recipientTable, donorTable, total}
 use Rattle.exchange.specs.Input.{Input, Request, inputWith, inputOf, request}
 use Rattle.exchange.specs.Planning.{Lent, Plan, roundCount, lengthsOf, planFault, leftBy, plannedBy, planFrom, filledLent, planning}
@@ -30,7 +30,7 @@ use Rattle.exchange.specs.Faultless.{FaultlessInput}
 use Rattle.exchange.specs.Promises.{planned, Guarantee, Guaranteed, PlanningIsRight, SameTally, SameLengths, LengthsStay}
 use Rattle.exchange.proofs.Inverse.{Invertible, invertible}
 use Rattle.exchange.proofs.Charged.{weightsOf, weight-at, family, joined, planned-apart}
-use Rattle.exchange.proofs.Planned.{planned-set, planned-heavy, planned-below, rival-credit, rival-factor, rival-counts, credited-most}
+use Rattle.exchange.proofs.Planned.{planned-set, planned-heavy, planned-below, rival-credit, rival-factor, heavy-count, all-count, credited-most}
 use Rattle.exchange.proofs.Tallied.{tallied}
 use Rattle.exchange.proofs.Shuffled.{same-cycles}
 use Rattle.exchange.proofs.Partners.{consistent, algorithm-partners}
@@ -76,19 +76,6 @@ resolved-few m w s ss (c ∷ cs) = go (ltb c (length ss)) (resolved-few m w s ss
         → length (cond b (pairsAt s (bestCycle m w s (getD ss c [])) ∷ resolved m w s ss cs) (resolved m w s ss cs)) ≤ suc (length cs)
     go true h = omega arith
     go false h = omega arith
-
--- ---- a subset that meets a choice
-
-met-at : (ss : List (List ℕ)) (t : List ℕ) (cs : List ℕ) → 1 ≤ shared (places ss cs) t
-    → (k : ℕ) × (k < length cs) × (meets t (getD ss (getD cs k 0) []) ≡ true)
-unfolding places shared
-met-at ss t [] h = absurd (omega arith)
-met-at ss t (c ∷ cs) h = elim (eq-zero-or-pos (shared (getD ss c []) t)) [
-  | inr z ↦ (0, omega arith, meets-shared t (getD ss c []) ∙ le-leb 1 (shared t (getD ss c [])) (omega (arith, shared-sym t (getD ss c []))))
-  | inl z ↦
-      let r = met-at ss t cs (omega (arith, h, shared-join (getD ss c []) (places ss cs) t)) in
-      (suc (r .0), omega (arith, r .1), r .2)
-]
 
 module _ (f l n : ℕ) (m w : ℕ → ℕ → ℕ) (s : List ℕ) where
   -- ---- as many weights as subsets, as many choices as rounds, and no more cycles
@@ -184,6 +171,16 @@ module _ (n f : ℕ) (M W s : List ℕ) (t : Lent) (k : FaultlessInput (request 
   unfolding subsetWeight
   weight i h = rw (weight-at 3 n m w s i) h
 
+  left : (i : ℕ) → i < subsetCount (q .scope)
+      → Remains (order (q .scope)) (new .choices) (roundCount n - 1) i (subsetWeight m w s (getD (order (q .scope)) i [])) (getD (new .weights) i 0)
+  unfolding filledLent leftBy subsetWeight
+  left i h =
+      let ss : List (List ℕ) = order (q .scope) in
+      let cs : List ℕ = leftBy q .choices in
+      rw (filled-at (leftBy q .weights) (t .weights) i (omega (arith, weights-long f 3 n m w s)))
+      (remains-alike ss cs (new .choices) (roundCount n - 1) i _ _ (λ k l. sym (filled-at cs (t .choices) k (omega (arith, choices-long f 3 n m w s))))
+      (rw (weight-at 3 n m w s i) at (weights-remain f (roundCount n) ss (weightsOf 3 n m w s) (evaluationTally ss (tally 0 0 0)) i)))
+
   met : (i : ℕ) → f < subsetWeight m w s (getD (order (q .scope)) i [])
       → Some (roundCount n) (λ j. meets (getD (order (q .scope)) i []) (getD (order (q .scope)) (getD (new .choices) j 0) []) ≡ true)
   unfolding filledLent leftBy
@@ -203,14 +200,17 @@ module _ (n f : ℕ) (M W s : List ℕ) (t : Lent) (k : FaultlessInput (request 
     exchanges = rw planned-is set;
     above = rw planned-is (planned-heavy f 3 n m w s sh);
     weight = ap (total m w) (sym planned-is);
-    factor = λ rivals h. let c = rival-counts q rivals h in rival-factor f 3 n m w s sh rivals (c .0) (c .1);
-    credit = λ rivals h. let c = rival-counts q rivals h in rw planned-is (rival-credit f 3 n m w s sh rivals (c .0) (c .1));
+    factor = λ rivals h g. rival-factor f 3 n m w s sh rivals h (heavy-count f m w rivals g);
+    credit = λ rivals h g. rw planned-is (rival-credit f 3 n m w s sh rivals h (heavy-count f m w rivals g));
+    factor-all = λ e rivals h. rival-factor f 3 n m w s sh rivals h (all-count f e m w rivals);
+    credit-all = λ e rivals h. rw planned-is (rival-credit f 3 n m w s sh rivals h (all-count f e m w rivals));
     credit-most = rw planned-is (credited-most 3 n m w cs (set .exchanges));
     tally = tallied f n m w s;
     partners = partners;
     cycles = planned-is ∙ cs-chosen;
     consistent = rw planned-is (consistent n cs (planned-below f 3 n m w s sh) once (new .donors) (new .recipients) donors-at recipients-at);
     met = met;
+    left = left;
   }
     where
       once : NoneTwice (joined cs)

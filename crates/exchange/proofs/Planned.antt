@@ -14,9 +14,9 @@ use Rattle.greedy.proofs.Counts.{times, NoneTwice, AllBelow, one-same}
 use Rattle.greedy.proofs.Bound.{chosen-above}
 use Rattle.exchange.specs.Subsets.{subsets, weigh, pairsAt, bestCycle, evaluationTally}
 use Rattle.exchange.specs.Resolution.{resolved, total}
-use Rattle.exchange.specs.Input.{Input, inputWith}
+use Rattle.exchange.specs.Input.{inputWith}
 use Rattle.exchange.specs.Planning.{roundCount, leftBy, plannedBy}
-use Rattle.exchange.specs.Rivals.{Each, Different, Exchange, ExchangeSet, ExchangeSetOf, RivalSet, heavy, unfloored, credited}
+use Rattle.exchange.specs.Rivals.{Each, Different, Exchange, ExchangeSet, credited}
 use Rattle.exchange.proofs.Ordered.{each-mono}
 use Rattle.exchange.proofs.Inverse.{Invertible, pairs-below}
 use Rattle.exchange.proofs.Charged.{weightsOf, joined, family, size-most, Rival, cycle-below, planned-size, planned-weight, planned-apart, planned-credit, planned-factor}
@@ -104,17 +104,13 @@ module _ (f l n : ℕ) (m w : ℕ → ℕ → ℕ) (s : List ℕ) (sh : Invertib
     pub rival-factor : total m w cs ≤ l * total m w (plannedBy (inputWith f l n m w s))
     rival-factor = planned-factor f l n m w s sh cs rivals once
 
--- with floor 0 every cycle counts
-pub all-count : (m w : ℕ → ℕ → ℕ) (cs : List (List ℕ)) → Each (Counts 0 m w) cs
-all-count m w [] = tt
-all-count m w (c ∷ cs) = (eq-zero-or-pos (weigh m w c), all-count m w cs)
+-- cycles above the floor count, and with floor 0 every one
+pub heavy-count : (f : ℕ) (m w : ℕ → ℕ → ℕ) (cs : List (List ℕ)) → Each (λ (c : List ℕ). f < weigh m w c) cs → Each (Counts f m w) cs
+heavy-count f m w cs h = each-mono (λ (c : List ℕ). f < weigh m w c) (Counts f m w) (λ c k. inr k) cs h
 
--- so every rival set is one that the bound is for
-pub rival-counts : (q : Input) (cs : List (List ℕ)) → RivalSet q cs → ExchangeSetOf q cs × Each (Counts (q .floor) (q .compatible) (q .weight)) cs
-rival-counts q cs (heavy set above) =
-    (set, each-mono (λ (c : List ℕ). q .floor < weigh (q .compatible) (q .weight) c) (Counts (q .floor) (q .compatible) (q .weight)) (λ c h. inr h) cs above)
-rival-counts q cs (unfloored e set) =
-    (set, subst (λ (f : ℕ). Each (Counts f (q .compatible) (q .weight)) cs) (sym e) (all-count (q .compatible) (q .weight) cs))
+pub all-count : (f : ℕ) → f ≡ 0 → (m w : ℕ → ℕ → ℕ) (cs : List (List ℕ)) → Each (Counts f m w) cs
+all-count f e m w [] = tt
+all-count f e m w (c ∷ cs) = (subst (λ (g : ℕ). (weigh m w c ≡ 0) ⊎ (g < weigh m w c)) (sym e) (eq-zero-or-pos (weigh m w c)), all-count f e m w cs)
 
 pub credited-most : (l n : ℕ) (m w : ℕ → ℕ → ℕ) (cs : List (List ℕ)) → Each (Exchange l n m) cs → credited m w cs ≤ l * total m w cs
 unfolding credited total

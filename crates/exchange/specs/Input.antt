@@ -33,7 +33,7 @@ inputOf r =
       shuffle = r .shuffle;
     }
 
--- ## With document 01's sizes, to three, which are put in here and nowhere else
+-- ## With document 01's sizes, to three
 
 abbrev pub input : ℕ → ℕ → (ℕ → ℕ → ℕ) → (ℕ → ℕ → ℕ) → List ℕ → Input
 input n f m w s = record { scope = upToThree n; floor = f; compatible = m; weight = w; shuffle = s }
@@ -41,6 +41,6 @@ input n f m w s = record { scope = upToThree n; floor = f; compatible = m; weigh
 abbrev pub request : ℕ → ℕ → List ℕ → List ℕ → List ℕ → Request
 request n f M W s = record { scope = upToThree n; floor = f; compatibilities = M; weights = W; shuffle = s }
 
--- "`plan` uses it"
+-- "Floor 0 gives the plans of today, and `plan` uses it"
 abbrev pub noFloor : ℕ
 noFloor = 0

@@ -10,9 +10,9 @@ use Rattle.refusal.specs.Answer.{Answer, finished, refused, Outcome, outcome}
 use Rattle.cycle.specs.declared.Cycle.{Cycle}
 use Rattle.greedy.specs.Tally.{Tally, tally}
 use Rattle.exchange.specs.Subsets.{upToThree, subsetCount}
-use Rattle.exchange.specs.Input.{Input, inputOf, request, noFloor}
+use Rattle.exchange.specs.Input.{Input, inputOf, request}
 use Rattle.exchange.specs.Planning.{Lent, lent, Plan, plan, roundCount, planning}
-use Rattle.exchange.specs.Rivals.{ExchangeSetOf, weightIn}
+use Rattle.exchange.specs.Rivals.{ExchangeSetOf, AboveFloor, weightIn}
 
 -- "Edges as donor→patient:weight"; `mark` is the edge's M entry
 pub record Arrow : Type 0 where
@@ -37,11 +37,11 @@ pub record Case : Type 0 where
   pub shuffle : List ℕ
   pub due : Found
 
-abbrev pub above : ℕ → ℕ → List Arrow → List ℕ → Found → Case
-above f n es s d = record { pairs = n; floor = f; edges = es; shuffle = s; due = d }
+abbrev pub floored : ℕ → ℕ → List Arrow → List ℕ → Found → Case
+floored n f es s d = record { pairs = n; floor = f; edges = es; shuffle = s; due = d }
 
 abbrev pub case : ℕ → List Arrow → List ℕ → Found → Case
-case n es s d = above noFloor n es s d
+case n es s d = floored n 0 es s d
 
 -- the entry of the first edge from i to j, 0 where there is none
 unfoldable pub read : (Arrow → ℕ) → List Arrow → ℕ → ℕ → ℕ
@@ -135,31 +135,36 @@ tenAndTwo = edge 0 1 5 ∷ edge 1 0 5 ∷ edge 0 2 1 ∷ edge 2 0 1 ∷ []
 abbrev pub floors : List Case
 floors =
     -- "above" is strict: k3 weighs 12
-    above 11 2 k3edges (0 ∷ 1 ∷ []) (made (0 ∷ []) (12 ∷ []) 12 1 (1 ∷ 0 ∷ []) (1 ∷ 0 ∷ []) (cycle 0 1 2 ∷ []) (tally 1 6 1))
-    ∷ above 12 2 k3edges (0 ∷ 1 ∷ []) (made (1 ∷ []) (12 ∷ []) 0 0 (2 ∷ 2 ∷ []) (2 ∷ 2 ∷ []) (cycle 99 99 99 ∷ []) (tally 1 6 1))
-    -- k8: a weight is not set to 0 for being light
-    ∷ above 6 6 k8edges (0 ∷ 1 ∷ 2 ∷ 3 ∷ 4 ∷ 5 ∷ [])
+    floored 2 11 k3edges (0 ∷ 1 ∷ []) (made (0 ∷ []) (12 ∷ []) 12 1 (1 ∷ 0 ∷ []) (1 ∷ 0 ∷ []) (cycle 0 1 2 ∷ []) (tally 1 6 1))
+    ∷ floored 2 12 k3edges (0 ∷ 1 ∷ []) (made (1 ∷ []) (12 ∷ []) 0 0 (2 ∷ 2 ∷ []) (2 ∷ 2 ∷ []) (cycle 99 99 99 ∷ []) (tally 1 6 1))
+    -- k8, in which four subsets weigh 6 and no other anything, with floors 5 and 6: a weight is not set to 0 for being light
+    ∷ floored 6 5 k8edges (0 ∷ 1 ∷ 2 ∷ 3 ∷ 4 ∷ 5 ∷ [])
+    (made (0 ∷ 35 ∷ 35 ∷ []) (replicate 35 0) 6 1 (1 ∷ 2 ∷ 0 ∷ 6 ∷ 6 ∷ 6 ∷ []) (2 ∷ 0 ∷ 1 ∷ 6 ∷ 6 ∷ 6 ∷ []) (cycle 0 1 2 ∷ replicate 2 (cycle 99 99 99)) (tally 125 872 3))
+    ∷ floored 6 6 k8edges (0 ∷ 1 ∷ 2 ∷ 3 ∷ 4 ∷ 5 ∷ [])
     (made (35 ∷ 35 ∷ 35 ∷ []) ((6 ∷ replicate 21 0) ++ (6 ∷ replicate 4 0) ++ (6 ∷ replicate 3 0) ++ (6 ∷ replicate 3 0)) 0 0 (replicate 6 6) (replicate 6 6) (replicate 3 (cycle 99 99 99)) (tally 125 872 3))
     -- the swap of weight 8 is chosen and cleared, that of weight 6 stays
-    ∷ above 6 4 sixAndEight (0 ∷ 1 ∷ 2 ∷ 3 ∷ [])
+    ∷ floored 4 6 sixAndEight (0 ∷ 1 ∷ 2 ∷ 3 ∷ [])
     (made (9 ∷ 10 ∷ []) (0 ∷ 0 ∷ 0 ∷ 0 ∷ 6 ∷ 0 ∷ 0 ∷ 0 ∷ 0 ∷ 0 ∷ []) 8 1 (4 ∷ 4 ∷ 3 ∷ 2 ∷ []) (4 ∷ 4 ∷ 3 ∷ 2 ∷ []) (cycle 2 3 4 ∷ cycle 99 99 99 ∷ []) (tally 24 162 2))
     -- one at or below the floor that shares a place with the choice is cleared like any other
-    ∷ above 5 4 tenAndTwo (0 ∷ 1 ∷ 2 ∷ 3 ∷ [])
+    ∷ floored 4 5 tenAndTwo (0 ∷ 1 ∷ 2 ∷ 3 ∷ [])
     (made (4 ∷ 10 ∷ []) (replicate 10 0) 10 1 (1 ∷ 0 ∷ 4 ∷ 4 ∷ []) (1 ∷ 0 ∷ 4 ∷ 4 ∷ []) (cycle 0 1 4 ∷ cycle 99 99 99 ∷ []) (tally 24 162 2))
+    -- one of weight 1, with floor 0 and with floor 1
+    ∷ floored 2 0 (edge 0 1 1 ∷ edge 1 0 0 ∷ []) (0 ∷ 1 ∷ []) (made (0 ∷ []) (1 ∷ []) 1 1 (1 ∷ 0 ∷ []) (1 ∷ 0 ∷ []) (cycle 0 1 2 ∷ []) (tally 1 6 1))
+    ∷ floored 2 1 (edge 0 1 1 ∷ edge 1 0 0 ∷ []) (0 ∷ 1 ∷ []) (made (1 ∷ []) (1 ∷ []) 0 0 (2 ∷ 2 ∷ []) (2 ∷ 2 ∷ []) (cycle 99 99 99 ∷ []) (tally 1 6 1))
     -- the greatest floor, and one above it
-    ∷ above 200000 2 k3edges (0 ∷ 1 ∷ []) (made (1 ∷ []) (12 ∷ []) 0 0 (2 ∷ 2 ∷ []) (2 ∷ 2 ∷ []) (cycle 99 99 99 ∷ []) (tally 1 6 1))
-    ∷ above 200001 2 k3edges (0 ∷ 1 ∷ []) (turned 13 0 (blank 2))
+    ∷ floored 2 200000 k3edges (0 ∷ 1 ∷ []) (made (1 ∷ []) (12 ∷ []) 0 0 (2 ∷ 2 ∷ []) (2 ∷ 2 ∷ []) (cycle 99 99 99 ∷ []) (tally 1 6 1))
+    ∷ floored 2 200001 k3edges (0 ∷ 1 ∷ []) (turned 13 0 (blank 2))
     ∷ []
 
 abbrev pub FloorsComeOut : Type 0
 FloorsComeOut = map found floors ≡ map (λ (c : Case). c .due) floors
 
--- ## Two faults at once: "planning checks 4, 9, 8, 10", with 13 after 4
+-- ## Two faults at once: "planning checks 4, 9, 8, 10", with 13 after 4; the second has one, where the floor is not too high
 
 abbrev pub twoFaults : List Case
 twoFaults =
-    above 200001 2 k3edges (0 ∷ []) (turned 13 0 (blank 2))
-    ∷ above 200000 2 k3edges (0 ∷ []) (turned 9 0 (blank 2))
+    floored 2 200001 k3edges (0 ∷ []) (turned 13 0 (blank 2))
+    ∷ floored 2 200000 k3edges (0 ∷ []) (turned 9 0 (blank 2))
     ∷ case 2 (record { donor = 0; patient = 1; mark = 2; weight = 5 } ∷ []) (0 ∷ 0 ∷ []) (turned 8 0 (blank 2))
     ∷ []
 
@@ -176,15 +181,17 @@ FourBeforeThirteen = planning (request 201 200001 [] [] []) nothing ≡ outcome 
 -- k3 again, in tables longer than is due: "what lies past these, and past the last record, is unchanged"
 abbrev pub PastUnchanged : Type 0
 PastUnchanged =
-    planning (request 2 noFloor (tableOf (λ a. a .mark) 2 k3edges) (tableOf (λ a. a .weight) 2 k3edges) (0 ∷ 1 ∷ 99 ∷ []))
+    planning (request 2 0 (tableOf (λ a. a .mark) 2 k3edges) (tableOf (λ a. a .weight) 2 k3edges) (0 ∷ 1 ∷ 99 ∷ []))
     (lent (99 ∷ 99 ∷ []) (99 ∷ 99 ∷ []) (99 ∷ 99 ∷ 99 ∷ []) (99 ∷ 99 ∷ 99 ∷ []) (cycle 99 99 99 ∷ cycle 99 99 99 ∷ []))
     ≡ outcome (finished (plan 12 1 (tally 1 6 1)))
     (lent (12 ∷ 99 ∷ []) (0 ∷ 99 ∷ []) (1 ∷ 0 ∷ 99 ∷ []) (1 ∷ 0 ∷ 99 ∷ []) (cycle 0 1 2 ∷ cycle 99 99 99 ∷ []))
 
-abbrev pub k8 : Input
-k8 = inputOf (request 6 noFloor (tableOf (λ a. a .mark) 6 k8edges) (tableOf (λ a. a .weight) 6 k8edges) (0 ∷ 1 ∷ 2 ∷ 3 ∷ 4 ∷ 5 ∷ []))
+-- with any floor
+abbrev pub k8 : ℕ → Input
+k8 f = inputOf (request 6 f (tableOf (λ a. a .mark) 6 k8edges) (tableOf (λ a. a .weight) 6 k8edges) (0 ∷ 1 ∷ 2 ∷ 3 ∷ 4 ∷ 5 ∷ []))
 
--- "weight 6 against a rival 18": it is a rival set, and weighs 18
+-- "weight 6 against a rival 18": it is a rival set, and weighs 18, with floor 0; and it is one with floor 5, where the plan weighs 6 too
 pub record RivalOfK8 : Type 0 where
-  pub set : ExchangeSetOf k8 k8rival
-  pub weight : weightIn k8 k8rival ≡ 18
+  pub set : ExchangeSetOf (k8 0) k8rival
+  pub weight : weightIn (k8 0) k8rival ≡ 18
+  pub above : AboveFloor (k8 5) k8rival

@@ -11,6 +11,7 @@ use Rattle.laws.specs.Below.{one, Some, ExactlyOne}
 use Rattle.refusal.specs.Answer.{finished, refused, Outcome}
 use Rattle.greedy.specs.Places.{among, meets}
 use Rattle.greedy.specs.Tally.{Tally, tally}
+use Rattle.greedy.specs.Promises.{Remains}
 use Rattle.exchange.specs.Subsets.{Scope, order, subsetCount, entry, subsetWeight, pairsAt}
 use Rattle.exchange.specs.Input.{Input, Request, inputOf, request}
 use Rattle.exchange.specs.Resolution.{pairsOf}
@@ -18,7 +19,7 @@ use Rattle.exchange.specs.Planning.{Lent, Plan, roundCount, planning}
 use Rattle.exchange.specs.Algorithm1 as Algorithm1
 use Rattle.exchange.specs.Algorithm1.{next}
 use Rattle.exchange.specs.Faultless.{FaultlessInput, PlanFault}
-use Rattle.exchange.specs.Rivals.{Each, ExchangeSetOf, AboveFloor, RivalSet, weightIn, credited}
+use Rattle.exchange.specs.Rivals.{Each, ExchangeSetOf, AboveFloor, weightIn, credited}
 
 -- ## The planned cycles
 
@@ -87,11 +88,23 @@ pub record Guarantee (q : Input) (p : Plan) (t : Lent) : Type 0 where
   pub above : AboveFloor q (planned (q .scope .pairs) p t)
   -- "The plan's weight is the sum of their weights"
   pub weight : p .weight ≡ weightIn q (planned (q .scope .pairs) p t)
-  -- "three times the plan's weight is at least the weight of every other set of executable 2- and 3-cycles sharing no pair": of every rival set
-  pub factor : (cs : List (List ℕ)) → RivalSet q cs → weightIn q cs ≤ q .scope .largest * p .weight
+  -- "three times the plan's weight is at least the weight of every other set of executable 2- and 3-cycles sharing no pair", of "those whose cycles all
+  -- weigh more than the floor"
+  pub factor : (cs : List (List ℕ)) → ExchangeSetOf q cs → AboveFloor q cs → weightIn q cs ≤ q .scope .largest * p .weight
   -- and so is the sum of each planned cycle's weight times its number of pairs, which is no more than that
-  pub credit : (cs : List (List ℕ)) → RivalSet q cs → weightIn q cs ≤ credited (q .compatible) (q .weight) (planned (q .scope .pairs) p t)
+  pub credit :
+      (cs : List (List ℕ))
+      → ExchangeSetOf q cs
+      → AboveFloor q cs
+      → weightIn q cs ≤ credited (q .compatible) (q .weight) (planned (q .scope .pairs) p t)
   pub credit-most : credited (q .compatible) (q .weight) (planned (q .scope .pairs) p t) ≤ q .scope .largest * p .weight
+  -- with floor 0 both hold of every such set, as demand 3 has it: a cycle of it may weigh 0
+  pub factor-all : q .floor ≡ 0 → (cs : List (List ℕ)) → ExchangeSetOf q cs → weightIn q cs ≤ q .scope .largest * p .weight
+  pub credit-all :
+      q .floor ≡ 0
+      → (cs : List (List ℕ))
+      → ExchangeSetOf q cs
+      → weightIn q cs ≤ credited (q .compatible) (q .weight) (planned (q .scope .pairs) p t)
   -- "every such tally is"
   pub tally : TallyOf (q .scope) (p .tally)
   -- "The plan equals that of Algorithm 1, in each pair's donor and recipient", and in its cycles
@@ -103,6 +116,12 @@ pub record Guarantee (q : Input) (p : Plan) (t : Lent) : Type 0 where
       (i : ℕ)
       → q .floor < subsetWeight (q .compatible) (q .weight) (q .shuffle) (getD (order (q .scope)) i [])
       → Some (roundCount (q .scope .pairs)) (λ k. meets (getD (order (q .scope)) i []) (getD (order (q .scope)) (getD (t .choices) k 0) []) ≡ true)
+  -- "n weights, left as after round R": as evaluated, or 0 for sharing a place with the choice of a round but the last, and never for being light
+  pub left :
+      (i : ℕ)
+      → i < subsetCount (q .scope)
+      → Remains (order (q .scope)) (t .choices) (roundCount (q .scope .pairs) - 1) i
+      (subsetWeight (q .compatible) (q .weight) (q .shuffle) (getD (order (q .scope)) i [])) (getD (t .weights) i 0)
 
 -- ## Every answer: a plan for every input with none of the faults, and for no other; else a refusal, and all lent memory unchanged
 

@@ -1,4 +1,4 @@
--- Rival sets, in the words of document 01's 'Resolution'. Assumes nothing.
+-- Rival sets, in the words of document 01's 'Resolution', and of document 02's W-202. Assumes nothing.
 use Prim.Native.Nat.{ℕ, _+_, _*_, _≤_, _<_}
 use mathlib.Core.Path.{_≡_}
 use mathlib.Core.Bool.{false}
@@ -45,16 +45,9 @@ pub record ExchangeSet (l n : ℕ) (m : ℕ → ℕ → ℕ) (cs : List (List �
 abbrev pub ExchangeSetOf : Input → List (List ℕ) → Type 0
 ExchangeSetOf q cs = ExchangeSet (q .scope .largest) (q .scope .pairs) (q .compatible) cs
 
--- every one "is above the floor"
+-- "cycles [that] all weigh more than the floor"
 abbrev pub AboveFloor : Input → List (List ℕ) → Type 0
 AboveFloor q cs = Each (λ (c : List ℕ). q .floor < weigh (q .compatible) (q .weight) c) cs
-
--- "Rival sets in the factor-three statement" (document 02, W-202)
-pub data RivalSet (q : Input) (cs : List (List ℕ)) : Type 0 where
-  -- "those whose cycles all weigh more than the floor"
-  heavy : ExchangeSetOf q cs → AboveFloor q cs → RivalSet q cs
-  -- and with floor 0 all, as in demand 3: a cycle of theirs may weigh 0
-  unfloored : q .floor ≡ 0 → ExchangeSetOf q cs → RivalSet q cs
 
 -- what such a set weighs
 abbrev pub weightIn : Input → List (List ℕ) → ℕ

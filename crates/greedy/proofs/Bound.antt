@@ -231,7 +231,7 @@ module _ (f : ℕ) (ss : List (List ℕ)) where
       omega (arith, cleared-le r (clear d ss ws) i, clear-le d ss ws i)
 
   -- a subset that is met weighs nothing
-  cleared-met : (r : ℕ) (ws : List ℕ) (i : ℕ) → 1 ≤ shared (places ss (picks f r ss ws)) (getD ss i []) → getD (cleared f r ss ws) i 0 ≡ 0
+  pub cleared-met : (r : ℕ) (ws : List ℕ) (i : ℕ) → 1 ≤ shared (places ss (picks f r ss ws)) (getD ss i []) → getD (cleared f r ss ws) i 0 ≡ 0
   unfolding cleared picks places shared
   cleared-met zero ws i h = absurd (omega arith)
   cleared-met (suc r) ws i h =

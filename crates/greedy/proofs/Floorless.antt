@@ -6,7 +6,7 @@ use mathlib.Core.Path.{_≡_, refl, ap, _∙_}
 use native.Mathlib.Omega.{arith}
 use lib.Dec.{eqb, ltb}
 use lib.ListN.{length, getD}
-use borrow.Author.Tests.{lt-ltb, le-ltb, eq-eqb, ne-eqb}
+use borrow.Author.Tests.{lt-ltb, ne-eqb}
 use Rattle.greedy.specs.Tally.{Tally, raise, nextRound}
 use Rattle.greedy.specs.Rounds as Rounds
 use Rattle.greedy.specs.Rounds.{Winner, byHalves, Chosen, clearBefore, clearingTallyBefore, Left, left}

@@ -1,7 +1,7 @@
 -- What is promised of sharing a place and of a round's choice, as statements: the proofs are in `proofs/`. Assumes nothing.
-use Prim.Native.Nat.{ℕ, zero, suc, _≤_, _<_, max}
+use Prim.Native.Nat.{ℕ, zero, suc, _-_, _≤_, _<_, max}
 use mathlib.Core.Path.{_≡_}
-use mathlib.Core.Bool.{true, cond}
+use mathlib.Core.Bool.{true, false, cond}
 use mathlib.Core.Logic.{_↔_}
 use mathlib.Core.List.{List, [], _∷_, List·Memᴰ}
 use lib.Dec.{eqb, ltb}
@@ -60,3 +60,16 @@ RoundsChoose = (f r : ℕ) (ss : List (List ℕ)) (ws : List ℕ) (t : Tally) �
 -- "after each round but the last"
 abbrev pub WeightsLeft : Type 0
 WeightsLeft = (f r : ℕ) (ss : List (List ℕ)) (ws : List ℕ) (t : Tally) → rounds f (suc r) ss ws t .weights ≡ cleared f r ss ws
+
+-- ## The weights that are left, said a second time, subset by subset
+
+-- what is left of the weight x of subset i after choices cs, of which the first r were cleared by: 0 where it shares a place with one of these, and else x,
+-- whether it is above the floor or not
+pub data Remains (ss : List (List ℕ)) (cs : List ℕ) (r i x : ℕ) : ℕ → Type 0 where
+  met : (k : ℕ) → k < r → meets (getD ss i []) (getD ss (getD cs k 0) []) ≡ true → Remains ss cs r i x 0
+  unmet : ((k : ℕ) → k < r → meets (getD ss i []) (getD ss (getD cs k 0) []) ≡ false) → Remains ss cs r i x x
+
+abbrev pub WeightsRemain : Type 0
+WeightsRemain =
+    (f r : ℕ) (ss : List (List ℕ)) (ws : List ℕ) (t : Tally) (i : ℕ)
+    → Remains ss (rounds f r ss ws t .choices) (r - 1) i (getD ws i 0) (getD (rounds f r ss ws t .weights) i 0)

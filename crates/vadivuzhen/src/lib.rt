@@ -157,7 +157,7 @@ pub extern "C" fn vadivuzhen_build(
     numbers::build_numbers(answer)
 }
 
-// Plans the pool of n pairs whose tables are m and w, with the shuffle.
+// Plans the pool of n pairs whose tables are m and w, with the floor and the shuffle.
 #[no_mangle]
 pub extern "C" fn vadivuzhen_plan(
     n: usize,
