@@ -8,7 +8,7 @@ use lib.Dec.{ltb}
 use lib.ListN.{length}
 use borrow.Author.Tests.{ltb-true, ltb-false, lt-ltb}
 use Rattle.laws.specs.Below.{either}
-use Rattle.laws.proofs.Below.{either-false}
+use Rattle.laws.proofs.Below.{either-true, either-false}
 use Rattle.laws.specs.Lent.{filled}
 use Rattle.refusal.specs.Fault.{Fault, refuse, _then_}
 use Rattle.refusal.specs.Answer.{Outcome, unless}
@@ -82,11 +82,7 @@ module _ (e f : ℕ) (low : e ≤ f) (weight : List ℕ → ℕ) where
       go : (b : Bool) → ltb f (weight s) ≡ b → (someAbove f weight S ≡ true → someAbove e weight S ≡ true) → either b (someAbove f weight S) ≡ true
           → either (ltb e (weight s)) (someAbove e weight S) ≡ true
       go true q ih k = rw (lt-ltb e (weight s) (omega (arith, ltb-true f (weight s) q)))
-      go false q ih k = second (ltb e (weight s)) (ih k)
-        where
-          second : (a : Bool) → someAbove e weight S ≡ true → either a (someAbove e weight S) ≡ true
-          second true z = refl
-          second false z = z
+      go false q ih k = ap (either (ltb e (weight s))) (ih k) ∙ either-true (ltb e (weight s))
 
   -- what holds of all of S holds of what the loop chooses
   chosen-each : (P : List ℕ → Type 0) (k : ℕ) (S : List (List ℕ)) → Each P S → Each P (loop k e weight S .chosen)

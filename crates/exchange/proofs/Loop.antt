@@ -187,6 +187,17 @@ unfolding someAbove
 above-some f weight [] e = let z : _≡_ {A = ℕ} 0 1 = cc in absurd (omega arith)
 above-some f weight (s ∷ S) e = omega arith
 
+-- the loop ends where nothing is above the floor, and else takes a turn
+pub quiet-loop : (k f : ℕ) (weight : List ℕ → ℕ) (S : List (List ℕ)) → someAbove f weight S ≡ false → loop k f weight S .chosen ≡ []
+unfolding loop
+quiet-loop zero f weight S e = refl
+quiet-loop (suc k) f weight S e = rw e
+
+pub busy-loop : (k f : ℕ) (weight : List ℕ → ℕ) (S : List (List ℕ)) → someAbove f weight S ≡ true
+    → loop (suc k) f weight S .chosen ≡ heaviest weight S ∷ loop k f weight (without (heaviest weight S) S) .chosen
+unfolding loop
+busy-loop k f weight S e = rw e
+
 -- so the loop has ended when its turns are used up
 pub loop-ends : (k f : ℕ) (weight : List ℕ → ℕ) (S : List (List ℕ)) → length S ≤ k → Each Meeting S
     → someAbove f weight (loop k f weight S .rest) ≡ false
@@ -221,17 +232,6 @@ greatest-some : (ws : List ℕ) → 0 < greatest ws → 0 < length ws
 unfolding greatest
 greatest-some [] h = absurd (omega arith)
 greatest-some (x ∷ ws) h = omega arith
-
--- the loop ends where nothing is above the floor, and else takes a turn
-pub quiet-loop : (k f : ℕ) (weight : List ℕ → ℕ) (S : List (List ℕ)) → someAbove f weight S ≡ false → loop k f weight S .chosen ≡ []
-unfolding loop
-quiet-loop zero f weight S e = refl
-quiet-loop (suc k) f weight S e = rw e
-
-pub busy-loop : (k f : ℕ) (weight : List ℕ → ℕ) (S : List (List ℕ)) → someAbove f weight S ≡ true
-    → loop (suc k) f weight S .chosen ≡ heaviest weight S ∷ loop k f weight (without (heaviest weight S) S) .chosen
-unfolding loop
-busy-loop k f weight S e = rw e
 
 module _ (f : ℕ) (weight : List ℕ → ℕ) (ss : List (List ℕ)) where
   module _ (live : List ℕ → Bool) where
