@@ -240,6 +240,20 @@ fn a_floor_cuts_a_plan_off() {
 }
 
 #[test]
+fn the_eight_pairs_of_the_examples_with_floors() {
+    let pool = Pool::read(include_bytes!("../../examples/eight.sheet")).expect("a sheet");
+    assert_eq!(pool.plan().weight(), 5_250);
+    let plan = pool.plan_above(2_700).expect("a plan");
+    assert_eq!(
+        (plan.weight(), plan.choices()),
+        (3_150, &[6, 84, 84, 84][..])
+    );
+    let none = pool.plan_above(4_000).expect("a plan");
+    assert_eq!((none.weight(), none.choices()), (0, &[84; 4][..]));
+    assert_eq!(none.tally(), plan.tally());
+}
+
+#[test]
 fn a_floor_too_high_is_refused_before_the_tables() {
     let high = Err(refused(Refusal::FloorTooHigh, 0));
     let wrong = Tables::new(vec![7, 8], vec![1, 1, 1, 0], vec![0, 5, 7, 0]);
