@@ -1,5 +1,5 @@
 """The sources are in the formatter's layout (rt fmt --check), and no file names a path of a machine. No line of a contract has more than 150 characters,
-and no line of a definition or of a proof by hand more than 250."""
+and no line of a definition or of a proof by hand more than 250. Where subsets are counted and numbered, nothing is divided."""
 import pathlib
 import re
 import subprocess
@@ -48,5 +48,11 @@ for file in sorted((top / 'crates').rglob('*.antt')):
     if 'Rattle.lending.proofs.Walking' not in text:  # else it is a walk, which walks/walk.py writes
         found = too_long(enumerate(text.splitlines(), 1), 250)
         check(not found, f'{file.relative_to(top)}: lines: {found}')
+
+# "T and each triple's number come from it without dividing" (02, W-203): a contract can't say that
+for crate in 'counting', 'cursor':
+    code = re.sub(r'//.*', '', (top / 'crates' / crate / 'src/lib.rt').read_text())
+    found = re.findall(r'.*[/%].*', code)
+    check('fn ' in code and not found, f'{crate}: divides: {found}')
 
 close()

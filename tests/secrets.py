@@ -1,7 +1,8 @@
 """Nothing secret decides what runs, and nothing but a gate raises the tally.
 
 The compiler holds much of it: the fields of `Secret` and `Tally` are private to `gates`, so that a step can't look into a secret, compare it, use it as
-an index or make one by hand, nor write a count. What types can't say is held here, by rules over the sources of `gates`, of the cursor and of the steps.
+an index or make one by hand, nor write a count. What types can't say is held here, by rules over the sources of `gates`, of the steps, and of the cursor and the
+counts that they go by.
 The rules say what may stand there, and refuse all else; what they name (the interface of `gates`, the drivers, the places where a table is indexed) is
 changed here first. Below them stand cheats: each is applied to a copy, and the compiler, or a rule where the compiler takes it, must refuse it in the
 right words. Every rule has one."""
@@ -16,7 +17,9 @@ from closing import check, close
 
 top = pathlib.Path(__file__).resolve().parent.parent
 STEPS = ['evaluation', 'choosing', 'clearing', 'rounds']
-CRATES = ['gates', 'cursor'] + STEPS
+# What runs by public numbers alone: each with the crates whose functions it calls.
+PUBLIC = {'counting': ['counting'], 'cursor': ['cursor', 'counting']}
+CRATES = ['gates', *PUBLIC, *STEPS]
 
 # All that `gates` has. What takes a secret or a lent table gives a secret, or puts one into a table that is lent; only gates raise the tally; where
 # an entry stands in a table is public.
@@ -75,8 +78,14 @@ pub fn all_rounds(n: usize, floor: u32, weights: &mut [u32], choices: &mut [u32]
 DRIVERS = {crate: headers.split('\n')[1:-1] for crate, headers in DRIVERS.items()}
 LONGEST = 20  # lines of a driver's body
 
-# The only brackets in the steps: the shuffle's entries, which all know, and the halves that are lent on.
+# The only constant table, of entries that all know, and what it is lent on as.
+CONSTANTS = {'counting': ['TRIPLES']}
+CONSTANT = {'table': '&[u32]'}
+
+# The only brackets in the steps and in what they go by: the shuffle's entries and the table's, which all know, and the halves that are lent on.
 BRACKETS = {
+    ('counting', 'triples'): ['table[m]'],
+    **{('cursor', name): ['&[u32]'] for name in ('count', 'number_of', 'at')},  # the constant table, lent on
     ('evaluation', 'weight_at'): ['s[u]', 's[v]', 's[x]'],
     ('choosing', 'choose_halves'): ['&weights[..half]', '&weights[half..]'],
 }
@@ -213,6 +222,9 @@ class Source:
         rest = re.sub(r'^use [^;]*;', '', rest, flags=re.M)
         self.structs = {name: ' '.join(struct.split()) for struct, name in re.findall(r'^(pub struct (\w+) \{[^{}]*\})', rest, re.M)}
         rest = re.sub(r'^pub struct \w+ \{[^{}]*\}', '', rest, flags=re.M)
+        table = r'^const (\w+): \[u32; 201\] = \[[\d\s,]*\];'
+        self.tables = re.findall(table, rest, re.M)
+        rest = re.sub(table, '', rest, flags=re.M)
         self.functions = {}
         try:
             self.rest = self.parsed(rest)
@@ -223,7 +235,7 @@ class Source:
         """Takes the functions out, and gives what is left."""
         while found := re.search(r'^(pub )?fn (\w+)\(', rest, re.M):
             params, end = split(rest, found.end() - 1)
-            result = re.match(r'(?:\s*-> (\w+))?\s*\{', rest[end + 1:])
+            result = re.match(r'(?:\s*-> (\w+|\[u32; 201\]))?\s*\{', rest[end + 1:])
             if not result:
                 break
             opens = end + result.end()
@@ -240,12 +252,14 @@ class Source:
 # ## The rules. Each takes the sources by crate, and gives a line for each thing that is wrong.
 
 def plain(sources):
-    """A source has uses of gates and the cursor, structs and functions, and nothing else; a clause has nothing after it; a body has `let`, `if`, `while`,
+    """A source has uses of gates and the cursor, structs and functions, of tables the one that is listed, and nothing else; a clause has nothing after it; a body has `let`, `if`, `while`,
     `return` and calls by name. A name is bound once, a secret by its value apart; no value with a tally in it is copied, made by hand or let go."""
     for crate in CRATES:
         source = sources[crate]
         if source.rest:
             yield f'{crate}: has more than uses, structs and functions: {source.rest[:40]}'
+        if source.tables != CONSTANTS.get(crate, []):
+            yield f'{crate}: has the constant tables {source.tables}'
         for use in source.uses:
             if not re.fullmatch(r'(gates|cursor)::\w+', use):
                 yield f'{crate}: uses {use}'
@@ -262,7 +276,7 @@ def plain(sources):
             for call in re.findall(r'\)\s*\(|\)\s*\.', f.body):
                 yield f'{crate}: {f.name} calls, or takes a field, by {call}'
             bound = list(f.params)
-            for changing, name, kind, value in re.findall(r'\blet (mut )?(\w+)(: usize)? = ([^;]*);', f.body):
+            for changing, name, kind, value in re.findall(r'\blet (mut )?(\w+)(: usize|: &\[u32\])? = ([^;]*);', f.body):
                 if name in bound and value not in (f'{name}.value', f'gates::known({name})', f'gates::known({name} as usize)'):
                     yield f'{crate}: {f.name} binds {name} again'
                 if changing and name not in CHANGING:
@@ -305,8 +319,9 @@ def straight(sources):
 
 
 def by_value(sources):
-    """The drivers are those that are listed, and short; no other function takes a lent table or a reference, and no struct holds one."""
-    for crate in STEPS + ['cursor']:
+    """The drivers are those that are listed, and short; no other function takes a lent table or a reference, but for the constant table below the cursor,
+    and no struct holds one."""
+    for crate in [*STEPS, *PUBLIC]:
         source = sources[crate]
         headers = [f.header for f in source.functions.values()]
         for header in DRIVERS.get(crate, []):
@@ -314,7 +329,9 @@ def by_value(sources):
                 yield f'{crate}: has no {header}'
         for f in source.functions.values():
             driver = f.header in DRIVERS.get(crate, [])
-            if not driver and re.search(r'[&\[]', f.header):
+            tables = {name: kind for name, kind in f.params.items() if re.search(r'[&\[]', kind)}
+            below = crate in PUBLIC and tables == CONSTANT and not (crate == 'cursor' and f.header.startswith('pub'))
+            if tables and not driver and not below:
                 yield f'{crate}: {f.name} takes a table or a reference, and is no driver'
             if driver and len([line for line in f.body.splitlines() if line.strip()]) > LONGEST:
                 yield f'{crate}: {f.name} is not short'
@@ -329,8 +346,8 @@ def by_value(sources):
 
 
 def unread(sources):
-    """No entry of a lent table is read or written in a step but by `gates`; the shuffle's are public."""
-    for crate in STEPS + ['cursor']:
+    """No entry of a lent table is read or written in a step but by `gates`; the shuffle's and a constant table's are public."""
+    for crate in [*STEPS, *PUBLIC]:
         for f in sources[crate].functions.values():
             body = f.body
             for bracket in BRACKETS.get((crate, f.name), []):
@@ -363,12 +380,13 @@ def named(sources):
 
 
 def within(sources):
-    """A step calls functions of gates, of the cursor and of steps, by their names, and the cursor its own; of a table a step asks the length."""
-    for crate in STEPS + ['cursor']:
+    """A step calls functions of gates, of the cursor and of steps, by their names, the cursor its own and the counts', and these their own; of a table a step
+    asks the length."""
+    for crate in [*STEPS, *PUBLIC]:
         for f in sources[crate].functions.values():
             for callee, _ in f.calls():
                 where, _, name = callee.rpartition('::')
-                if (where or crate) not in (CRATES if crate in STEPS else [crate]) or name not in sources[where or crate].functions:
+                if (where or crate) not in PUBLIC.get(crate, ['gates', 'cursor', *STEPS]) or name not in sources[where or crate].functions:
                     yield f'{crate}: {f.name} calls {callee}'
             for method in re.findall(r'\.(\w+\([^)]*\))', f.body):
                 if method != 'len()':
@@ -522,6 +540,7 @@ CHEATS = [
      plain, 'evaluation: a clause has more on its line, or goes on: requires { ⌜ Evaluating (upToT'),
     ('choosing', 'a constant', [('// A winner: its weight', 'const MOST: usize = 9;\n\n// A winner: its weight')],
      plain, 'choosing: has more than uses, structs and functions: const MOST: usize = 9;'),
+    ('choosing', 'a constant table', [('// A winner: its weight', 'const MOST: [u32; 201] = [' + '0, ' * 201 + '];\n\n// A winner: its weight')], plain, "choosing: has the constant tables ['MOST']"),
     ('gates', 'a place bound again', [('    Secret { value: table[at] }\n', '    let at = at * 1;\n    Secret { value: table[at] }\n')], plain, 'gates: load_u32 binds at again'),
     ('choosing', 'a half that changes', [('    let half = weights.len() / 2;\n', '    let mut half = weights.len() / 2;\n    half -= half - 1;\n')], plain, 'choosing: choose_halves changes half'),
     ('evaluation', 'a tally copied', [('    let sum = gates::sum(ab.w, ba.w);\n', '    let sum = gates::sum(ab.w, ba.w);\n    let kept = there;\n')], plain, 'evaluation: two copies there'),
@@ -559,6 +578,10 @@ CHEATS = [
      by_value, 'evaluation: has no fn edge(n: usize, m: &[u8], w: &[u16], i: usize, j: usize) -> EdgeEntries'),
     ('cursor', 'a cursor that looks at a table', [('// How many subsets there are', 'pub fn past(weights: &[u32], k: usize) -> bool {\n    weights[k] == 0\n}\n\n// How many subsets there are')],
      by_value, 'cursor: past takes a table or a reference, and is no driver'),
+    ('counting', 'a count that looks at a table', [('// How many triples there are', 'pub fn past(weights: &[u32], k: usize) -> bool {\n    weights[k] == 0\n}\n\n// How many triples there are')],
+     by_value, 'counting: past takes a table or a reference, and is no driver'),
+    ('cursor', 'a cursor that is lent a table', [('pub fn count(n: usize) -> usize\n', 'pub fn count(table: &[u32], n: usize) -> usize\n')],
+     by_value, 'cursor: count takes a table or a reference, and is no driver'),
     ('choosing', 'a struct that holds an array', [('pub struct Placed {\n', 'pub struct Held {\n    pub s: [u32; 1],\n}\n\npub struct Placed {\n')], by_value, 'choosing: Held holds a table or a reference'),
     ('evaluation', 'a tally by another name', [('fn two(ab: EdgeEntries, ba: EdgeEntries, t: Tally) -> Gated\n', 'fn two(ab: EdgeEntries, ba: EdgeEntries, c: Tally) -> Gated\n'), (
         '    let there = gates::product(ab.m, ba.m, t);\n', '    let there = gates::product(ab.m, ba.m, c);\n')], by_value, 'evaluation: two takes a tally by the name c'),
@@ -572,6 +595,7 @@ CHEATS = [
      unread, 'choosing: chosen_in_round has choices[k]'),
     ('clearing', 'a secret stored to an array', [('    let first = gates::product(', '    let mut seen = [0u32; 1];\n    gates::store_u32(&mut seen, 0, choice.u);\n    let first = gates::product(')],
      unread, 'clearing: weight_after has [0u32; 1]'),
+    ('counting', 'another entry of the table', [('    let others = m - 1;\n', '    let others = m - 1 + table[0] as usize;\n')], unread, 'counting: twos has table[0]'),
     ('evaluation', 'the shuffle read twice', [('    let c = s[x] as usize;\n', '    let c = s[x] as usize + s[x] as usize - s[x] as usize;\n')], unread, 'evaluation: weight_at has s[x] 3 times'),
 
     ('evaluation', "W under the shuffle's name", [('weight_at(n, m, w, s, p, tally)', 'weight_at(n, m, w, w, p, tally)')], named, 'evaluation: evaluated gives w to weight_at for s'),
@@ -586,6 +610,7 @@ CHEATS = [
 
     ('cursor', 'a cursor that compares', [('// How many subsets there are', 'pub fn shows(p: usize) -> usize {\n    std::num::wrapping_add_usize(p, 1)\n}\n\n// How many subsets there are')],
      within, 'cursor: shows calls std::num::wrapping_add_usize'),
+    ('counting', 'a count that calls', [('    table[m] as usize\n', '    std::num::wrapping_add_usize(table[m] as usize, 0)\n')], within, 'counting: triples calls std::num::wrapping_add_usize'),
 
     ('choosing', 'an equality test that is not tallied', [('    let floor = gates::known(floor as usize);\n', '    let floor = gates::demux_readout(floor as usize, best.at);\n')],
      readout, 'choosing: final_test asks demux_readout(floor as usize, best.at)'),

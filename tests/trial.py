@@ -1,6 +1,6 @@
 """The planner in Rust that trial/ has, written from documents 01 and 02 alone: its own tests; its plans of the pools that the program `try_pools` plans,
-which must be what crates/try_pools/stdout has, byte for byte; and the library run beside it on random, damaged and faulty input. Links the archive that
-tests/c.py makes, whatever VADIVUZHEN_LIB says."""
+and its order of the subsets that `try_subsets` tries, which must be what crates/try_pools/stdout and crates/try_subsets/stdout have, byte for byte; and
+the library run beside it on random, damaged and faulty input. Links the archive that tests/c.py makes, whatever VADIVUZHEN_LIB says."""
 import os
 import pathlib
 import re
@@ -23,12 +23,13 @@ check(len(results) >= 94, f'only {len(results)} tests ran')
 for name, result in results:
     check(result == 'ok', f'{name}: {result}')
 
-plans = cargo('trial', 'run', '--release', '--offline', '--quiet', '--example', 'pools')
-expected = (top / 'crates' / 'try_pools' / 'stdout').read_text()
-check(plans.returncode == 0, 'the example pools failed:\n' + plans.stderr[-3000:])
-for got, want in zip(plans.stdout.splitlines(), expected.splitlines()):
-    check(got == want, f'the planner in Rust prints {got[:100]!r}, crates/try_pools/stdout has {want[:100]!r}')
-check(plans.stdout == expected, 'what the planner in Rust prints is not crates/try_pools/stdout')
+for example, program in ('pools', 'try_pools'), ('subsets', 'try_subsets'):
+    printed = cargo('trial', 'run', '--release', '--offline', '--quiet', '--example', example)
+    expected = (top / 'crates' / program / 'stdout').read_text()
+    check(printed.returncode == 0, f'the example {example} failed:\n' + printed.stderr[-3000:])
+    for got, want in zip(printed.stdout.splitlines(), expected.splitlines()):
+        check(got == want, f'the planner in Rust prints {got[:100]!r}, crates/{program}/stdout has {want[:100]!r}')
+    check(printed.stdout == expected, f'what the planner in Rust prints is not crates/{program}/stdout')
 
 beside = cargo('trial/beside', 'run', '--release', '--offline', '--quiet')
 print(beside.stdout.rpartition('\n')[0].rpartition('\n')[0])

@@ -13,7 +13,7 @@ use Rattle.exchange.specs.Published.{Rising, Before, here, there, Precedes, lar
 use Rattle.exchange.specs.Rivals.{Each}
 use Rattle.exchange.proofs.Ordered.{mem-at}
 use Rattle.exchange.proofs.Published.{published}
-use Rattle.cursor.specs.Cursor.{OnSubset, places, placesOf, placesAt, standsAt, numberIn, nextPlaces, subsetAt}
+use Rattle.cursor.specs.Cursor.{OnSubset, places, placesOf, placesAt, standsAt, numberIn, nextPlaces, subsetAt, BothWays}
 use Rattle.cursor.specs.declared.Places.{Places}
 use Rattle.cursor.proofs.Order.{nextOf, is-subset, follows}
 use Rattle.cursor.proofs.Standing.{stands, range-two, range-triple}
@@ -94,6 +94,10 @@ module _ (n : ℕ) (few : n ≤ 200) where
 
 -- ## A cursor in range stands at some subset
 
+-- a cursor's number
+abbrev pub Numbered : ℕ → Places → ℕ → Type 0
+Numbered n p k = (k ≡ numberIn n (order (upToThree n)) p) × (k < subsetCount (upToThree n)) × (getD (order (upToThree n)) k [] ≡ subsetAt n p)
+
 module _ (n : ℕ) (p : Places) (range : OnSubset n p) where
   -- its subset, with the cursor at it
   record Stood : Type 0 where
@@ -121,10 +125,29 @@ module _ (n : ℕ) (p : Places) (range : OnSubset n p) where
         }
   ]
 
-  pub next-is : nextOf n p ≡ nextPlaces (upToThree n) p
+  -- it stands at the number of its subset
+  pub placed : (k : ℕ) → getD (order (upToThree n)) k [] ≡ subsetAt n p → p ≡ placesAt (upToThree n) k
   unfolding placesAt
-  next-is =
+  placed k e = stood .back ∙ ap (placesOf n) (sym e)
+
+  pub numbered : (k : ℕ) → k < subsetCount (upToThree n) → getD (order (upToThree n)) k [] ≡ subsetAt n p → Numbered n p k
+  numbered k h e = (sym (ap (numberIn n (order (upToThree n))) (placed k e) ∙ number-at n (range .few) k h), h, e)
+
+  -- there is one
+  some-number : (k : ℕ) × Numbered n p k
+  some-number =
       let t = stood in
       let m = mem-at (order (upToThree n)) (subsetAt n p) (published 3 n .all (subsetAt n p) (t .rising) (t .least) (t .most)) in
-      let e : p ≡ placesAt (upToThree n) (m .0) = t .back ∙ ap (placesOf n) (sym (m .2)) in
-      follows n (m .0) (range .few) (m .1) p e ∙ sym (goes-on n (range .few) (m .0) (m .1) p e)
+      (m .0, numbered (m .0) (m .1) (m .2))
+
+  pub next-is : nextOf n p ≡ nextPlaces (upToThree n) p
+  next-is =
+      let m = some-number in
+      let e = placed (m .0) (m .1 .2) in
+      follows n (m .0) (range .few) (m .1 .1) p e ∙ sym (goes-on n (range .few) (m .0) (m .1 .1) p e)
+
+  places-back : placesAt (upToThree n) (numberIn n (order (upToThree n)) p) ≡ p
+  places-back = let m = some-number in ap (placesAt (upToThree n)) (sym (m .1 .0)) ∙ sym (placed (m .0) (m .1 .2))
+
+pub both-ways : BothWays
+both-ways n few = record { numberBack = number-at n few; placesBack = places-back n }

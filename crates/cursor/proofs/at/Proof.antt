@@ -1,37 +1,38 @@
--- `cursor::at` meets its contract. The loop's invariant: the cursor stands at the subset of number i. Assumes nothing.
-use Prim.Native.Nat.{_-_, _≤_}
-use mathlib.Core.Path.{_≡_, ap, _∙_}
+-- `cursor::at` meets its contract: a triple, a two, or none. Assumes nothing.
+use Prim.Native.Nat.{ℕ, _-_}
+use mathlib.Core.Path.{sym, subst}
 use native.Mathlib.Omega.{arith}
 use borrow.Author.Needs.{needs}
-use Rattle.exchange.specs.Subsets.{upToThree}
-use Rattle.cursor.specs.Cursor.{placesAt}
-use Rattle.cursor.proofs.Order.{in-range}
-use Rattle.cursor.proofs.Following.{goes-on}
+use Rattle.cursor.specs.Cursor.{TwoAt}
+use Rattle.cursor.proofs.Order.{past}
+use Rattle.cursor.proofs.Number.{count-is, count-le}
+use Rattle.cursor.proofs.Placed.{two-placed}
 use Rattle.cursor.proofs.at.Statement.{statement}
 use Rattle.cursor.proofs.at.Tie as tie
 
-abbrev Inv-loop : tie.InvT-loop
-Inv-loop n k p₀ i₀ p i = (i ≤ k) × (p ≡ placesAt (upToThree n) i)
+add-if2 : tie.Need-add-if2
+add-if2 c =
+    let triples = c .before .before in
+    let start = triples .before .before .before in
+    record { fits = omega (arith, triples .triples .ensures .1, c .twos .ensures .1, count-is (start .args .n), count-le _ (start .pre .0)) }
 
-abbrev μ-loop : tie.MeasureT-loop
-μ-loop n k p₀ i₀ p i = k - i
+returns-2 : tie.Need-returns-2
+returns-2 c =
+    let else1 = c .before .before .before in
+    let start = else1 .before .before .before .before in
+    let triples = else1 .before .triples .ensures .1 in
+    two-placed _ (start .pre .0) _ _ (omega (arith, triples, else1 .if1 .left))
+    (subst (λ (t : ℕ). TwoAt (start .args .n) (c .two-at .result .u) (c .two-at .result .v) (start .args .k - t)) triples (c .two-at .ensures .0))
+    (c .two-at .ensures .1)
 
-next-requires : tie.Need-next-requires Inv-loop μ-loop
-next-requires c κs =
-    let start = c .before .before .before in
-    in-range _ (c .before .loop .i) (start .pre .0) (omega (arith, start .pre .1)) _ (c .before .loop .inv .1)
-
-loop-again : tie.Need-loop-again Inv-loop μ-loop
-loop-again c =
-    let at-loop = c .before .before in
-    let pre = at-loop .before .before .pre in
-    (search needs, c .next .ensures ∙ goes-on _ (pre .0) (at-loop .loop .i) (omega (arith, pre .1)) _ (at-loop .loop .inv .1))
-
-returns : tie.Need-returns Inv-loop μ-loop
-returns c = let e : c .before .loop .i ≡ c .before .before .before .args .k = omega arith in c .before .loop .inv .1 ∙ ap (placesAt _) e
+returns-3 : tie.Need-returns-3
+returns-3 c =
+    let triples = c .before .before .before in
+    let start = triples .before .before .before in
+    sym (past _ _ (omega (arith, triples .triples .ensures .1, c .before .twos .ensures .1, count-is (start .args .n), c .if2 .left)))
 
 pub at-spec : {M : Type 1} → statement M
 at-spec =
     tie.close
-    (tie.spec Inv-loop μ-loop (λ c κs. search needs) (λ c. search needs) next-requires (λ c. search needs) (λ c. search needs) loop-again
-    returns)
+    (tie.spec (λ c κs. search needs) (λ c. search needs) (λ c κs. search needs) (λ c κs. search needs) (λ c. search needs) (λ c κs. search needs)
+    add-if2 (λ c κs. search needs) returns-2 returns-3)

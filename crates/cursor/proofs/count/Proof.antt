@@ -1,21 +1,21 @@
 -- `cursor::count` meets its contract. Assumes nothing.
 use native.Mathlib.Omega.{arith}
-use Rattle.laws.proofs.Products.{square-le}
-use Rattle.cursor.proofs.Number.{six-times, cube-le}
+use borrow.Author.Needs.{needs}
+use Rattle.cursor.proofs.Number.{count-is, count-le}
 use Rattle.cursor.proofs.count.Statement.{statement}
 use Rattle.cursor.proofs.count.Tie as tie
 
-mul-result : tie.Need-mul-result
-mul-result c = record { fits = omega (arith, square-le (c .args .n) (c .pre)) }
-
-mul-result-2 : tie.Need-mul-result-2
-mul-result-2 c = record { fits = omega (arith, cube-le (c .args .n) (c .pre)) }
-
-sub-result : tie.Need-sub-result
-sub-result c = omega (arith, six-times (c .args .n))
-
 returns : tie.Need-returns
-returns c = omega (arith, six-times (c .args .n))
+returns c =
+    let start = c .before .before .before .before in
+    omega (arith, c .before .triples .ensures .1, c .twos .ensures .1, count-is (start .args .n))
+
+add-result : tie.Need-add-result
+add-result c =
+    let start = c .before .before .before .before in
+    record { fits = omega (arith, returns c, count-le _ (start .pre)) }
 
 pub count-spec : {M : Type 1} → statement M
-count-spec = tie.close (tie.spec mul-result mul-result-2 sub-result returns)
+count-spec =
+    tie.close
+    (tie.spec (λ c κs. search needs) (λ c. search needs) (λ c κs. search needs) (λ c κs. search needs) add-result returns)
