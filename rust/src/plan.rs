@@ -49,8 +49,9 @@ impl Plan {
     pub(crate) fn make(tables: &Tables, floor: u32, shuffle: &[u16]) -> Result<Plan, Refused> {
         let n = tables.pairs();
         let rounds = n / 2;
-        // As many subsets as there are triples among one more.
-        let subsets = (n * n * n - n) / 6;
+        // As many subsets as there are triples among one more: by the middle
+        // one, with those below it and those above.
+        let subsets: usize = (1..n).map(|below| below * (n - below)).sum();
         let mut plan = Plan {
             answer: PlanAnswer::default(),
             weights: vec![0; subsets],
