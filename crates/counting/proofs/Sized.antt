@@ -24,7 +24,7 @@ none-among k = refl
 pub more-among : (k m n : ℕ) → 2 ≤ k → k ≤ 3 → m ≤ n → ofSize k m ≤ ofSize k n
 more-among k m n h g l = omega (arith, counted k m h g, counted k n h g, binomial-mono k m n l)
 
-pub few-triples : (m : ℕ) → m ≤ 200 → ofSize 3 m ≤ 8000000
+pub few-triples : (m : ℕ) → m ≤ 200 → ofSize 3 m ≤ 1333333
 few-triples m h =
     let a : m - 1 ≤ 200 = omega arith in
     let b : m - 2 ≤ 200 = omega arith in

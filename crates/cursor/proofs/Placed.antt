@@ -6,7 +6,7 @@ use native.Mathlib.Omega.{arith}
 use native.Mathlib.Nat.{zero-add}
 use lib.ListN.{length, getD, length-map, List·getD-append}
 use lib.Seq.{getD-append-add}
-use Rattle.exchange.specs.Subsets.{ascending, subsets, upToThree, order, subsetCount}
+use Rattle.exchange.specs.Subsets.{ascending, subsets, upToThree, order}
 use Rattle.exchange.proofs.Counted.{binomial, length-ascending, ones, count-triples, count-twos, binomial-mono}
 use Rattle.counting.specs.Counting.{ofSize, Begins}
 use Rattle.counting.proofs.Sized.{two-more, triple-more}
@@ -66,13 +66,9 @@ unfolding ascending binomial
 one-found p c i h = found 0 p c i (c - i - 1) 0 i (omega arith) (omega arith) (omega (arith, ones c, ones (suc (c - i - 1))))
 
 module _ (n u v k : ℕ) (t : TwoAt n u v k) where
-  -- how many places come after u
-  after : ℕ
-  after = n - (u + 1)
-
   two-found : (p : ℕ) → getD (ascending 2 p n) k [] ≡ (p + u) ∷ (p + v) ∷ []
-  unfolding after
   two-found p =
+      let after : ℕ = n - (u + 1) in
       let c : n - u ≡ suc after = omega (arith, t .rising, t .within) in
       found 1 p n u after (v - u - 1) k (omega (arith, c)) (omega (arith, ones after, t .rising, t .within))
       (omega (arith, t .number, ap (binomial 2) c, count-twos n, count-twos (n - u)))

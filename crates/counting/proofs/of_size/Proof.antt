@@ -1,7 +1,7 @@
 -- `counting::of_size` meets its contract. Assumes nothing.
+use Prim.Native.Nat.{ℕ}
 use mathlib.Core.Path.{_≡_, sym, ap, _∙_}
 use native.Mathlib.Omega.{arith}
-use Prim.Native.Nat.{ℕ}
 use borrow.Author.Needs.{needs}
 use Rattle.counting.specs.Counting.{ofSize}
 use Rattle.counting.proofs.of_size.Statement.{statement}
