@@ -333,6 +333,8 @@ def by_value(sources):
             below = crate in PUBLIC and tables == CONSTANT and not (crate == 'cursor' and f.header.startswith('pub'))
             if tables and not driver and not below:
                 yield f'{crate}: {f.name} takes a table or a reference, and is no driver'
+            if '[' in (f.result or '') and (crate, f.name) != ('counting', 'table'):
+                yield f'{crate}: {f.name} gives a table'
             if driver and len([line for line in f.body.splitlines() if line.strip()]) > LONGEST:
                 yield f'{crate}: {f.name} is not short'
             for name, kind in f.params.items():
@@ -580,6 +582,8 @@ CHEATS = [
      by_value, 'cursor: past takes a table or a reference, and is no driver'),
     ('counting', 'a count that looks at a table', [('// How many triples there are', 'pub fn past(weights: &[u32], k: usize) -> bool {\n    weights[k] == 0\n}\n\n// How many triples there are')],
      by_value, 'counting: past takes a table or a reference, and is no driver'),
+    ('cursor', 'a cursor that gives a table', [('// How many subsets there are', 'pub fn entries() -> [u32; 201] {\n    counting::table()\n}\n\n// How many subsets there are')],
+     by_value, 'cursor: entries gives a table'),
     ('cursor', 'a cursor that is lent a table', [('pub fn count(n: usize) -> usize\n', 'pub fn count(table: &[u32], n: usize) -> usize\n')],
      by_value, 'cursor: count takes a table or a reference, and is no driver'),
     ('choosing', 'a struct that holds an array', [('pub struct Placed {\n', 'pub struct Held {\n    pub s: [u32; 1],\n}\n\npub struct Placed {\n')], by_value, 'choosing: Held holds a table or a reference'),
