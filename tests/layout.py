@@ -49,10 +49,17 @@ for file in sorted((top / 'crates').rglob('*.antt')):
         found = too_long(enumerate(text.splitlines(), 1), 250)
         check(not found, f'{file.relative_to(top)}: lines: {found}')
 
-# "T and each triple's number come from it without dividing" (02, W-203): a contract can't say that
-for crate in 'counting', 'cursor':
-    code = re.sub(r'//.*', '', (top / 'crates' / crate / 'src/lib.rt').read_text())
-    found = re.findall(r'.*[/%].*', code)
-    check('fn ' in code and not found, f'{crate}: divides: {found}')
+# "T and each triple's number come from it without dividing" (02, W-203): a contract can't say how. No division stands where subsets are counted and
+# numbered, and elsewhere in planning none but by 2; the counts have one loop, which searches for a place, and the cursor has none and never goes on by
+# itself, so that no number is found by a walk.
+planning = 'gates', 'entries', 'evaluation', 'choosing', 'clearing', 'rounds', 'resolution', 'validation', 'planner', 'buffers'
+code = {crate: re.sub(r'//.*', '', (top / 'crates' / crate / 'src/lib.rt').read_text()) for crate in ('counting', 'cursor', *planning)}
+for crate, text in code.items():
+    signs = [sign for sign in re.findall(r'[/%] *\w*', text) if crate not in planning or sign != '/ 2']
+    check('fn ' in text and not signs, f'{crate}: divides: {signs}')
+loops = {crate: re.findall(r'\b(?:while|for|loop)\b.*', code[crate]) for crate in ('counting', 'cursor')}
+check(loops == {'counting': ['while begin_below(table, size, n, i + 1) <= k {'], 'cursor': []}, f'counting and cursor have the loops {loops}')
+walks = re.findall(r'(?<!fn )\b(?:first|next)\(', code['cursor'])
+check(not walks, f'cursor walks: {walks}')
 
 close()

@@ -1,11 +1,10 @@
 """Nothing secret decides what runs, and nothing but a gate raises the tally.
 
 The compiler holds much of it: the fields of `Secret` and `Tally` are private to `gates`, so that a step can't look into a secret, compare it, use it as
-an index or make one by hand, nor write a count. What types can't say is held here, by rules over the sources of `gates`, of the steps, and of the cursor and the
-counts that they go by.
-The rules say what may stand there, and refuse all else; what they name (the interface of `gates`, the drivers, the places where a table is indexed) is
-changed here first. Below them stand cheats: each is applied to a copy, and the compiler, or a rule where the compiler takes it, must refuse it in the
-right words. Every rule has one."""
+an index or make one by hand, nor write a count. What types can't say is held here, by rules over the sources of `gates`, of the steps,
+and of the cursor and the counts that they go by. The rules say what may stand there, and refuse all else; what they name (the interface of `gates`, the
+drivers, the places where a table is indexed) is changed here first. Below them stand cheats: each is applied to a copy, and the compiler, or a rule
+where the compiler takes it, must refuse it in the right words. Every rule has one."""
 import concurrent.futures
 import pathlib
 import re
@@ -51,8 +50,21 @@ OPERATIONS = {
     'known': '', 'load_u8': '', 'load_u16': '', 'load_u32': '', 'store_u32': '', 'nothing_done': '', 'counts_of': '',
 }
 
-# The functions that hold a lent table: all others compute, and take secrets by value. m, w, weights and choices are secret; s is the shuffle.
+# The functions that hold a lent table: all others compute, and take secrets by value. m, w, weights and choices are secret; s is the shuffle, and table
+# the constant one of the counts.
 DRIVERS = {
+    'counting': '''
+pub fn triples(table: &[u32], m: usize) -> usize
+pub fn twos(table: &[u32], m: usize) -> usize
+fn of_size(table: &[u32], size: usize, m: usize) -> usize
+pub fn begin_below(table: &[u32], size: usize, n: usize, p: usize) -> usize
+pub fn lowest(table: &[u32], size: usize, n: usize, k: usize) -> usize
+''',
+    'cursor': '''
+fn number_of_two(table: &[u32], n: usize, u: usize, v: usize) -> usize
+fn two_at(table: &[u32], n: usize, k: usize) -> Places
+fn triple_at(table: &[u32], n: usize, k: usize) -> Places
+''',
     'evaluation': '''
 fn edge(n: usize, m: &[u8], w: &[u16], i: usize, j: usize) -> EdgeEntries
 fn weight_at(n: usize, m: &[u8], w: &[u16], s: &[u16], p: Places, t: Tally) -> Gated
@@ -78,9 +90,8 @@ pub fn all_rounds(n: usize, floor: u32, weights: &mut [u32], choices: &mut [u32]
 DRIVERS = {crate: headers.split('\n')[1:-1] for crate, headers in DRIVERS.items()}
 LONGEST = 20  # lines of a driver's body
 
-# The only constant table, of entries that all know, and what it is lent on as.
+# The only constant table, of entries that all know.
 CONSTANTS = {'counting': ['TRIPLES']}
-CONSTANT = {'table': '&[u32]'}
 
 # The only brackets in the steps and in what they go by: the shuffle's entries and the table's, which all know, and the halves that are lent on.
 BRACKETS = {
@@ -252,8 +263,9 @@ class Source:
 # ## The rules. Each takes the sources by crate, and gives a line for each thing that is wrong.
 
 def plain(sources):
-    """A source has uses of gates and the cursor, structs and functions, of tables the one that is listed, and nothing else; a clause has nothing after it; a body has `let`, `if`, `while`,
-    `return` and calls by name. A name is bound once, a secret by its value apart; no value with a tally in it is copied, made by hand or let go."""
+    """A source has uses of gates and the cursor, structs and functions, of constant tables the one that is listed, and nothing else; a clause has nothing
+    after it; a body has `let`, `if`, `while`, `return` and calls by name. A name is bound once, a secret by its value apart; no value with a tally in it
+    is copied, made by hand or let go."""
     for crate in CRATES:
         source = sources[crate]
         if source.rest:
@@ -319,8 +331,8 @@ def straight(sources):
 
 
 def by_value(sources):
-    """The drivers are those that are listed, and short; no other function takes a lent table or a reference, but for the constant table below the cursor,
-    and no struct holds one."""
+    """The drivers are those that are listed, and short; no other function takes a lent table or a reference, none gives a table but the constant one, and
+    no struct holds one."""
     for crate in [*STEPS, *PUBLIC]:
         source = sources[crate]
         headers = [f.header for f in source.functions.values()]
@@ -329,9 +341,7 @@ def by_value(sources):
                 yield f'{crate}: has no {header}'
         for f in source.functions.values():
             driver = f.header in DRIVERS.get(crate, [])
-            tables = {name: kind for name, kind in f.params.items() if re.search(r'[&\[]', kind)}
-            below = crate in PUBLIC and tables == CONSTANT and not (crate == 'cursor' and f.header.startswith('pub'))
-            if tables and not driver and not below:
+            if not driver and any(re.search(r'[&\[]', kind) for kind in f.params.values()):
                 yield f'{crate}: {f.name} takes a table or a reference, and is no driver'
             if '[' in (f.result or '') and (crate, f.name) != ('counting', 'table'):
                 yield f'{crate}: {f.name} gives a table'
@@ -362,7 +372,7 @@ def unread(sources):
 
 def named(sources):
     """A lent table goes to `gates`, or on under its own name; of what is in it a step knows the length."""
-    for crate in STEPS:
+    for crate in [*STEPS, *PUBLIC]:
         source = sources[crate]
         for f in source.drivers(crate):
             for table in f.tables():

@@ -5,12 +5,7 @@ use reference::subsets::{published, Subset};
 
 fn main() {
     for n in 0..=12 {
-        let subsets = published(n);
-        print!("of {n} places {}:", subsets.len());
-        for subset in &subsets {
-            print!("{},", places(subset));
-        }
-        println!(" back {}", subsets.len());
+        all(n);
     }
     one_by_one(36, &[1000, 2921, 7139, 7140, 7316, 7769, 7770]);
     one_by_one(
@@ -27,16 +22,35 @@ fn places(subset: &Subset) -> String {
     subset.places().iter().map(spaced).collect()
 }
 
+/// How many come before the first with these places.
+fn number(subsets: &[Subset], places: &[u16]) -> usize {
+    let there = |subset: &Subset| subset.places() == places;
+    subsets.iter().position(there).expect("a subset")
+}
+
+/// All subsets in order, and how many have that number by their places.
+fn all(n: usize) {
+    let subsets = published(n);
+    print!("of {n} places {}:", subsets.len());
+    let mut back = 0;
+    for (k, subset) in subsets.iter().enumerate() {
+        print!("{},", places(subset));
+        back += usize::from(number(&subsets, subset.places()) == k);
+    }
+    println!(" back {back}");
+}
+
 /// The subsets of these numbers; the number past the last has none.
 fn one_by_one(n: usize, numbers: &[usize]) {
     let subsets = published(n);
-    for &number in numbers {
-        match subsets.get(number) {
-            Some(subset) => println!(
-                "of {n} places, number {number}:{}, back {number}",
-                places(subset)
-            ),
-            None => println!("of {n} places, number {number}: none"),
+    for &k in numbers {
+        print!("of {n} places, number {k}:");
+        match subsets.get(k) {
+            Some(subset) => {
+                let back = number(&subsets, subset.places());
+                println!("{}, back {back}", places(subset));
+            }
+            None => println!(" none"),
         }
     }
 }

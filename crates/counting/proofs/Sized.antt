@@ -9,7 +9,8 @@ use Rattle.exchange.specs.Promises.{howMany}
 use Rattle.exchange.proofs.Counted.{binomial, ones, count-triples, count-twos, twos-are, triples-are, binomial-mono}
 use Rattle.counting.specs.Counting.{ofSize}
 
-pub counted : (k m : ℕ) → 2 ≤ k → k ≤ 3 → ofSize k m ≡ binomial k m
+-- a size is two or three
+pub counted : (size m : ℕ) → 2 ≤ size → size ≤ 3 → ofSize size m ≡ binomial size m
 counted zero m h g = absurd (omega arith)
 counted (suc zero) m h g = absurd (omega arith)
 counted (suc (suc zero)) m h g = count-twos m
@@ -17,12 +18,12 @@ counted (suc (suc (suc zero))) m h g = count-triples m
 counted (suc (suc (suc (suc k)))) m h g = absurd (omega arith)
 
 -- none among no places, and no fewer among more
-pub none-among : (k : ℕ) → ofSize k 0 ≡ 0
+pub none-among : (size : ℕ) → ofSize size 0 ≡ 0
 unfolding howMany subsets ascending
-none-among k = refl
+none-among size = refl
 
-pub more-among : (k m n : ℕ) → 2 ≤ k → k ≤ 3 → m ≤ n → ofSize k m ≤ ofSize k n
-more-among k m n h g l = omega (arith, counted k m h g, counted k n h g, binomial-mono k m n l)
+pub more-among : (size m n : ℕ) → 2 ≤ size → size ≤ 3 → m ≤ n → ofSize size m ≤ ofSize size n
+more-among size m n h g l = omega (arith, counted size m h g, counted size n h g, binomial-mono size m n l)
 
 pub few-triples : (m : ℕ) → m ≤ 200 → ofSize 3 m ≤ 1333333
 few-triples m h =
@@ -57,17 +58,17 @@ twos-by m a b h e f =
 
 -- ## The place at which a subset begins
 
-module _ (k n i : ℕ) (below : i < ofSize k n) where
+module _ (size n k : ℕ) (below : k < ofSize size n) where
   -- below it none begin, and there is a place
-  pub begins-somewhere : (0 < n) × (ofSize k n ≤ i + ofSize k (n - 0))
+  pub begins-somewhere : (0 < n) × (ofSize size n ≤ k + ofSize size (n - 0))
   begins-somewhere = elim (decLt 0 n) [
-    | yes h ↦ let e : n - 0 ≡ n = omega arith in (h, omega (arith, ap (ofSize k) e))
-    | no h ↦ let e : n ≡ 0 = omega arith in absurd (omega (arith, none-among k, ap (ofSize k) e))
+    | yes h ↦ let e : n - 0 ≡ n = omega arith in (h, omega (arith, ap (ofSize size) e))
+    | no h ↦ let e : n ≡ 0 = omega arith in absurd (omega (arith, none-among size, ap (ofSize size) e))
   ]
 
-  -- it is no last place, while those after it begin at i or before
-  pub goes-on : (p : ℕ) → p < n → ofSize k n ≤ i + ofSize k (n - (p + 1)) → p + 1 < n
+  -- it is no last place, while those after it begin at k or before
+  pub goes-on : (p : ℕ) → p < n → ofSize size n ≤ k + ofSize size (n - (p + 1)) → p + 1 < n
   goes-on p h l = elim (decLt (p + 1) n) [
     | yes g ↦ g
-    | no g ↦ let e : n - (p + 1) ≡ 0 = omega arith in absurd (omega (arith, none-among k, ap (ofSize k) e))
+    | no g ↦ let e : n - (p + 1) ≡ 0 = omega arith in absurd (omega (arith, none-among size, ap (ofSize size) e))
   ]

@@ -11,13 +11,13 @@ pub record TripleTable (t : List ℕ) : Type 0 where
   pub entries : length t ≡ 201
   pub rule : (m : ℕ) → m ≤ 200 → 6 * getD t m 0 ≡ m * (m - 1) * (m - 2)
 
--- how many subsets of m places have k
+-- how many subsets of m places have this size
 abbrev pub ofSize : ℕ → ℕ → ℕ
-ofSize k m = howMany k (order (upToThree m))
+ofSize size m = howMany size (order (upToThree m))
 
--- of the subsets of n places that have k, numbered in the published order, that of number i begins at place p: those of the places from p on
--- begin at number i or before, those of the places after p do not
-pub record Begins (k n i p : ℕ) : Type 0 where
+-- of the subsets of n places that have this size, numbered in the published order, that of number k begins at place p: those of the places from p
+-- on begin at number k or before, those of the places after p do not
+pub record Begins (size n k p : ℕ) : Type 0 where
   pub within : p < n
-  pub reached : ofSize k n ≤ i + ofSize k (n - p)
-  pub passed : i + ofSize k (n - (p + 1)) < ofSize k n
+  pub reached : ofSize size n ≤ k + ofSize size (n - p)
+  pub passed : k + ofSize size (n - (p + 1)) < ofSize size n

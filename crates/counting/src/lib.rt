@@ -250,7 +250,7 @@ fn of_size(table: &[u32], size: usize, m: usize) -> usize
 }
 
 // How many subsets of this size of n places begin below place p: all but those of the n − p places from p on.
-pub fn below(table: &[u32], size: usize, n: usize, p: usize) -> usize
+pub fn begin_below(table: &[u32], size: usize, n: usize, p: usize) -> usize
     requires { ⌜ TripleTable (now table) × (2 ≤ size) × (size ≤ 3) × (p ≤ n) × (n ≤ 200) ⌝ }
     ensures { λ r. ⌜ r + ofSize size (n - p) ≡ ofSize size n ⌝ }
 {
@@ -263,7 +263,7 @@ pub fn lowest(table: &[u32], size: usize, n: usize, k: usize) -> usize
     ensures { λ r. ⌜ Begins size n k r ⌝ }
 {
     let mut i: usize = 0;
-    while below(table, size, n, i + 1) <= k {
+    while begin_below(table, size, n, i + 1) <= k {
         i += 1;
     }
     i

@@ -13,7 +13,8 @@ use Rattle.exchange.specs.Published.{Rising, Before, here, there, Precedes, lar
 use Rattle.exchange.specs.Rivals.{Each}
 use Rattle.exchange.proofs.Ordered.{mem-at}
 use Rattle.exchange.proofs.Published.{published}
-use Rattle.cursor.specs.Cursor.{OnSubset, places, placesOf, placesAt, standsAt, numberIn, nextPlaces, subsetAt, BothWays}
+use Rattle.cursor.specs.Cursor.{OnSubset, places, placesOf, placesAt, standsAt, numberIn, nextPlaces, subsetAt}
+use Rattle.cursor.specs.Promises.{BothWays}
 use Rattle.cursor.specs.declared.Places.{Places}
 use Rattle.cursor.proofs.Order.{nextOf, is-subset, follows}
 use Rattle.cursor.proofs.Standing.{stands, range-two, range-triple}
@@ -150,4 +151,4 @@ module _ (n : ℕ) (p : Places) (range : OnSubset n p) where
   places-back = let m = some-number in ap (placesAt (upToThree n)) (sym (m .1 .0)) ∙ sym (placed (m .0) (m .1 .2))
 
 pub both-ways : BothWays
-both-ways n few = record { numberBack = number-at n few; placesBack = places-back n }
+both-ways n few = record { number = number-at n few; places = places-back n }

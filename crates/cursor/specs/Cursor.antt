@@ -5,7 +5,7 @@ use mathlib.Core.Bool.{Bool, false, cond}
 use mathlib.Core.List.{List, [], _∷_}
 use lib.Dec.{eqb, ltb}
 use lib.ListN.{getD}
-use Rattle.exchange.specs.Subsets.{Scope, upToThree, order, subsetCount}
+use Rattle.exchange.specs.Subsets.{Scope, order}
 use Rattle.counting.specs.Counting.{ofSize}
 use Rattle.gates.specs.Secrets.{valueOf}
 use Rattle.gates.specs.declared.SecretPlaces.{SecretPlaces}
@@ -55,19 +55,9 @@ pub record OnSubset (n : ℕ) (p : Places) : Type 0 where
   pub wn : p .w ≤ n
   pub few : n ≤ 200
 
--- ## Numbers without a walk (02, W-203)
-
 -- k is the number of the two u, v among the twos of n places: after those that begin below u, which are all but those of the places from u on, and
 -- after those that begin at u and end before v
 pub record TwoAt (n u v k : ℕ) : Type 0 where
   pub rising : u < v
   pub within : v < n
   pub number : k + ofSize 2 (n - u) ≡ ofSize 2 n + (v - u - 1)
-
--- from places to a number and from a number to places, each undoes the other
-pub record Inverse (n : ℕ) : Type 0 where
-  pub numberBack : (k : ℕ) → k < subsetCount (upToThree n) → numberIn n (order (upToThree n)) (placesAt (upToThree n) k) ≡ k
-  pub placesBack : (p : Places) → OnSubset n p → placesAt (upToThree n) (numberIn n (order (upToThree n)) p) ≡ p
-
-abbrev pub BothWays : Type 0
-BothWays = (n : ℕ) → n ≤ 200 → Inverse n

@@ -1,2 +1,3 @@
--- A cursor over the published order.
+-- A cursor over the published order, and its number.
 pub mod Cursor
+pub mod Promises

@@ -1,5 +1,5 @@
-// The published order of subsets, walked by a cursor and numbered both ways. No lent table is read here: what runs depends on n and the cursor alone, or on
-// n and a number.
+// The published order of subsets, walked by a cursor and numbered both ways. Of tables the constant one of `counting` alone is read: what runs depends on n
+// and the cursor, or on n and a number.
 ghost use mathlib.Core.Path.{_≡_};
 ghost use mathlib.Core.List.{[]};
 ghost use Prim.Native.Nat.{_≤_, _<_};
@@ -82,7 +82,7 @@ fn number_of_two(table: &[u32], n: usize, u: usize, v: usize) -> usize
     requires { ⌜ TripleTable (now table) × (u < v) × (v < n) × (n ≤ 200) ⌝ }
     ensures { λ r. ⌜ TwoAt n u v r ⌝ }
 {
-    counting::below(table, 2, n, u) + (v - u - 1)
+    counting::begin_below(table, 2, n, u) + (v - u - 1)
 }
 
 // The number of the subset at the cursor. The triples that begin at u are in the order of the twos of the places after it; all triples come before the
@@ -103,8 +103,7 @@ pub fn number_of(n: usize, p: Places) -> usize
         return counting::triples(table, n) + number_of_two(table, n, u, v);
     }
     let after = u + 1;
-    let before = counting::below(table, 3, n, u);
-    before + number_of_two(table, n - after, v - after, w - after)
+    counting::begin_below(table, 3, n, u) + number_of_two(table, n - after, v - after, w - after)
 }
 
 // The two of number k among the twos of n places.
@@ -113,7 +112,7 @@ fn two_at(table: &[u32], n: usize, k: usize) -> Places
     ensures { λ r. ⌜ TwoAt n (r .u) (r .v) k × (r .w ≡ n) ⌝ }
 {
     let u = counting::lowest(table, 2, n, k);
-    let before = counting::below(table, 2, n, u);
+    let before = counting::begin_below(table, 2, n, u);
     Places {
         u,
         v: u + 1 + (k - before),
@@ -127,7 +126,7 @@ fn triple_at(table: &[u32], n: usize, k: usize) -> Places
     ensures { λ r. ⌜ r ≡ placesAt (upToThree n) k ⌝ }
 {
     let u = counting::lowest(table, 3, n, k);
-    let before = counting::below(table, 3, n, u);
+    let before = counting::begin_below(table, 3, n, u);
     let after = u + 1;
     let others = two_at(table, n - after, k - before);
     let v = others.u;

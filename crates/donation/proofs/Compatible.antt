@@ -5,7 +5,7 @@ use Prim.Native.Nat.{ℕ, _≤_}
 use native.Mathlib.Omega.{arith}
 use borrow.Author.Tests.{eq-eqb, ne-eqb, eqb-false, not-true}
 use Rattle.laws.specs.Below.{anyBelow, one}
-use Rattle.laws.proofs.Below.{any-none, none-any, true-false}
+use Rattle.laws.proofs.Below.{any-none, none-any, true-false, and-true}
 use Rattle.pool.specs.Pool.{Pair}
 use Rattle.donation.specs.Compatibility.{has, shareBit, compatibility, entries}
 use Rattle.donation.specs.Promises.{OneWhereCompatible}
@@ -28,10 +28,6 @@ one-true : (t : Bool) → one t ≡ 1 → t ≡ true
 unfolding one
 one-true true e = refl
 one-true false e = absurd (omega arith)
-
-and-true : (s t : Bool) → (s && t) ≡ true → (s ≡ true) × (t ≡ true)
-and-true true t e = (refl, e)
-and-true false t e = true-false e refl
 
 never : (s t : Bool) → (s ≡ true → t ≡ true → ⊥) → (s && t) ≡ false
 never true true h = absurd (h refl refl)

@@ -1,6 +1,6 @@
 -- Laws of `specs/Below.antt`. Assumes nothing.
 use mathlib.Core.Path.{_≡_, refl, sym, ap, ap₂, _∙_, subst}
-use mathlib.Core.Bool.{Bool, true, false}
+use mathlib.Core.Bool.{Bool, true, false, _&&_}
 use mathlib.Core.List.{List, [], _∷_, _++_, map, map-append}
 use Prim.Native.Nat.{ℕ, zero, suc, _+_, _-_, _≤_, _<_}
 use native.Mathlib.Nat.{add-zero}
@@ -38,6 +38,11 @@ pub true-false : {A : Type 0} {t : Bool} → t ≡ true → t ≡ false → A
 true-false e f =
     let z : _≡_ {A = ℕ} 0 1 = cc in
     absurd (omega arith)
+
+-- both of two tests
+pub and-true : (s t : Bool) → (s && t) ≡ true → (s ≡ true) × (t ≡ true)
+and-true true t e = (refl, e)
+and-true false t e = true-false e refl
 
 -- ## either
 

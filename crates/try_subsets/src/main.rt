@@ -93,8 +93,9 @@ fn try_one(n: usize, k: usize)
         let back = there_and_back(n, k);
         print(b" back");
         print_number(back);
-    } else {
-        print_places(n, cursor::at(n, count));
+    }
+    if k == count {
+        print_places(n, cursor::at(n, k));
     }
     print(b"\n");
 }

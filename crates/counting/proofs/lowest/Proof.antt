@@ -21,13 +21,13 @@ loop-again c =
     let at-loop = c .before .before in
     let start = at-loop .before .before in
     let reached : ofSize (start .args .size) (start .args .n) ≤ start .args .k + ofSize (start .args .size) (start .args .n - (at-loop .loop .i + 1)) =
-    omega (arith, c .before .below .ensures, c .if1 .taken) in
+    omega (arith, c .before .begin-below .ensures, c .if1 .taken) in
     (goes-on _ _ _ (start .pre .4) (at-loop .loop .i) (at-loop .loop .inv .0) reached, reached)
 
 returns : tie.Need-returns Inv-loop μ-loop
 returns c =
     let at-loop = c .before .before in
-    record { within = at-loop .loop .inv .0; reached = at-loop .loop .inv .1; passed = omega (arith, c .before .below .ensures, c .if1 .left) }
+    record { within = at-loop .loop .inv .0; reached = at-loop .loop .inv .1; passed = omega (arith, c .before .begin-below .ensures, c .if1 .left) }
 
 pub lowest-spec : {M : Type 1} → statement M
 lowest-spec =

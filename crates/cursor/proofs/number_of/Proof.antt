@@ -25,7 +25,7 @@ returns-2 : tie.Need-returns-2
 returns-2 c =
     let else1 = c .before .before in
     let start = else1 .before .before .before in
-    triple-numbered _ _ (start .pre) _ _ (else1 .if1 .left) (c .before .below .ensures) (c .number-of-two2 .ensures)
+    triple-numbered _ _ (start .pre) _ _ (else1 .if1 .left) (c .before .begin-below .ensures) (c .number-of-two2 .ensures)
 
 add-result-2 : tie.Need-add-result-2
 add-result-2 c =

@@ -7,7 +7,7 @@ use Rattle.cursor.proofs.two_at.Statement.{statement}
 use Rattle.cursor.proofs.two_at.Tie as tie
 
 returns : tie.Need-returns
-returns c = (two-begun _ _ _ _ (c .before .lowest .ensures) (c .below .ensures), refl)
+returns c = (two-begun _ _ _ _ (c .before .lowest .ensures) (c .begin-below .ensures), refl)
 
 add-t8 : tie.Need-add-t8
 add-t8 c = record { fits = omega (arith, c .before .before .before .pre .1, returns c .0 .within) }

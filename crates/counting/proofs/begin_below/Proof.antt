@@ -1,10 +1,10 @@
--- `counting::below` meets its contract. Assumes nothing.
+-- `counting::begin_below` meets its contract. Assumes nothing.
 use Prim.Native.Nat.{_-_}
 use native.Mathlib.Omega.{arith}
 use borrow.Author.Needs.{needs}
 use Rattle.counting.proofs.Sized.{more-among}
-use Rattle.counting.proofs.below.Statement.{statement}
-use Rattle.counting.proofs.below.Tie as tie
+use Rattle.counting.proofs.begin_below.Statement.{statement}
+use Rattle.counting.proofs.begin_below.Tie as tie
 
 sub-result : tie.Need-sub-result
 sub-result c =
@@ -14,5 +14,5 @@ sub-result c =
 returns : tie.Need-returns
 returns c = omega (arith, c .before .of-size .ensures, c .of-size2 .ensures, sub-result c)
 
-pub below-spec : {M : Type 1} → statement M
-below-spec = tie.close (tie.spec (λ c κs. search needs) (λ c. search needs) (λ c κs. search needs) sub-result returns)
+pub begin-below-spec : {M : Type 1} → statement M
+begin-below-spec = tie.close (tie.spec (λ c κs. search needs) (λ c. search needs) (λ c κs. search needs) sub-result returns)
