@@ -1,5 +1,6 @@
 """The sources are in the formatter's layout (rt fmt --check), and no file names a path of a machine. No line of a contract has more than 150 characters,
-and no line of a definition or of a proof by hand more than 250. Where subsets are counted and numbered, nothing is divided."""
+and no line of a definition or of a proof by hand more than 250. Where subsets are counted and numbered, nothing is divided,
+and nothing walks."""
 import pathlib
 import re
 import subprocess
@@ -51,7 +52,7 @@ for file in sorted((top / 'crates').rglob('*.antt')):
 
 # "T and each triple's number come from it without dividing" (02, W-203): a contract can't say how. No division stands where subsets are counted and
 # numbered, and elsewhere in planning none but by 2; the counts have one loop, which searches for a place, and the cursor has none and never goes on by
-# itself, so that no number is found by a walk.
+# itself, nor does a function of theirs call itself, so that no number is found by a walk.
 planning = 'gates', 'entries', 'evaluation', 'choosing', 'clearing', 'rounds', 'resolution', 'validation', 'planner', 'buffers'
 code = {crate: re.sub(r'//.*', '', (top / 'crates' / crate / 'src/lib.rt').read_text()) for crate in ('counting', 'cursor', *planning)}
 for crate, text in code.items():
@@ -61,5 +62,9 @@ loops = {crate: re.findall(r'\b(?:while|for|loop)\b.*', code[crate]) for crate i
 check(loops == {'counting': ['while begin_below(table, size, n, i + 1) <= k {'], 'cursor': []}, f'counting and cursor have the loops {loops}')
 walks = re.findall(r'(?<!fn )\b(?:first|next)\(', code['cursor'])
 check(not walks, f'cursor walks: {walks}')
+for crate in 'counting', 'cursor':
+    for function in re.split(r'^(?:pub )?fn ', code[crate], flags=re.M)[1:]:
+        name = function.partition('(')[0]
+        check(len(re.findall(rf'(?<![\w:]){name}\(', function)) == 1, f'{crate}: {name} calls itself')
 
 close()
