@@ -82,8 +82,8 @@ def try_triple():
     high = 1 << 63
     alike = [0, 3, 0, 1], [high + 1, high, 0]
     pairs = [(7, [1, 2, 1, 0], [high, 2, 0]), (300, *alike), (10, *alike), (100, [0, 3, 0, 0], [0, 0, high])]
-    other = 'PLAN 4 1 3880\n7 10 300\n300 7 10\n10 300 7\n100 - -\nCOUNTS 24 162 2\n'
-    expect('a triple', sheet_of(pairs, [1, 3, 0, 2]), 'PLAN 4 1 3880\n7 300 10\n300 10 7\n10 7 300\n100 - -\nCOUNTS 24 162 2\n')
+    other = 'PLAN 4 1 4030\n7 10 300\n300 7 10\n10 300 7\n100 - -\nCOUNTS 24 162 2\n'
+    expect('a triple', sheet_of(pairs, [1, 3, 0, 2]), 'PLAN 4 1 4030\n7 300 10\n300 10 7\n10 7 300\n100 - -\nCOUNTS 24 162 2\n')
     for shuffle in ([0, 1, 2, 3], [2, 0, 3, 1]):
         expect(f'the same with the shuffle {shuffle}', sheet_of(pairs, shuffle), other)
 

@@ -48,6 +48,40 @@ fn a_pool_is_what_it_was_made_of() {
 }
 
 #[test]
+fn a_mismatch_is_a_donor_antigen_that_the_patient_does_not_have() {
+    // A senior donor's giving to a young patient.
+    let weight = |donor_antigens, patient_antigens| {
+        let donor = Pair {
+            donor_antigens,
+            ..pair(1)
+        };
+        let patient = Pair {
+            patient_antigens,
+            ..pair(2)
+        };
+        let pool = Pool::new(&[donor, patient], &[0, 1]).expect("a sound pool");
+        pool.tables().weights()[1]
+    };
+    let weighed = [
+        (0, 1_400),
+        (0b1, 1_250),
+        (0b11, 1_250),
+        (0b111, 1_100),
+        (0b1111, 1_100),
+        (0b11111, 1_000),
+        (u64::MAX, 1_000),
+        (1 << 63, 1_250),
+    ];
+    for (lacking, expected) in weighed {
+        assert_eq!(weight(lacking, 0), expected);
+        // What only the patient has does not count.
+        assert_eq!(weight(lacking, !lacking), expected);
+        assert_eq!(weight(0, lacking), 1_400);
+        assert_eq!(weight(lacking, lacking), 1_400);
+    }
+}
+
+#[test]
 fn a_faulty_pool_is_not_made() {
     let two = [pair(7), pair(8)];
     let made = |shuffle: &[u16]| Pool::new(&two, shuffle).map(|pool| pool.len());
@@ -242,11 +276,11 @@ fn a_floor_cuts_a_plan_off() {
 #[test]
 fn the_eight_pairs_of_the_examples_with_floors() {
     let pool = Pool::read(include_bytes!("../../examples/eight.sheet")).expect("a sheet");
-    assert_eq!(pool.plan().weight(), 5_250);
+    assert_eq!(pool.plan().weight(), 5_450);
     let plan = pool.plan_above(2_700).expect("a plan");
     assert_eq!(
         (plan.weight(), plan.choices()),
-        (3_150, &[6, 84, 84, 84][..])
+        (3_250, &[6, 84, 84, 84][..])
     );
     let none = pool.plan_above(4_000).expect("a plan");
     assert_eq!((none.weight(), none.choices()), (0, &[84; 4][..]));

@@ -22,6 +22,7 @@
 //! |----------------|----------------------------------------------------|
 //! | [`mod@join`]   | W-201: late registrations join the sheet           |
 //! | [`planner`]    | W-202: a floor below which nobody travels          |
+//! | [`tables`]     | W-204: the laboratories' new mismatch rule         |
 //!
 //! Beside the planner by rounds stand four others:
 //!

@@ -106,10 +106,20 @@ fn compatible(fields: Fields<'_>, donor: usize, patient: usize) -> bool {
 
 /// Base, mismatch and age points together.
 fn weight(fields: Fields<'_>, donor: usize, patient: usize) -> u16 {
-    let differing = fields.donor_antigens[donor] ^ fields.patient_antigens[patient];
+    let mismatches = mismatches(
+        fields.donor_antigens[donor],
+        fields.patient_antigens[patient],
+    );
     points::BASE
-        + mismatch_points(differing.count_ones())
+        + mismatch_points(mismatches)
         + age_points(fields.donor_ages[donor], fields.patient_ages[patient])
+}
+
+/// How many antigens of the donor the patient does not have. What only the
+/// patient has does not count.
+fn mismatches(donor: u64, patient: u64) -> u32 {
+    let shared = donor & patient;
+    donor.count_ones() - shared.count_ones()
 }
 
 fn mismatch_points(mismatches: u32) -> u16 {
@@ -134,6 +144,7 @@ fn age_points(donor: u8, patient: u8) -> u16 {
 mod tests {
     use super::*;
     use crate::pool::Pool;
+    use crate::random::{self, PoolKind, Random};
 
     /// Two pairs; the first donor and the second patient as given.
     fn edge(donor_antigens: u64, patient_antigens: u64, ages: (u8, u8)) -> u16 {
@@ -159,12 +170,62 @@ mod tests {
         assert_eq!(edge(0b101, 0b101, (0, 0)), 1_450);
         assert_eq!(edge(0b101, 0b101, (1, 1)), 1_450);
         assert_eq!(edge(0b11, 0b00, (0, 0)), 1_300);
-        assert_eq!(edge(0b100, 0b11, (0, 1)), 1_130);
-        assert_eq!(edge(0b1100, 0b11, (0, 1)), 1_130);
+        assert_eq!(edge(0b111, 0b00, (0, 1)), 1_130);
+        assert_eq!(edge(0b1111, 0b00, (0, 1)), 1_130);
         assert_eq!(edge(0b11111, 0, (1, 0)), 1_000);
         // and between them
+        assert_eq!(edge(1, 0, (0, 0)), 1_300);
         assert_eq!(edge(1 << 63, 0, (1, 0)), 1_250);
         assert_eq!(edge(u64::MAX, 0, (1, 1)), 1_050);
+    }
+
+    #[test]
+    fn what_only_the_patient_has_does_not_count() {
+        for ages in [(0, 0), (0, 1), (1, 0), (1, 1)] {
+            for donor in [0, 1, 0b11, 0b111, 0b1111, 0b11111, 1 << 63, u64::MAX] {
+                for patient in [0, 1, 0b101, donor, 1 << 63] {
+                    let weight = edge(donor, patient, ages);
+                    for other in [1, 0b110, 0x1F << 40, 1 << 63, u64::MAX] {
+                        assert_eq!(edge(donor, patient | other & !donor, ages), weight);
+                    }
+                }
+            }
+        }
+        // Five of the patient's alone, and none of the donor's.
+        assert_eq!(edge(0, 0b11111, (1, 0)), 1_400);
+        assert_eq!(edge(0, u64::MAX, (0, 0)), 1_450);
+    }
+
+    #[test]
+    fn mismatches_entry_by_entry() {
+        let mut random = Random::new(204);
+        for _ in 0..1_000 {
+            let (donor, patient) = (random.bits(), random.bits());
+            let has = |word: u64, entry: u32| word >> entry & 1 == 1;
+            let listed = (0..64).filter(|&k| has(donor, k) && !has(patient, k));
+            assert_eq!(mismatches(donor, patient) as usize, listed.count());
+        }
+    }
+
+    #[test]
+    fn another_rule_would_show_in_random_pools() {
+        let mut random = Random::new(205);
+        for kind in [PoolKind::Dense, PoolKind::Sparse] {
+            let pool = random::pool(&mut random, 20, kind);
+            let couples = pool.donor_antigens.iter().flat_map(|&donor| {
+                let patients = pool.patient_antigens.iter();
+                patients.map(move |&patient| (donor, patient))
+            });
+            let told_apart = |count: fn(u64, u64) -> u32| {
+                let points = |(donor, patient)| mismatch_points(count(donor, patient));
+                let right = |(donor, patient)| mismatch_points(mismatches(donor, patient));
+                couples.clone().filter(|&c| points(c) != right(c)).count()
+            };
+            // Both sides, as it was once; the patient's; all of the donor's.
+            assert!(told_apart(|donor, patient| (donor ^ patient).count_ones()) > 40);
+            assert!(told_apart(|donor, patient| mismatches(patient, donor)) > 40);
+            assert!(told_apart(|donor, _| donor.count_ones()) > 40);
+        }
     }
 
     #[test]

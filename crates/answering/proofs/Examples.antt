@@ -1,6 +1,5 @@
 -- Sheets and their answers, computed. Assumes nothing.
 use mathlib.Core.Path.{refl}
-use mathlib.Core.Bool.{xor}
 use mathlib.Core.List.{flatMap, flatten}
 use Rattle.laws.specs.Below.{table, either, anyBelow, countBelow, one}
 use Rattle.laws.specs.Digits.{bigEndian}
@@ -28,7 +27,7 @@ unfolding answerText orRefusal printedPlanOf planBy planText pairLines pairLine 
     pairFieldFault shuffleFieldFault endFault sheetFault roomFault bloodTable suits has shareBit compatibility documentPoints mismatches
     mismatchPoints agePoints weight among meets raise nextRound join byHalves choosing clear clearingTally rounds ascending subsets eachFirst orders
     cycles along edges productOf sumOf weigh firstOf heaviest pairsAt bestCycle subsetWeight evaluationTally resolved recipientBy donorBy
-    recipientTable donorTable total leftBy plannedBy planFrom xor
+    recipientTable donorTable total leftBy plannedBy planFrom
 example-answered = refl
 
 pub triple-answered : TripleAnswered
@@ -37,5 +36,5 @@ unfolding answerText orRefusal printedPlanOf planBy planText pairLines pairLine 
     pairFieldFault shuffleFieldFault endFault sheetFault roomFault bloodTable suits has shareBit compatibility documentPoints mismatches
     mismatchPoints agePoints weight among meets raise nextRound join byHalves choosing clear clearingTally rounds ascending subsets eachFirst orders
     cycles along edges productOf sumOf weigh firstOf heaviest pairsAt bestCycle subsetWeight evaluationTally resolved recipientBy donorBy
-    recipientTable donorTable total leftBy plannedBy planFrom xor
+    recipientTable donorTable total leftBy plannedBy planFrom
 triple-answered = refl

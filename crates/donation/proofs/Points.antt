@@ -1,6 +1,6 @@
 -- The points, for any values that they have. Assumes nothing.
-use mathlib.Core.Path.{_≡_, refl}
-use mathlib.Core.Bool.{Bool, true, false, _&&_, xor, cond}
+use mathlib.Core.Path.{_≡_, refl, sym, ap, ap₂, _∙_}
+use mathlib.Core.Bool.{Bool, true, false, _&&_, cond}
 use Prim.Native.Nat.{ℕ, _+_, _≤_, _<_}
 use native.Mathlib.Omega.{arith}
 use borrow.Author.Tests.{eq-eqb, ne-eqb}
@@ -8,8 +8,9 @@ use lib.Dec.{lit<, eqb, leb}
 use Rattle.laws.specs.Below.{countBelow, one}
 use Rattle.pool.specs.Pool.{Pair}
 use Rattle.donation.specs.Compatibility.{has}
-use Rattle.donation.specs.Promises.{EdgeExamples}
+use Rattle.donation.specs.Promises.{Covered, SameOf, EdgeExamples, PatientsOwnExamples}
 use Rattle.donation.specs.Weight.{Points, documentPoints, young, senior, mismatches, mismatchPoints, agePoints, weight}
+use Rattle.donation.proofs.Mismatched.{one-sided, mismatches-counted}
 
 cond-most : (most : ℕ) (t : Bool) (x y : ℕ) → x ≤ most → y ≤ most → cond t x y ≤ most
 cond-most most true x y h k = h
@@ -44,10 +45,11 @@ module _ (points : Points) (pair : ℕ → Pair) (i j : ℕ) where
   unfolding weight
   weight-same e = rw (eq-eqb i j e)
 
+  abbrev apart : ℕ
+  apart = mismatches (pair i .donorAntigens) (pair j .patientAntigens)
+
   weight-other : (i ≡ j → ⊥) → weight points pair i j
-      ≡ points .base
-      + mismatchPoints points (mismatches (pair i .donorAntigens) (pair j .patientAntigens))
-      + agePoints points (pair i .donorAge) (pair j .patientAge)
+      ≡ points .base + mismatchPoints points apart + agePoints points (pair i .donorAge) (pair j .patientAge)
   unfolding weight
   weight-other h = rw (ne-eqb i j h)
 
@@ -57,8 +59,24 @@ module _ (points : Points) (pair : ℕ → Pair) (i j : ℕ) where
   pub weight-most : (mismatch age : ℕ) → ((count : ℕ) → mismatchPoints points count ≤ mismatch) → ((d p : ℕ) → agePoints points d p ≤ age)
       → (i ≡ j → ⊥) → weight points pair i j ≤ points .base + mismatch + age
   weight-most mismatch age m a h =
-      rw (weight-other h)
-      (omega (arith, m (mismatches (pair i .donorAntigens) (pair j .patientAntigens)), a (pair i .donorAge) (pair j .patientAge)))
+      rw (weight-other h) (omega (arith, m apart, a (pair i .donorAge) (pair j .patientAge)))
+
+module _ (points : Points) (pair : ℕ → Pair) (i : ℕ) where
+  pub weight-alike : (j k : ℕ) → (i ≡ j → ⊥) → (i ≡ k → ⊥)
+      → SameOf (pair i .donorAntigens) (pair j .patientAntigens) (pair k .patientAntigens)
+      → pair j .patientAge ≡ pair k .patientAge → weight points pair i j ≡ weight points pair i k
+  weight-alike j k h g s e =
+      weight-other points pair i j h
+      ∙ ap₂ (λ (count age : ℕ). points .base + mismatchPoints points count + agePoints points (pair i .donorAge) age) (one-sided _ _ _ s) e
+      ∙ sym (weight-other points pair i k g)
+
+  pub weight-covered : (j : ℕ) → (i ≡ j → ⊥) → Covered (pair i .donorAntigens) (pair j .patientAntigens)
+      → weight points pair i j ≡ points .base + points .noMismatch + agePoints points (pair i .donorAge) (pair j .patientAge)
+  unfolding mismatchPoints
+  weight-covered j h c =
+      weight-other points pair i j h
+      ∙ ap (λ (count : ℕ). points .base + mismatchPoints points count + agePoints points (pair i .donorAge) (pair j .patientAge))
+      (mismatches-counted .none _ _ .1 c)
 
 -- document 01's: 1,000 to 1,450
 module _ (pair : ℕ → Pair) (i j : ℕ) (h : i ≡ j → ⊥) where
@@ -72,7 +90,11 @@ pub document-some : 0 < documentPoints .base
 unfolding documentPoints
 document-some = lit< tt
 
--- document 01's edge examples, computed
+-- the documents' edge examples, computed
 pub edge-examples : EdgeExamples
-unfolding weight documentPoints mismatches mismatchPoints agePoints has countBelow one xor
+unfolding weight documentPoints mismatches mismatchPoints agePoints has countBelow one
 edge-examples = refl
+
+pub patients-own-examples : PatientsOwnExamples
+unfolding weight documentPoints mismatches mismatchPoints agePoints has countBelow one
+patients-own-examples = refl

@@ -1,14 +1,14 @@
--- What M means, said a second time, and document 01's examples of W, as statements: the proofs are in `proofs/Blood`, `proofs/Compatible` and
--- `proofs/Points`. Assumes nothing.
-use Prim.Native.Nat.{ℕ, _≤_, _<_}
+-- What M and a mismatch mean, said a second time, and the documents' examples of W, as statements: the proofs are in `proofs/Blood`,
+-- `proofs/Compatible`, `proofs/Mismatched` and `proofs/Points`. Assumes nothing.
+use Prim.Native.Nat.{ℕ, _+_, _≤_, _<_}
 use mathlib.Core.Path.{_≡_}
-use mathlib.Core.Bool.{Bool, true, _&&_, _||_}
+use mathlib.Core.Bool.{Bool, true, false, _&&_, _||_}
 use mathlib.Core.Logic.{_↔_}
-use mathlib.Core.List.{[], _∷_, map}
+use mathlib.Core.List.{List, [], _∷_, map}
 use lib.Dec.{eqb}
 use Rattle.pool.specs.Pool.{Pair}
 use Rattle.donation.specs.Compatibility.{suits, entries, has, compatibility}
-use Rattle.donation.specs.Weight.{documentPoints, weight}
+use Rattle.donation.specs.Weight.{documentPoints, mismatches, weight}
 
 -- ## Blood, in words
 
@@ -48,7 +48,41 @@ pub record Compatible (pair : ℕ → Pair) (i j : ℕ) : Type 0 where
 abbrev pub OneWhereCompatible : Type 0
 OneWhereCompatible = (pair : ℕ → Pair) (i j : ℕ) → (compatibility pair i j ≡ 1) ↔ Compatible pair i j
 
--- ## W: document 01's edge examples
+-- ## Mismatches: document 02, W-204
+
+-- every antigen of the donor's is the patient's
+abbrev pub Covered : ℕ → ℕ → Type 0
+Covered donor patient = (k : ℕ) → k < entries → has donor k ≡ true → has patient k ≡ true
+
+-- of the donor's antigens two patients have the same, whatever else each has
+abbrev pub SameOf : ℕ → ℕ → ℕ → Type 0
+SameOf donor p q = (k : ℕ) → k < entries → has donor k ≡ true → has p k ≡ has q k
+
+-- "A patient antigen missing in the donor no longer counts"
+abbrev pub OneSided : Type 0
+OneSided = (donor p q : ℕ) → SameOf donor p q → mismatches donor p ≡ mismatches donor q
+
+-- "a mismatch is a donor antigen that the patient does not have", with no sum over the list: there is none just where the patient has all of the donor's,
+-- and where p lacks a donor antigen k that q has, and of the donor's others they have the same, p has one more than q
+pub record CountsMismatches (count : ℕ → ℕ → ℕ) : Type 0 where
+  pub none : (donor patient : ℕ) → (count donor patient ≡ 0) ↔ Covered donor patient
+  pub each : (donor p q k : ℕ) → k < entries → has donor k ≡ true → has p k ≡ false → has q k ≡ true
+      → ((j : ℕ) → j < entries → (j ≡ k → ⊥) → has donor j ≡ true → has p j ≡ has q j) → count donor p ≡ count donor q + 1
+
+-- `mismatches` is such a count, and there is no other
+abbrev pub MismatchesCounted : Type 0
+MismatchesCounted = CountsMismatches mismatches
+
+abbrev pub NoOtherCount : Type 0
+NoOtherCount = (count : ℕ → ℕ → ℕ) → CountsMismatches count → (donor patient : ℕ) → count donor patient ≡ mismatches donor patient
+
+-- an antigen of the donor's alone, one of the patient's alone, three of the donor's of which the patient has one; the list's last entry; all of it
+abbrev pub MismatchesComeOut : Type 0
+MismatchesComeOut =
+    mismatches 1 0 ∷ mismatches 0 1 ∷ mismatches 7 2 ∷ mismatches 9223372036854775808 0 ∷ mismatches 18446744073709551615 0 ∷ []
+    ≡ 1 ∷ 0 ∷ 2 ∷ 1 ∷ 64 ∷ []
+
+-- ## W: the documents' edge examples
 
 -- a donor and a patient
 pub record Couple : Type 0 where
@@ -74,9 +108,19 @@ coupled c i =
       patientAntibodies = 0;
     }
 
--- "Age group: 0 young, 1 senior"; "0 mismatches, equal ages 1,450; 2 give 1,300; 3, young to senior 1,130; 4, the same 1,130; 5, senior to young 1,000"
+-- what each weighs
+abbrev pub weights : List Couple → List ℕ
+weights l = map (λ (c : Couple). weight documentPoints (coupled c) 0 1) l
+
+-- "Age group: 0 young, 1 senior"; "0 mismatches, equal ages 1,450; 2 give 1,300; 3, young to senior 1,130; 4, the same 1,130; 5, senior to young 1,000",
+-- "read with the mismatches all on the donor's side"
 abbrev pub EdgeExamples : Type 0
 EdgeExamples =
-    map (λ (c : Couple). weight documentPoints (coupled c) 0 1)
-    (couple 7 0 7 0 ∷ couple 3 1 0 1 ∷ couple 7 0 0 1 ∷ couple 15 0 0 1 ∷ couple 31 1 0 0 ∷ [])
+    weights (couple 7 0 7 0 ∷ couple 3 1 0 1 ∷ couple 7 0 0 1 ∷ couple 15 0 0 1 ∷ couple 31 1 0 0 ∷ [])
     ≡ 1450 ∷ 1300 ∷ 1130 ∷ 1130 ∷ 1000 ∷ []
+
+-- the same with antigens of the patient's alone; then five of these and none of the donor's
+abbrev pub PatientsOwnExamples : Type 0
+PatientsOwnExamples =
+    weights (couple 7 0 31 0 ∷ couple 3 1 4 1 ∷ couple 7 0 24 1 ∷ couple 15 0 240 1 ∷ couple 31 1 18446744073709551584 0 ∷ couple 0 1 31 0 ∷ [])
+    ≡ 1450 ∷ 1300 ∷ 1130 ∷ 1130 ∷ 1000 ∷ 1400 ∷ []

@@ -1,6 +1,6 @@
 -- "Compatibility and weight": W. Assumes nothing.
 use Prim.Native.Nat.{ℕ, _+_}
-use mathlib.Core.Bool.{_&&_, xor, cond}
+use mathlib.Core.Bool.{not, _&&_, cond}
 use lib.Dec.{eqb, leb}
 use Rattle.laws.specs.Below.{countBelow}
 use Rattle.pool.specs.Pool.{Pair}
@@ -38,11 +38,11 @@ noPoints = 0
 
 -- ## Mismatches
 
--- "Mismatches are the bits in which donor i's and patient j's antigens differ"
+-- document 02, W-204: "in every table built a mismatch is a donor antigen that the patient does not have"; 01's count of both sides gave way to it
 unfoldable pub mismatches : ℕ → ℕ → ℕ
-mismatches donor patient = countBelow entries (λ k. xor (has donor k) (has patient k))
+mismatches donor patient = countBelow entries (λ k. has donor k && not (has patient k))
 
--- "0 gives 400, 1 or 2 gives 250, 3 or 4 gives 100, more gives 0"
+-- "0 gives 400, 1 or 2 gives 250, 3 or 4 gives 100, more gives 0"; "The point steps remain"
 unfoldable pub mismatchPoints : Points → ℕ → ℕ
 mismatchPoints points count =
     cond (eqb count 0) (points .noMismatch)

@@ -1,4 +1,4 @@
-// Compatibility and weight (document 01) of one donor and one patient: an entry of M and of W.
+// Compatibility and weight (document 01, with 02's mismatches) of one donor and one patient: an entry of M and of W.
 ghost use mathlib.Core.Path.{_≡_};
 ghost use mathlib.Core.Bool.{not, _&&_, cond};
 ghost use Prim.Native.Nat.{_+_, _≤_};
@@ -57,11 +57,11 @@ fn share_bit(v: u64, w: u64) -> bool
     v & w != 0
 }
 
-// The bits in which two words differ.
+// The donor's antigens that the patient does not have, counted.
 fn mismatches(donor: u64, patient: u64) -> u32
     ensures { λ r. ⌜ r ≡ mismatches donor patient ⌝ }
 {
-    u64::count_ones(donor ^ patient)
+    u64::count_ones(donor & !patient)
 }
 
 fn mismatch_points(count: u32) -> u16

@@ -1,4 +1,4 @@
-// Pairs to try, and the tables that building makes of them: document 01's edge examples, every two blood groups, antibodies at both ends of the
+// Pairs to try, and the tables that building makes of them: the documents' edge examples, every two blood groups, antibodies at both ends of the
 // laboratory's list, the limits, and each refusal. What it prints is held to the file 'stdout'. Every lent entry holds 99 before a call, and the
 // first one past the filled part is printed too.
 use refusal::Refusal;
@@ -155,18 +155,65 @@ fn try_edge(name: &[u8], edge: Edge) {
     try_pairs(name, 2, 2, edge, 5, 5);
 }
 
-// "0 mismatches, equal ages 1,450; 2 give 1,300; 3, young to senior 1,130; 4, the same 1,130; 5, senior to young 1,000", and the steps' other edges.
+// "0 mismatches, equal ages 1,450; 2 give 1,300; 3, young to senior 1,130; 4, the same 1,130; 5, senior to young 1,000", "read with the mismatches all
+// on the donor's side", and the steps' other edges.
 fn try_edges() {
-    try_edge(b"0 mismatches, equal ages:", weighed(0, 0, 5, 5));
+    try_edge(b"0 mismatches, equal ages:", weighed(0, 0, 0, 0));
     try_edge(b"0 mismatches, both senior:", weighed(1, 1, 5, 5));
     try_edge(b"1 mismatch, equal ages:", weighed(0, 0, 5, 4));
-    try_edge(b"2 mismatches, equal ages:", weighed(0, 0, 6, 5));
+    try_edge(b"2 mismatches, equal ages:", weighed(0, 0, 3, 0));
     try_edge(b"3 mismatches, young to senior:", weighed(0, 1, 7, 0));
-    try_edge(b"4 mismatches, young to senior:", weighed(0, 1, 12, 3));
-    try_edge(b"5 mismatches, senior to young:", weighed(1, 0, 0, 31));
+    try_edge(b"4 mismatches, young to senior:", weighed(0, 1, 15, 0));
+    try_edge(b"5 mismatches, senior to young:", weighed(1, 0, 31, 0));
     try_edge(
         b"64 mismatches, equal ages:",
         weighed(0, 0, 18446744073709551615, 0),
+    );
+}
+
+// "A patient antigen missing in the donor no longer counts": the same with some of these, which change nothing, and with nothing else.
+fn try_patients_own() {
+    try_edge(
+        b"0 mismatches, 64 of the patient's alone:",
+        weighed(0, 0, 0, 18446744073709551615),
+    );
+    try_edge(
+        b"1 mismatch, 2 of the patient's alone:",
+        weighed(0, 0, 4, 3),
+    );
+    try_edge(
+        b"2 mismatches, 1 of the patient's alone:",
+        weighed(0, 0, 3, 4),
+    );
+    try_edge(
+        b"3 mismatches, 2 of the patient's alone:",
+        weighed(0, 1, 7, 24),
+    );
+    try_edge(
+        b"4 mismatches, 2 of the patient's alone:",
+        weighed(0, 1, 60, 3),
+    );
+    try_edge(
+        b"5 mismatches, 59 of the patient's alone:",
+        weighed(1, 0, 31, 18446744073709551584),
+    );
+    try_edge(
+        b"0 mismatches, 5 of the patient's alone:",
+        weighed(1, 0, 0, 31),
+    );
+}
+
+// The first and the last entry of the laboratory's list, on either side.
+fn try_ends() {
+    try_edge(b"the donor's entry 0:", weighed(0, 0, 1, 0));
+    try_edge(b"the patient's entry 0:", weighed(0, 0, 0, 1));
+    try_edge(
+        b"the donor's entry 63:",
+        weighed(0, 0, 9223372036854775808, 0),
+    );
+    try_edge(
+        b"the patient's entry 63:",
+        weighed(0, 0, 0, 9223372036854775808),
     );
 }
 
@@ -280,6 +327,8 @@ fn try_most() {
 
 fn main() {
     try_edges();
+    try_patients_own();
+    try_ends();
     try_bloods();
     try_antibodies();
     try_refusals();

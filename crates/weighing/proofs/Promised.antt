@@ -18,9 +18,9 @@ use Rattle.weighing.specs.Building.{buildFault, building}
 use Rattle.weighing.specs.Answers.{answerOf}
 use Rattle.graph.specs.Preconditions.{Buildable}
 use Rattle.weighing.specs.declared.Building.the-variants.{Built, Refused}
-use Rattle.weighing.specs.Promises.{entryAt, Entries, Plannable, BuildsRightly}
+use Rattle.weighing.specs.Promises.{entryAt, Entries, DonorsSide, Plannable, BuildsRightly}
 use Rattle.donation.proofs.Compatible.{compatibility-most, compatibility-same}
-use Rattle.donation.proofs.Points.{weight-same, document-least, document-most, document-some}
+use Rattle.donation.proofs.Points.{weight-same, weight-alike, weight-covered, document-least, document-most, document-some}
 use Rattle.graph.proofs.Rows.{rows-entry}
 use Rattle.weighing.proofs.Faults.{build-none, build-passed, build-fault}
 
@@ -30,6 +30,15 @@ module _ (n : ℕ) (f : Fields) (old : Graph) where
   filled-entries : Entries n f (filledGraph documentPoints n (pairIn f) old)
   unfolding filledGraph
   filled-entries = record { compatibilities = rows-entry n (compatibility (pairIn f)) _; weights = rows-entry n (weight documentPoints (pairIn f)) _ }
+
+  entries-donorsSide : (g : Graph) → Entries n f g → DonorsSide n f g
+  entries-donorsSide g e =
+      let p = pairIn f in
+      let W = e .weights in
+      record {
+        alike = λ i j k l m q a b s t. W i j l m ∙ weight-alike documentPoints p i j k a b s t ∙ sym (W i k l q);
+        covered = λ i j l m a c. W i j l m ∙ weight-covered documentPoints p i j a c;
+      }
 
   entries-plannable : (g : Graph) → Entries n f g → Plannable n g
   entries-plannable g e =
@@ -68,6 +77,7 @@ module _ (n : ℕ) (f : Fields) (old : Graph) where
             let d = build-fault n f old k o g in
             (d .0, d .1, ap (λ (x : Outcome (Unit {0}) Graph). x .lent) (unless-fault _ _ _ _ k o g));
         built = there;
+        donorsSide = λ e. entries-donorsSide _ (there e);
         plannable = λ e. entries-plannable _ (there e);
       }
 

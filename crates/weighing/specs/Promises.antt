@@ -7,7 +7,8 @@ use Rattle.refusal.specs.Answer.{finished, refused, Outcome}
 use Rattle.pool.specs.Tables.{Fields, pairIn}
 use Rattle.pool.specs.Faultless.{InRange, Unlike, FieldsHold, PairsFault}
 use Rattle.donation.specs.Compatibility.{compatibility}
-use Rattle.donation.specs.Weight.{documentPoints, weight}
+use Rattle.donation.specs.Weight.{documentPoints, agePoints, weight}
+use Rattle.donation.specs.Promises.{Covered, SameOf}
 use Rattle.graph.specs.Graph.{Graph}
 
 -- ## What has none of the faults, and what each fault is, said without building
@@ -40,6 +41,16 @@ pub record Entries (n : ℕ) (f : Fields) (g : Graph) : Type 0 where
   pub compatibilities : (i j : ℕ) → i < n → j < n → entryAt (g .compatibilities) n i j ≡ compatibility (pairIn f) i j
   pub weights : (i j : ℕ) → i < n → j < n → entryAt (g .weights) n i j ≡ weight documentPoints (pairIn f) i j
 
+-- document 02's mismatches, in the table itself: in donor i's row, patients of one age group who have the same of donor i's antigens weigh the same,
+-- whatever else they have; and a patient who has all of them has the points of no mismatch
+pub record DonorsSide (n : ℕ) (f : Fields) (g : Graph) : Type 0 where
+  pub alike : (i j k : ℕ) → i < n → j < n → k < n → (i ≡ j → ⊥) → (i ≡ k → ⊥)
+      → SameOf (pairIn f i .donorAntigens) (pairIn f j .patientAntigens) (pairIn f k .patientAntigens)
+      → pairIn f j .patientAge ≡ pairIn f k .patientAge → entryAt (g .weights) n i j ≡ entryAt (g .weights) n i k
+  pub covered : (i j : ℕ) → i < n → j < n → (i ≡ j → ⊥) → Covered (pairIn f i .donorAntigens) (pairIn f j .patientAntigens)
+      → entryAt (g .weights) n i j
+      ≡ documentPoints .base + documentPoints .noMismatch + agePoints documentPoints (pairIn f i .donorAge) (pairIn f j .patientAge)
+
 -- what can be planned: M is 0 or 1, a pair's own M and W are 0, and every other W is 1,000 to 1,450, so that no present edge is weightless
 pub record Plannable (n : ℕ) (g : Graph) : Type 0 where
   pub zeroOrOne : (i j : ℕ) → i < n → j < n → entryAt (g .compatibilities) n i j ≤ 1
@@ -50,10 +61,11 @@ pub record Plannable (n : ℕ) (g : Graph) : Type 0 where
   pub noneWeightless : (i j : ℕ) → i < n → j < n → entryAt (g .compatibilities) n i j ≡ 1 → 0 < entryAt (g .weights) n i j
 
 -- of the answer and what is left: "Every .. pool with none of the listed faults is accepted", and no other; a refusal names a fault that is there, with
--- place 0, and "leaves all lent memory unchanged"; what is built has document 01's entries and can be planned
+-- place 0, and "leaves all lent memory unchanged"; what is built has the documents' entries, weighs mismatches on the donor's side, and can be planned
 pub record BuildsRightly (n : ℕ) (f : Fields) (old : Graph) (o : Outcome (Unit {0}) Graph) : Type 0 where
   pub accepts : FaultlessFields n f → Fit n old → o .answer ≡ finished tt
   pub accepted : o .answer ≡ finished tt → FaultlessFields n f × Fit n old
   pub refuses : (k place : ℕ) → o .answer ≡ refused k place → (place ≡ 0) × BuildFault n f old k × (o .lent ≡ old)
   pub built : o .answer ≡ finished tt → Entries n f (o .lent)
+  pub donorsSide : o .answer ≡ finished tt → DonorsSide n f (o .lent)
   pub plannable : o .answer ≡ finished tt → Plannable n (o .lent)
