@@ -66,6 +66,7 @@ pub struct Pair {
     /// The patient's age group.
     pub patient_age: Age,
     /// The donor's antigens, one bit for each entry of the laboratory's list.
+    /// Those that a patient does not have are mismatches.
     pub donor_antigens: u64,
     /// The patient's antigens, by the same list.
     pub patient_antigens: u64,
@@ -236,6 +237,9 @@ impl Pool {
     }
 
     /// The pool's compatibilities and weights, built anew by each call.
+    ///
+    /// A weight is lower for mismatches: antigens of the donor that the
+    /// patient does not have. What only the patient has does not count.
     pub fn tables(&self) -> Tables {
         Tables::build(self)
     }
