@@ -165,8 +165,8 @@ struct vadivuzhen_build_answer {
 };
 
 /* Builds the tables M and W from the first n entries of a pool's fields. In each, the entry for donor i and patient j stands at i * n + j. M says with 1
- * that donor i may give to patient j, and with 0 that not; W says what that is worth, and is 0 for a pair's own. A mismatch lowers W: an antigen of
- * donor i that patient j does not have. What only patient j has does not count.
+ * that donor i may give to patient j, and with 0 that not; W says what that is worth, and is 0 for a pair's own. Mismatches lower W, by
+ * steps: antigens of donor i that patient j does not have. What only patient j has does not count.
  * Fills VADIVUZHEN_ENTRIES(n) entries of each.
  * Refuses 4; 9, where a table of the fields has fewer than n entries; 6 and 7, pair by pair; 9, where M or W is shorter than n rows of n.
  * Proved: the fields are accepted if and only if they have none of these faults; every entry is then the published one, and M is 0 or 1, and 0 for a

@@ -238,7 +238,7 @@ impl Pool {
 
     /// The pool's compatibilities and weights, built anew by each call.
     ///
-    /// A weight is lower for mismatches: antigens of the donor that the
+    /// Mismatches lower a weight, by steps: antigens of the donor that the
     /// patient does not have. What only the patient has does not count.
     pub fn tables(&self) -> Tables {
         Tables::build(self)

@@ -6,7 +6,8 @@ use crate::raw;
 use crate::refused::{sound, Refusal, Refused};
 
 /// M and W of N pairs: N rows of N entries, row i holding donor i. The pairs'
-/// ids go with them, for the plan's printout.
+/// ids go with them, for the plan's printout. They are built from a pool
+/// ([`Pool::tables`]), or a caller's own ([`Tables::new`]).
 #[derive(Clone, Debug, PartialEq, Eq, Hash)]
 #[must_use = "building leaves nothing but the tables"]
 pub struct Tables {

@@ -49,7 +49,7 @@ fn a_pool_is_what_it_was_made_of() {
 
 #[test]
 fn a_mismatch_is_a_donor_antigen_that_the_patient_does_not_have() {
-    // A senior donor's giving to a young patient.
+    // What a senior donor weighs for a young patient.
     let weight = |donor_antigens, patient_antigens| {
         let donor = Pair {
             donor_antigens,
@@ -72,10 +72,13 @@ fn a_mismatch_is_a_donor_antigen_that_the_patient_does_not_have() {
         (u64::MAX, 1_000),
         (1 << 63, 1_250),
     ];
+    let shared = 0xFF << 32;
     for (lacking, expected) in weighed {
         assert_eq!(weight(lacking, 0), expected);
         // What only the patient has does not count.
         assert_eq!(weight(lacking, !lacking), expected);
+        // What both have is no mismatch.
+        assert_eq!(weight(lacking | shared, shared & !lacking), expected);
         assert_eq!(weight(0, lacking), 1_400);
         assert_eq!(weight(lacking, lacking), 1_400);
     }

@@ -16,9 +16,9 @@ ExampleAnswered = answerText exampleSheet ≡ bytesOf "PLAN 2 1 2900\n11 12 12\n
 -- The pairs 1 and 2 are alike, so that the two cycles of 0, 1 and 2 weigh the same, and the shuffle decides; pair 3's antibody meets every other
 -- donor's antigen. Donors and patients differ in blood and age. Worked out by hand:
 --
---     1 → 0   antigens 0, 63 and 1: 2 mismatches, 0 and 63, 250; both young, 50    1,300
---     0 → 2   antigens 63 and 63: none, 400; both senior, 50                       1,450
---     2 → 1   antigens 0, 63 and 63: 1 mismatch, 0, 250; young to senior, 30       1,280
+--     1 → 0   antigens 0, 63 and 1: 2 mismatches (0 and 63), 250; both young, 50    1,300
+--     0 → 2   antigens 63 and 63: none, 400; both senior, 50                        1,450
+--     2 → 1   antigens 0, 63 and 63: 1 mismatch (0), 250; young to senior, 30       1,280
 --
 -- With the antigens of either counted, as in document 01, 1 → 0 has 3 mismatches and 1,150; with the patient's alone counted, 2 → 1 has none and 1,430.
 -- With the shuffle 1 3 0 2 the first cycle is 1, 0, 2. Without it, with it read backwards, or with its inverse, it would be 0, 1, 2.

@@ -8,9 +8,9 @@ use lib.Dec.{lit<, eqb, leb}
 use Rattle.laws.specs.Below.{countBelow, one}
 use Rattle.pool.specs.Pool.{Pair}
 use Rattle.donation.specs.Compatibility.{has}
-use Rattle.donation.specs.Promises.{Covered, SameOf, EdgeExamples, PatientsOwnExamples}
+use Rattle.donation.specs.Promises.{SameOf, CountsMismatches, EdgeExamples, SharedExamples, PatientsOwnExamples}
 use Rattle.donation.specs.Weight.{Points, documentPoints, young, senior, mismatches, mismatchPoints, agePoints, weight}
-use Rattle.donation.proofs.Mismatched.{one-sided, mismatches-counted}
+use Rattle.donation.proofs.Mismatched.{one-sided, no-other-count}
 
 cond-most : (most : ℕ) (t : Bool) (x y : ℕ) → x ≤ most → y ≤ most → cond t x y ≤ most
 cond-most most true x y h k = h
@@ -61,6 +61,19 @@ module _ (points : Points) (pair : ℕ → Pair) (i j : ℕ) where
   weight-most mismatch age m a h =
       rw (weight-other h) (omega (arith, m apart, a (pair i .donorAge) (pair j .patientAge)))
 
+-- the documents' edge examples, and others, computed
+pub edge-examples : EdgeExamples
+unfolding weight documentPoints mismatches mismatchPoints agePoints has countBelow one
+edge-examples = refl
+
+pub shared-examples : SharedExamples
+unfolding weight documentPoints mismatches mismatchPoints agePoints has countBelow one
+shared-examples = refl
+
+pub patients-own-examples : PatientsOwnExamples
+unfolding weight documentPoints mismatches mismatchPoints agePoints has countBelow one
+patients-own-examples = refl
+
 module _ (points : Points) (pair : ℕ → Pair) (i : ℕ) where
   pub weight-alike : (j k : ℕ) → (i ≡ j → ⊥) → (i ≡ k → ⊥)
       → SameOf (pair i .donorAntigens) (pair j .patientAntigens) (pair k .patientAntigens)
@@ -70,13 +83,16 @@ module _ (points : Points) (pair : ℕ → Pair) (i : ℕ) where
       ∙ ap₂ (λ (count age : ℕ). points .base + mismatchPoints points count + agePoints points (pair i .donorAge) age) (one-sided _ _ _ s) e
       ∙ sym (weight-other points pair i k g)
 
-  pub weight-covered : (j : ℕ) → (i ≡ j → ⊥) → Covered (pair i .donorAntigens) (pair j .patientAntigens)
-      → weight points pair i j ≡ points .base + points .noMismatch + agePoints points (pair i .donorAge) (pair j .patientAge)
-  unfolding mismatchPoints
-  weight-covered j h c =
+  -- by any count of mismatches
+  pub weight-counted : (count : ℕ → ℕ → ℕ) → CountsMismatches count → (j : ℕ) → (i ≡ j → ⊥)
+      → weight points pair i j
+      ≡ points .base
+      + mismatchPoints points (count (pair i .donorAntigens) (pair j .patientAntigens))
+      + agePoints points (pair i .donorAge) (pair j .patientAge)
+  weight-counted count c j h =
       weight-other points pair i j h
-      ∙ ap (λ (count : ℕ). points .base + mismatchPoints points count + agePoints points (pair i .donorAge) (pair j .patientAge))
-      (mismatches-counted .none _ _ .1 c)
+      ∙ ap (λ (m : ℕ). points .base + mismatchPoints points m + agePoints points (pair i .donorAge) (pair j .patientAge))
+      (sym (no-other-count count c _ _))
 
 -- document 01's: 1,000 to 1,450
 module _ (pair : ℕ → Pair) (i j : ℕ) (h : i ≡ j → ⊥) where
@@ -89,12 +105,3 @@ module _ (pair : ℕ → Pair) (i j : ℕ) (h : i ≡ j → ⊥) where
 pub document-some : 0 < documentPoints .base
 unfolding documentPoints
 document-some = lit< tt
-
--- the documents' edge examples, computed
-pub edge-examples : EdgeExamples
-unfolding weight documentPoints mismatches mismatchPoints agePoints has countBelow one
-edge-examples = refl
-
-pub patients-own-examples : PatientsOwnExamples
-unfolding weight documentPoints mismatches mismatchPoints agePoints has countBelow one
-patients-own-examples = refl

@@ -2,7 +2,7 @@
 -- `proofs/Compatible`, `proofs/Mismatched` and `proofs/Points`. Assumes nothing.
 use Prim.Native.Nat.{ℕ, _+_, _≤_, _<_}
 use mathlib.Core.Path.{_≡_}
-use mathlib.Core.Bool.{Bool, true, false, _&&_, _||_}
+use mathlib.Core.Bool.{Bool, true, false, _&&_, _||_, cond}
 use mathlib.Core.Logic.{_↔_}
 use mathlib.Core.List.{List, [], _∷_, map}
 use lib.Dec.{eqb}
@@ -63,7 +63,7 @@ abbrev pub OneSided : Type 0
 OneSided = (donor p q : ℕ) → SameOf donor p q → mismatches donor p ≡ mismatches donor q
 
 -- "a mismatch is a donor antigen that the patient does not have", with no sum over the list: there is none just where the patient has all of the donor's,
--- and where p lacks a donor antigen k that q has, and of the donor's others they have the same, p has one more than q
+-- and where p lacks a donor antigen k that q has, and of the donor's others they have the same, p has one mismatch more than q
 pub record CountsMismatches (count : ℕ → ℕ → ℕ) : Type 0 where
   pub none : (donor patient : ℕ) → (count donor patient ≡ 0) ↔ Covered donor patient
   pub each : (donor p q k : ℕ) → k < entries → has donor k ≡ true → has p k ≡ false → has q k ≡ true
@@ -94,17 +94,17 @@ pub record Couple : Type 0 where
 abbrev pub couple : ℕ → ℕ → ℕ → ℕ → Couple
 couple a b c d = record { donorAntigens = a; donorAge = b; patientAntigens = c; patientAge = d }
 
--- that donor's own pair, and the patient's
+-- that donor in pair 0 and that patient in pair 1; of the other two, who are young, nothing is listed
 abbrev pub coupled : Couple → ℕ → Pair
 coupled c i =
     record {
       id = i;
       donorBlood = O;
       patientBlood = O;
-      donorAge = c .donorAge;
-      patientAge = c .patientAge;
-      donorAntigens = c .donorAntigens;
-      patientAntigens = c .patientAntigens;
+      donorAge = cond (eqb i 0) (c .donorAge) 0;
+      patientAge = cond (eqb i 1) (c .patientAge) 0;
+      donorAntigens = cond (eqb i 0) (c .donorAntigens) 0;
+      patientAntigens = cond (eqb i 1) (c .patientAntigens) 0;
       patientAntibodies = 0;
     }
 
@@ -119,7 +119,12 @@ EdgeExamples =
     weights (couple 7 0 7 0 ∷ couple 3 1 0 1 ∷ couple 7 0 0 1 ∷ couple 15 0 0 1 ∷ couple 31 1 0 0 ∷ [])
     ≡ 1450 ∷ 1300 ∷ 1130 ∷ 1130 ∷ 1000 ∷ []
 
--- the same with antigens of the patient's alone; then five of these and none of the donor's
+-- where the patient has some of the donor's: of five three, of six two, of all 64 all but entry 32
+abbrev pub SharedExamples : Type 0
+SharedExamples =
+    weights (couple 31 0 28 0 ∷ couple 63 0 48 1 ∷ couple 18446744073709551615 0 18446744069414584319 0 ∷ []) ≡ 1300 ∷ 1130 ∷ 1300 ∷ []
+
+-- the five with antigens of the patient's alone; then five of these and none of the donor's
 abbrev pub PatientsOwnExamples : Type 0
 PatientsOwnExamples =
     weights (couple 7 0 31 0 ∷ couple 3 1 4 1 ∷ couple 7 0 24 1 ∷ couple 15 0 240 1 ∷ couple 31 1 18446744073709551584 0 ∷ couple 0 1 31 0 ∷ [])

@@ -1,5 +1,5 @@
-// Pairs to try, and the tables that building makes of them: the documents' edge examples, every two blood groups, antibodies at both ends of the
-// laboratory's list, the limits, and each refusal. What it prints is held to the file 'stdout'. Every lent entry holds 99 before a call, and the
+// Pairs to try, and the tables that building makes of them: the documents' edge examples, antigens that both or only the patient has, every two blood
+// groups, antigens and antibodies at both ends of the laboratory's list, the limits, and each refusal. What it prints is held to the file 'stdout'. Every lent entry holds 99 before a call, and the
 // first one past the filled part is printed too.
 use refusal::Refusal;
 use weighing::Building;
@@ -171,48 +171,61 @@ fn try_edges() {
     );
 }
 
-// "A patient antigen missing in the donor no longer counts": the same with some of these, which change nothing, and with nothing else.
-fn try_patients_own() {
+// Of the donor's antigens the patient has some: three of five, two of six, and all but entry 32 of all.
+fn try_shared() {
+    try_edge(b"2 mismatches of 5, equal ages:", weighed(0, 0, 31, 28));
     try_edge(
-        b"0 mismatches, 64 of the patient's alone:",
-        weighed(0, 0, 0, 18446744073709551615),
+        b"4 mismatches of 6, young to senior:",
+        weighed(0, 1, 63, 48),
     );
     try_edge(
-        b"1 mismatch, 2 of the patient's alone:",
-        weighed(0, 0, 4, 3),
-    );
-    try_edge(
-        b"2 mismatches, 1 of the patient's alone:",
-        weighed(0, 0, 3, 4),
-    );
-    try_edge(
-        b"3 mismatches, 2 of the patient's alone:",
-        weighed(0, 1, 7, 24),
-    );
-    try_edge(
-        b"4 mismatches, 2 of the patient's alone:",
-        weighed(0, 1, 60, 3),
-    );
-    try_edge(
-        b"5 mismatches, 59 of the patient's alone:",
-        weighed(1, 0, 31, 18446744073709551584),
-    );
-    try_edge(
-        b"0 mismatches, 5 of the patient's alone:",
-        weighed(1, 0, 0, 31),
+        b"1 mismatch of 64, equal ages:",
+        weighed(0, 0, 18446744073709551615, 18446744069414584319),
     );
 }
 
-// The first and the last entry of the laboratory's list, on either side.
-fn try_ends() {
-    try_edge(b"the donor's entry 0:", weighed(0, 0, 1, 0));
-    try_edge(b"the patient's entry 0:", weighed(0, 0, 0, 1));
+// "A patient antigen missing in the donor no longer counts": some of these beside the mismatches, and alone.
+fn try_patients_own() {
     try_edge(
-        b"the donor's entry 63:",
+        b"1 mismatch, 2 of the patient's alone, equal ages:",
+        weighed(0, 0, 4, 3),
+    );
+    try_edge(
+        b"2 mismatches, 1 of the patient's alone, equal ages:",
+        weighed(0, 0, 3, 4),
+    );
+    try_edge(
+        b"3 mismatches, 2 of the patient's alone, young to senior:",
+        weighed(0, 1, 7, 24),
+    );
+    try_edge(
+        b"4 mismatches, 2 of the patient's alone, young to senior:",
+        weighed(0, 1, 60, 3),
+    );
+    try_edge(
+        b"5 mismatches, 59 of the patient's alone, senior to young:",
+        weighed(1, 0, 31, 18446744073709551584),
+    );
+    try_edge(
+        b"0 mismatches, 5 of the patient's alone, senior to young:",
+        weighed(1, 0, 0, 31),
+    );
+    try_edge(
+        b"0 mismatches, 64 of the patient's alone, equal ages:",
+        weighed(0, 0, 0, 18446744073709551615),
+    );
+}
+
+// The first and the last entry of the laboratory's list, the donor's or the patient's.
+fn try_ends() {
+    try_edge(b"the donor's entry 0 alone:", weighed(0, 0, 1, 0));
+    try_edge(b"the patient's entry 0 alone:", weighed(0, 0, 0, 1));
+    try_edge(
+        b"the donor's entry 63 alone:",
         weighed(0, 0, 9223372036854775808, 0),
     );
     try_edge(
-        b"the patient's entry 63:",
+        b"the patient's entry 63 alone:",
         weighed(0, 0, 0, 9223372036854775808),
     );
 }
@@ -327,6 +340,7 @@ fn try_most() {
 
 fn main() {
     try_edges();
+    try_shared();
     try_patients_own();
     try_ends();
     try_bloods();

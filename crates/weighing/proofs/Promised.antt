@@ -20,7 +20,7 @@ use Rattle.graph.specs.Preconditions.{Buildable}
 use Rattle.weighing.specs.declared.Building.the-variants.{Built, Refused}
 use Rattle.weighing.specs.Promises.{entryAt, Entries, DonorsSide, Plannable, BuildsRightly}
 use Rattle.donation.proofs.Compatible.{compatibility-most, compatibility-same}
-use Rattle.donation.proofs.Points.{weight-same, weight-alike, weight-covered, document-least, document-most, document-some}
+use Rattle.donation.proofs.Points.{weight-same, weight-alike, weight-counted, document-least, document-most, document-some}
 use Rattle.graph.proofs.Rows.{rows-entry}
 use Rattle.weighing.proofs.Faults.{build-none, build-passed, build-fault}
 
@@ -36,8 +36,8 @@ module _ (n : ℕ) (f : Fields) (old : Graph) where
       let p = pairIn f in
       let W = e .weights in
       record {
+        counted = λ count c i j l m h. W i j l m ∙ weight-counted documentPoints p i count c j h;
         alike = λ i j k l m q a b s t. W i j l m ∙ weight-alike documentPoints p i j k a b s t ∙ sym (W i k l q);
-        covered = λ i j l m a c. W i j l m ∙ weight-covered documentPoints p i j a c;
       }
 
   entries-plannable : (g : Graph) → Entries n f g → Plannable n g

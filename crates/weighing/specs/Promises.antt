@@ -7,8 +7,8 @@ use Rattle.refusal.specs.Answer.{finished, refused, Outcome}
 use Rattle.pool.specs.Tables.{Fields, pairIn}
 use Rattle.pool.specs.Faultless.{InRange, Unlike, FieldsHold, PairsFault}
 use Rattle.donation.specs.Compatibility.{compatibility}
-use Rattle.donation.specs.Weight.{documentPoints, agePoints, weight}
-use Rattle.donation.specs.Promises.{Covered, SameOf}
+use Rattle.donation.specs.Weight.{documentPoints, mismatchPoints, agePoints, weight}
+use Rattle.donation.specs.Promises.{SameOf, CountsMismatches}
 use Rattle.graph.specs.Graph.{Graph}
 
 -- ## What has none of the faults, and what each fault is, said without building
@@ -41,15 +41,17 @@ pub record Entries (n : ℕ) (f : Fields) (g : Graph) : Type 0 where
   pub compatibilities : (i j : ℕ) → i < n → j < n → entryAt (g .compatibilities) n i j ≡ compatibility (pairIn f) i j
   pub weights : (i j : ℕ) → i < n → j < n → entryAt (g .weights) n i j ≡ weight documentPoints (pairIn f) i j
 
--- document 02's mismatches, in the table itself: in donor i's row, patients of one age group who have the same of donor i's antigens weigh the same,
--- whatever else they have; and a patient who has all of them has the points of no mismatch
+-- document 02's mismatches, in the table itself: whatever counts the donor antigens that a patient does not have, W(i, j) has the points of that count;
+-- and in donor i's row patients of one age group who have the same of donor i's antigens weigh the same, whatever else they have
 pub record DonorsSide (n : ℕ) (f : Fields) (g : Graph) : Type 0 where
+  pub counted : (count : ℕ → ℕ → ℕ) → CountsMismatches count → (i j : ℕ) → i < n → j < n → (i ≡ j → ⊥)
+      → entryAt (g .weights) n i j
+      ≡ documentPoints .base
+      + mismatchPoints documentPoints (count (pairIn f i .donorAntigens) (pairIn f j .patientAntigens))
+      + agePoints documentPoints (pairIn f i .donorAge) (pairIn f j .patientAge)
   pub alike : (i j k : ℕ) → i < n → j < n → k < n → (i ≡ j → ⊥) → (i ≡ k → ⊥)
       → SameOf (pairIn f i .donorAntigens) (pairIn f j .patientAntigens) (pairIn f k .patientAntigens)
       → pairIn f j .patientAge ≡ pairIn f k .patientAge → entryAt (g .weights) n i j ≡ entryAt (g .weights) n i k
-  pub covered : (i j : ℕ) → i < n → j < n → (i ≡ j → ⊥) → Covered (pairIn f i .donorAntigens) (pairIn f j .patientAntigens)
-      → entryAt (g .weights) n i j
-      ≡ documentPoints .base + documentPoints .noMismatch + agePoints documentPoints (pairIn f i .donorAge) (pairIn f j .patientAge)
 
 -- what can be planned: M is 0 or 1, a pair's own M and W are 0, and every other W is 1,000 to 1,450, so that no present edge is weightless
 pub record Plannable (n : ℕ) (g : Graph) : Type 0 where
