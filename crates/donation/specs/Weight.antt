@@ -42,7 +42,7 @@ noPoints = 0
 unfoldable pub mismatches : ℕ → ℕ → ℕ
 mismatches donor patient = countBelow entries (λ k. has donor k && not (has patient k))
 
--- "0 gives 400, 1 or 2 gives 250, 3 or 4 gives 100, more gives 0"; "The point steps remain"
+-- "0 gives 400, 1 or 2 gives 250, 3 or 4 gives 100, more gives 0"; in 02, W-204, "The point steps remain"
 unfoldable pub mismatchPoints : Points → ℕ → ℕ
 mismatchPoints points count =
     cond (eqb count 0) (points .noMismatch)

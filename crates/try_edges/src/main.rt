@@ -1,6 +1,6 @@
 // Pairs to try, and the tables that building makes of them: the documents' edge examples, antigens that both or only the patient has, every two blood
-// groups, antigens and antibodies at both ends of the laboratory's list, the limits, and each refusal. What it prints is held to the file 'stdout'. Every lent entry holds 99 before a call, and the
-// first one past the filled part is printed too.
+// groups, antigens and antibodies at both ends of the laboratory's list, the limits, and each refusal. What it prints is held to the file 'stdout'.
+// Every lent entry holds 99 before a call, and the first one past the filled part is printed too.
 use refusal::Refusal;
 use weighing::Building;
 ghost use Prim.Native.Nat.{_≤_};
