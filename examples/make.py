@@ -1,4 +1,5 @@
-"""Makes the examples `eight` and `thirty_six`: a sheet of a made-up pool, always the same, and the plan that the planner in Rust (trial/) prints of it.
+"""Makes the examples `eight`, `thirty_six` and `eight_by_age`: a sheet of a made-up pool, always the same, and the plan that the planner in Rust (trial/)
+prints of it. `eight_by_age` is `eight` in version 2, with points of another registry.
 
 usage: make.py      writes NAME.sheet and NAME.plan beside this file"""
 import pathlib
@@ -11,6 +12,9 @@ sys.path.insert(0, str(here.parent / 'tests'))
 from sheets import sheet_of  # noqa: E402
 
 PAIRS = {'eight': 8, 'thirty_six': 36}
+# Points of a made-up registry, to which a young donor for a senior patient matters most: base; no mismatch, 1 or 2, 3 or 4; equal ages, young to
+# senior. By them the eight pairs have another plan.
+BY_AGE = [800, 300, 200, 150, 40, 600]
 # With this seed both plans have cycles of two and of three pairs, and pairs that stay alone.
 SEED = 27
 
@@ -51,12 +55,19 @@ def pair(draw, pair_id):
             return pair_id, [donor_blood, patient_blood, donor_age, patient_age], [donor, patient, against]
 
 
-def sheet(count):
+def sheet(count, points=None):
+    """The sheet of that many pairs: of version 2 with these points, or of version 1 without."""
     draw = random.Random(SEED)
     pairs = [pair(draw, pair_id) for pair_id in sorted(draw.sample(range(1000, 10000), count))]
     shuffle = list(range(count))
     draw.shuffle(shuffle)
-    return sheet_of(pairs, shuffle)
+    return sheet_of(pairs, shuffle, points)
+
+
+def sheets():
+    """All sheets that are made here, by name."""
+    made = {name: sheet(count) for name, count in PAIRS.items()}
+    return {**made, 'eight_by_age': sheet(PAIRS['eight'], BY_AGE)}
 
 
 def plan(sheet):
@@ -66,8 +77,7 @@ def plan(sheet):
 
 
 def main():
-    for name, count in PAIRS.items():
-        made = sheet(count)
+    for name, made in sheets().items():
         (here / f'{name}.sheet').write_bytes(made)
         (here / f'{name}.plan').write_bytes(plan(made))
 

@@ -15,8 +15,10 @@
 #define FLOOR 0
 
 /* One byte more than the longest sheet, so that a longer one is seen to be too long. */
-static uint8_t sheet[VADIVUZHEN_SHEET(PAIRS) + 1];
+static uint8_t sheet[VADIVUZHEN_SHEET_2(PAIRS) + 1];
 
+/* The points of a sheet of version 2. With version 1 they are lent as well, and nobody looks at them. */
+static uint16_t points[VADIVUZHEN_POINTS];
 static uint32_t ids[PAIRS];
 static uint8_t donor_blood[PAIRS], patient_blood[PAIRS], donor_age[PAIRS], patient_age[PAIRS];
 static uint64_t donor_antigens[PAIRS], patient_antigens[PAIRS], patient_antibodies[PAIRS];
@@ -58,6 +60,7 @@ static int plan(size_t length)
 {
     struct vadivuzhen_read_answer pool = vadivuzhen_read(
         sheet, length,
+        points, LENGTH(points),
         ids, LENGTH(ids),
         donor_blood, LENGTH(donor_blood), patient_blood, LENGTH(patient_blood),
         donor_age, LENGTH(donor_age), patient_age, LENGTH(patient_age),
@@ -68,7 +71,8 @@ static int plan(size_t length)
         return refused(pool.refusal, pool.place);
 
     struct vadivuzhen_build_answer built = vadivuzhen_build(
-        pool.pairs,
+        pool.version, pool.pairs,
+        points, LENGTH(points),
         ids, LENGTH(ids),
         donor_blood, LENGTH(donor_blood), patient_blood, LENGTH(patient_blood),
         donor_age, LENGTH(donor_age), patient_age, LENGTH(patient_age),

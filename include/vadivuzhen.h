@@ -50,9 +50,11 @@ enum vadivuzhen_refusal {
     /* the sender of the sheet */
     VADIVUZHEN_CUT_OFF = 1,         /* a field's three-byte start or its value is cut off or missing */
     VADIVUZHEN_WRONG_FIELD = 2,     /* a tag or a length is not the one due */
-    VADIVUZHEN_WRONG_VERSION = 3,   /* the version is not 1 */
+    VADIVUZHEN_WRONG_VERSION = 3,   /* the version is neither 1 nor 2 */
     VADIVUZHEN_TOO_MANY_PAIRS = 4,  /* N is above 200 */
     VADIVUZHEN_LEFT_OVER = 5,       /* bytes are left over after the last field */
+    VADIVUZHEN_WRONG_POINTS = 14,   /* the base is 0, or base, largest mismatch step and larger age step together exceed 65,535 */
+    VADIVUZHEN_DIFFERENT_POINTS = 15, /* the versions or the points of the sheets to be joined differ */
     /* the hospital */
     VADIVUZHEN_OUT_OF_RANGE = 6,    /* a blood group is above 3 or an age group above 1 */
     VADIVUZHEN_REPEATED_ID = 7,     /* an id is that of an earlier pair */
@@ -71,8 +73,12 @@ enum vadivuzhen_refusal {
 
 #define VADIVUZHEN_MOST_PAIRS 200
 
-/* the sheet: 7,410 bytes at most */
+/* the sheet of version 1: 7,410 bytes at most */
 #define VADIVUZHEN_SHEET(n) (10 + 37 * (size_t)(n))
+/* the sheet of version 2: 7,425 bytes at most, which suffice for either version */
+#define VADIVUZHEN_SHEET_2(n) (25 + 37 * (size_t)(n))
+/* the points of a pool of version 2, however many pairs it has */
+#define VADIVUZHEN_POINTS 6
 /* each of the tables M and W */
 #define VADIVUZHEN_ENTRIES(n) ((size_t)(n) * (size_t)(n))
 /* the weights of all subsets of two or three: 1,333,300 at most */
@@ -88,23 +94,32 @@ enum vadivuzhen_refusal {
 
 /* ---- The pool sheet ---- */
 
-/* A pool is nine tables with an entry for each pair: its id; the donor's and the patient's blood group (0 O, 1 A, 2 B, 3 AB) and age group (0 young,
- * 1 senior); the donor's antigens, the patient's antigens and antibodies, a bit for each entry of the laboratory's list; and the shuffle, which has
- * each pair's number once. */
+/* A pool has a version, and nine tables with an entry for each pair: its id; the donor's and the patient's blood group (0 O, 1 A, 2 B, 3 AB) and age
+ * group (0 young, 1 senior); the donor's antigens, the patient's antigens and antibodies, a bit for each entry of the laboratory's list; and the shuffle,
+ * which has each pair's number once.
+ *
+ * A pool of version 2 has its registry's points as well, a table of VADIVUZHEN_POINTS entries in the sheet's order: the base; the steps for no mismatch,
+ * for 1 or 2 and for 3 or 4 of them; the steps for equal age groups, and for a young donor and a senior patient. A pool of version 1 has none: it is
+ * weighed by document 01's, which are 1000, 400, 250, 100, 50, 30. The points table that is lent with it is neither read nor changed, whatever its length
+ * and contents; the pointer is not null all the same. */
 
 struct vadivuzhen_read_answer {
     uint32_t refusal;
-    size_t place; /* of a refusal: the offset of the field; of 5, of the first byte too many; of 9, 0 */
-    size_t pairs; /* N */
+    uint16_t version; /* 1 or 2; of a refusal, 0 */
+    size_t place;     /* of a refusal: the offset of the field; of 5, of the first byte too many; of 9, 0 */
+    size_t pairs;     /* N */
 };
 
-/* Reads a pool sheet into the tables.
- * Fills the first N entries of each of the nine tables. A sheet has at most 200 pairs, so tables of 200 entries always suffice.
- * Refuses 1 to 8, the first fault of the sheet going forward; then 9, where a table has fewer than N entries.
- * Proved: a sheet is accepted if and only if it has none of the faults and the tables can hold it; the tables then hold the pool that it says. An accepted
- * sheet read and written again is the same sheet, byte for byte. */
+/* Reads a pool sheet of version 1 or 2 into the tables.
+ * Fills the first N entries of each of the nine tables and, for version 2, the first VADIVUZHEN_POINTS entries of the points. A sheet has at most 200
+ * pairs, so tables of 200 entries always suffice.
+ * Refuses 1 to 8 and 14, the first fault of the sheet going forward: 14 comes directly after the value of the points' field, with its place, 7; then 9, where
+ * one of the nine tables has fewer than N entries or, for version 2, the points have fewer than VADIVUZHEN_POINTS, also where N is 0.
+ * Proved, for both versions: a sheet is accepted if and only if it has none of the faults and the tables can hold it; the tables then hold the pool that it
+ * says. An accepted sheet read and written again, with its version and points, is the same sheet, byte for byte. */
 VADIVUZHEN_ANSWERS struct vadivuzhen_read_answer vadivuzhen_read(
     const uint8_t *sheet, size_t sheet_length,
+    uint16_t *points, size_t points_length,
     uint32_t *ids, size_t ids_length,
     uint8_t *donor_blood, size_t donor_blood_length,
     uint8_t *patient_blood, size_t patient_blood_length,
@@ -120,12 +135,15 @@ struct vadivuzhen_write_answer {
     size_t length; /* of the sheet, in bytes */
 };
 
-/* Writes the pool in the first n entries of the tables as a sheet into the buffer `out`.
- * Fills VADIVUZHEN_SHEET(n) bytes, which is the answer's length.
- * Refuses 4; 9, where a table has fewer than n entries; 6 and 7, pair by pair; 8; 9, where `out` is shorter than the sheet.
- * Proved: a pool is accepted if and only if it has none of these faults; what is written reads back as that pool. */
+/* Writes the pool in the first n entries of the tables as a sheet of that version into the buffer `out`.
+ * Fills VADIVUZHEN_SHEET(n) bytes for version 1 and VADIVUZHEN_SHEET_2(n) for version 2, which is the answer's length.
+ * Refuses 3, where the version is neither 1 nor 2; 4; 9, where one of the nine tables has fewer than n entries or, for version 2, the points have fewer than
+ * VADIVUZHEN_POINTS; 14, for version 2; 6 and 7, pair by pair; 8; 9, where `out` is shorter than the sheet.
+ * Proved, for both versions: a pool is accepted if and only if it has none of these faults; what is written reads back as that pool, with its version and
+ * points. For version 1 the outcome is the same with any points table. */
 VADIVUZHEN_ANSWERS struct vadivuzhen_write_answer vadivuzhen_write(
-    size_t n,
+    uint16_t version, size_t n,
+    const uint16_t *points, size_t points_length,
     const uint32_t *ids, size_t ids_length,
     const uint8_t *donor_blood, size_t donor_blood_length,
     const uint8_t *patient_blood, size_t patient_blood_length,
@@ -139,20 +157,23 @@ VADIVUZHEN_ANSWERS struct vadivuzhen_write_answer vadivuzhen_write(
 
 struct vadivuzhen_join_answer {
     uint32_t refusal;
-    size_t place;  /* of a sheet's own refusal, 1 to 8: its place in that sheet, as vadivuzhen_read gives it; of 11, 12 and 9, 0 */
+    size_t place;  /* of a sheet's own refusal, 1 to 8 or 14: its place in that sheet, as vadivuzhen_read gives it; of 15, 11, 12 and 9, 0 */
     size_t length; /* of the joined sheet, in bytes */
 };
 
-/* Joins two sheets into one, in the buffer `out`: the first's pairs, then the second's, and the first's shuffle, then the second's with the first's N added
- * to each number. A sheet with no pairs gives the other one. The two sheets may be the same memory, and `out` may overlap neither: nothing
- * can be joined to a sheet in its own place.
- * Fills VADIVUZHEN_SHEET(n) bytes, with n the pairs of both together, which is the answer's length; VADIVUZHEN_SHEET(VADIVUZHEN_MOST_PAIRS) always suffices.
- * Refuses 1 to 8, the first sheet's own, as vadivuzhen_read finds it; 1 to 8, the second's own; 11, where an id is in both; 12, where they have more than
- * 200 pairs together; 9, where `out` is shorter than the joined sheet. The answer does not say which sheet a refusal from 1 to 8 is about: who needs to
- * know reads the first sheet alone, with vadivuzhen_read and tables of 200 entries; if that is refused, it was the first.
- * Proved: two sheets are joined if and only if both have none of the faults, no id is in both, they have at most 200 pairs together and `out` can hold the
- * sheet. What is written is again an accepted sheet, which says the first's pairs, then the second's, and the shuffle as above; with no pairs on one side it
- * is the other sheet, byte for byte. */
+/* Joins two sheets of one version, with the same points, into one of that version with those points, in the buffer `out`: the first's pairs, then the
+ * second's, and the first's shuffle, then the second's with the first's N added to each number. A sheet with no pairs gives the other one. The two
+ * sheets may be the same memory, and `out` may overlap neither: nothing can be joined to a sheet in its own place.
+ * Fills VADIVUZHEN_SHEET(n) bytes for version 1 and VADIVUZHEN_SHEET_2(n) for version 2, with n the pairs of both together, which is the answer's length;
+ * VADIVUZHEN_SHEET_2(VADIVUZHEN_MOST_PAIRS) always suffices.
+ * Refuses 1 to 8 and 14, the first sheet's own, as vadivuzhen_read finds it; 1 to 8 and 14, the second's own; 15, where their versions or points differ, also
+ * where one has no pairs, and where one is of version 1 and the other has document 01's points in version 2; 11, where an id is in both; 12, where they
+ * have more than 200 pairs together; 9, where `out` is shorter than the joined sheet. The answer does not say which sheet a refusal from 1 to 8, or 14, is
+ * about: who needs to know reads the first sheet alone, with vadivuzhen_read, tables of 200 entries and VADIVUZHEN_POINTS points; if that is refused, it
+ * was the first.
+ * Proved: two sheets are joined if and only if both have none of the faults, they have the same version and points, no id is in both, they have at most 200
+ * pairs together and `out` can hold the sheet. What is written is again an accepted sheet, which says their version and points, the first's pairs, then the
+ * second's, and the shuffle as above; with no pairs on one side it is the other sheet, byte for byte. */
 VADIVUZHEN_ANSWERS struct vadivuzhen_join_answer vadivuzhen_join(
     const uint8_t *first, size_t first_length,
     const uint8_t *second, size_t second_length,
@@ -165,14 +186,19 @@ struct vadivuzhen_build_answer {
 };
 
 /* Builds the tables M and W from the first n entries of a pool's fields. In each, the entry for donor i and patient j stands at i * n + j. M says with 1
- * that donor i may give to patient j, and with 0 that not; W says what that is worth, and is 0 for a pair's own. Mismatches lower W, by
- * steps: antigens of donor i that patient j does not have. What only patient j has does not count.
+ * that donor i may give to patient j, and with 0 that not; W says what that is worth, and is 0 for a pair's own. W is the base, plus the step for the
+ * mismatches, which are the antigens of donor i that patient j does not have (what only patient j has does not count), plus the step for the age groups; by the
+ * points lent for version 2, by document 01's for version 1. More than 4 mismatches, and a senior donor for a young patient, add nothing. Steps need not
+ * fall, and all of them may be 0.
  * Fills VADIVUZHEN_ENTRIES(n) entries of each.
- * Refuses 4; 9, where a table of the fields has fewer than n entries; 6 and 7, pair by pair; 9, where M or W is shorter than n rows of n.
- * Proved: the fields are accepted if and only if they have none of these faults; every entry is then the published one, and M is 0 or 1, and 0 for a
- * pair's own, as vadivuzhen_plan asks. */
+ * Refuses 3, where the version is neither 1 nor 2; 4; 9, where a table of the fields has fewer than n entries or, for version 2, the points have fewer than
+ * VADIVUZHEN_POINTS; 14, for version 2; 6 and 7, pair by pair; 9, where M or W is shorter than n rows of n.
+ * Proved, for both versions: the fields are accepted if and only if they have none of these faults. M is then the published one, 0 or 1, and 0 for a pair's
+ * own, as vadivuzhen_plan asks. Every entry of W is that of the six points of the pool, for any six points that 14 lets pass: but for a pair's own, which is
+ * 0, it is at least the base, so no present edge is weightless, and at most 65,535. For version 1 the outcome is the same with any points table. */
 VADIVUZHEN_ANSWERS struct vadivuzhen_build_answer vadivuzhen_build(
-    size_t n,
+    uint16_t version, size_t n,
+    const uint16_t *points, size_t points_length,
     const uint32_t *ids, size_t ids_length,
     const uint8_t *donor_blood, size_t donor_blood_length,
     const uint8_t *patient_blood, size_t patient_blood_length,

@@ -1,5 +1,6 @@
-"""The library from C: the header by itself as C11 and as C++, its lengths for 0 to 200 pairs, the example examples/plan.c on document 01's sheet and on
-damaged ones, which must print document 01's text and refusals, and the calls of tests/calls.c, joining and floors among them, each with its answer."""
+"""The library from C: the header by itself as C11 and as C++, its lengths for 0 to 200 pairs, the example examples/plan.c on document 01's sheet in both
+versions and on damaged ones, which must print document 01's text and refusals, and the calls of tests/calls.c, joining, floors and points among them, each
+with its answer."""
 import math
 import pathlib
 import subprocess
@@ -11,6 +12,7 @@ top = pathlib.Path(__file__).resolve().parent.parent
 STRICT = ['-Wall', '-Wextra', '-Werror', '-pedantic', '-I', top / 'include']
 LIBRARY = top / 'target' / 'staticlib' / 'libvadivuzhen.a'
 PRINTED = 'PLAN 2 1 2900\n11 12 12\n12 11 11\nCOUNTS 1 6 1\n'
+POINTS = bytes.fromhex('04 000C 03E8 0190 00FA 0064 0032 001E')
 
 LENGTHS = r'''
 #include <stdio.h>
@@ -18,7 +20,7 @@ LENGTHS = r'''
 int main(void)
 {
     for (int n = 0; n <= VADIVUZHEN_MOST_PAIRS; n++)
-        printf("%d %zu %zu %zu %zu %zu %zu\n", n, VADIVUZHEN_SHEET(n), VADIVUZHEN_ENTRIES(n), VADIVUZHEN_SUBSETS(n),
+        printf("%d %zu %zu %zu %zu %zu %zu %zu\n", n, VADIVUZHEN_SHEET(n), VADIVUZHEN_SHEET_2(n), VADIVUZHEN_ENTRIES(n), VADIVUZHEN_SUBSETS(n),
                VADIVUZHEN_ROUNDS(n), VADIVUZHEN_RECORDS(n), VADIVUZHEN_PLAN_TEXT(n));
     return 0;
 }
@@ -49,7 +51,7 @@ def try_lengths(folder):
     for line in lines:
         n, *lengths = map(int, line.split())
         subsets = math.comb(n, 3) + math.comb(n, 2)
-        due = [7 + 35 * n + 3 + 2 * n, n * n, subsets, n // 2, n // 2, 138 + 33 * n]
+        due = [7 + 35 * n + 3 + 2 * n, 7 + 15 + 35 * n + 3 + 2 * n, n * n, subsets, n // 2, n // 2, 138 + 33 * n]
         check(lengths == due, f'the lengths for {n} pairs are {lengths}, due are {due}')
 
 
@@ -64,9 +66,20 @@ def try_example(folder):
 
     two = (top / 'examples' / 'two.sheet').read_bytes()
     empty = bytes.fromhex('01 0004 0001 0000 03 0000')
+    # its points stand at 7, its pairs at 22 and 57, its shuffle at 92; it ends at 99
+    other = changed(two[:7], 4, 2) + POINTS + two[7:]
+    base = changed(changed(other, 10, 0x07), 11, 0xD0)
+    zero = changed(changed(other, 10, 0), 11, 0)
+    heavy = other[:10] + bytes.fromhex('FFFF') + bytes(10) + other[22:]
     prints('a file', run(program, 'examples/two.sheet'), PRINTED, 0)
     prints('standard input', run(program, given=two), PRINTED, 0)
     prints('no pairs', run(program, given=empty), 'PLAN 0 0 0\nCOUNTS 0 0 0\n', 0)
+    prints('no pairs in version 2', run(program, given=changed(empty[:7], 4, 2) + POINTS + empty[7:]), 'PLAN 0 0 0\nCOUNTS 0 0 0\n', 0)
+    prints('version 2', run(program, given=other), PRINTED, 0)
+    prints('version 2 with base 2,000', run(program, given=base), PRINTED.replace('2900', '4900'), 0)
+    prints('version 2 with base 65,535 alone', run(program, given=heavy), PRINTED.replace('2900', '131070'), 0)
+    eight = (top / 'examples' / 'eight_by_age.plan').read_text()
+    prints('eight pairs in version 2', run(program, 'examples/eight_by_age.sheet'), eight, 0)
     prints('no file', run(program, 'examples/none.sheet'), '', 2)
     # the fields of the sheet stand at 0, 7, 42 and 77; it ends at 84
     for what, sheet, number, place in [
@@ -75,7 +88,16 @@ def try_example(folder):
         ('a value cut off', two[:41], 1, 7),
         ('another tag', changed(two, 42, 3), 2, 42),
         ('another length', changed(two, 79, 2), 2, 77),
-        ('version 2', changed(two, 4, 2), 3, 0),
+        ('version 0', changed(two, 4, 0), 3, 0),
+        ('version 3', changed(other, 4, 3), 3, 0),
+        ('version 2 without points', changed(two, 4, 2), 2, 7),
+        ('version 1 with points', changed(other, 4, 1), 2, 7),
+        ('points cut off', other[:21], 1, 7),
+        ('a base of 0', zero, 14, 7),
+        ('a base of 0 and a wrong tag after it', changed(zero, 22, 3), 14, 7),
+        ('a base of 0 and 201 pairs', changed(zero, 6, 201), 4, 0),
+        ('a byte more in version 2', other + b'\0', 5, 99),
+        ('many bytes more in version 2', other + bytes(10000), 5, 99),
         ('201 pairs', changed(two, 6, 201), 4, 0),
         ('a byte more', two + b'\0', 5, 84),
         ('many bytes more', two + bytes(10000), 5, 84),
@@ -94,7 +116,7 @@ def try_calls(folder):
         return
     done = run(program, given=(top / 'examples' / 'two.sheet').read_bytes())
     lines = done.stdout.decode().splitlines()
-    check(done.returncode == 0 and len(lines) == 45, f'tests/calls.c: status {done.returncode}, {len(lines)} checks')
+    check(done.returncode == 0 and len(lines) == 89, f'tests/calls.c: status {done.returncode}, {len(lines)} checks')
     for line in lines:
         check(line.startswith('ok: '), f'tests/calls.c: {line}')
 

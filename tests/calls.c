@@ -10,6 +10,9 @@ static void check(int ok, const char *what)
     printf("%s: %s\n", ok ? "ok" : "wrong", what);
 }
 
+/* The points of the sheets that are read, with an entry before them and two after, to see that none too many is filled. */
+static uint16_t guarded[1 + VADIVUZHEN_POINTS + 2];
+static uint16_t *const points = guarded + 1;
 static uint32_t ids[2];
 static uint8_t donor_blood[2], patient_blood[2], donor_age[2], patient_age[2];
 static uint64_t donor_antigens[2], patient_antigens[2], patient_antibodies[2];
@@ -22,21 +25,155 @@ static void there_and_back(void)
     uint8_t again[VADIVUZHEN_SHEET(2) + 1];
     size_t length = fread(sheet, 1, sizeof sheet, stdin);
     struct vadivuzhen_read_answer read = vadivuzhen_read(
-        sheet, length, ids, 2, donor_blood, 2, patient_blood, 2, donor_age, 2, patient_age, 2,
+        sheet, length, points, 0, ids, 2, donor_blood, 2, patient_blood, 2, donor_age, 2, patient_age, 2,
         donor_antigens, 2, patient_antigens, 2, patient_antibodies, 2, shuffle, 2);
-    check(read.refusal == VADIVUZHEN_FINISHED && read.place == 0 && read.pairs == 2, "two pairs are read");
+    check(read.refusal == VADIVUZHEN_FINISHED && read.version == 1 && read.place == 0 && read.pairs == 2, "two pairs are read, with no room for points");
     check(ids[0] == 11 && ids[1] == 12 && donor_blood[0] == 1 && patient_blood[0] == 2 && shuffle[1] == 1, "their fields");
 
     memset(again, 99, sizeof again);
     struct vadivuzhen_write_answer written = vadivuzhen_write(
-        2, ids, 2, donor_blood, 2, patient_blood, 2, donor_age, 2, patient_age, 2,
+        1, 2, points, 0, ids, 2, donor_blood, 2, patient_blood, 2, donor_age, 2, patient_age, 2,
         donor_antigens, 2, patient_antigens, 2, patient_antibodies, 2, shuffle, 2, again, sizeof again);
     check(written.refusal == VADIVUZHEN_FINISHED && written.length == length, "they are written");
     check(memcmp(sheet, again, length) == 0 && again[length] == 99, "as the same sheet, and not a byte more");
     written = vadivuzhen_write(
-        2, ids, 2, donor_blood, 2, patient_blood, 2, donor_age, 2, patient_age, 2,
+        1, 2, points, 0, ids, 2, donor_blood, 2, patient_blood, 2, donor_age, 2, patient_age, 2,
         donor_antigens, 2, patient_antigens, 2, patient_antibodies, 2, shuffle, 2, again, length - 1);
     check(written.refusal == VADIVUZHEN_TOO_SHORT && written.length == 0, "a buffer one byte short is refused");
+}
+
+/* Document 01's points, and those of another registry. */
+static const uint16_t document[VADIVUZHEN_POINTS] = {1000, 400, 250, 100, 50, 30}, registry[VADIVUZHEN_POINTS] = {2000, 600, 500, 400, 3, 2};
+
+/* The sheet `sheet` in version 2, with these points, into 99 bytes. */
+static void sheet_2(uint8_t *to, const uint16_t *with)
+{
+    static const uint8_t start[] = {4, 0, 12};
+    memcpy(to, sheet, 7);
+    to[4] = 2;
+    memcpy(to + 7, start, sizeof start);
+    for (size_t i = 0; i < VADIVUZHEN_POINTS; i++) {
+        to[10 + 2 * i] = (uint8_t)(with[i] >> 8);
+        to[10 + 2 * i + 1] = (uint8_t)with[i];
+    }
+    memcpy(to + 22, sheet + 7, sizeof sheet - 7);
+}
+
+/* Reads a sheet of two pairs into the tables, of which the points have that many entries; all that there are held 99 before. */
+static struct vadivuzhen_read_answer read_into(const uint8_t *from, size_t length, size_t room)
+{
+    for (size_t i = 0; i < sizeof guarded / sizeof guarded[0]; i++)
+        guarded[i] = 99;
+    return vadivuzhen_read(
+        from, length, points, room, ids, 2, donor_blood, 2, patient_blood, 2, donor_age, 2, patient_age, 2,
+        donor_antigens, 2, patient_antigens, 2, patient_antibodies, 2, shuffle, 2);
+}
+
+/* Do the points begin with `with`, or with nothing new where that is null, and are 99 before it and past it? */
+static int points_are(const uint16_t *with)
+{
+    for (size_t i = 0; i < VADIVUZHEN_POINTS + 2; i++)
+        if (points[i] != (with != NULL && i < VADIVUZHEN_POINTS ? with[i] : 99))
+            return 0;
+    return guarded[0] == 99;
+}
+
+/* Writes the pool in the tables in that version, with that many of these points, into bytes that held 99 before. */
+static struct vadivuzhen_write_answer write_with(uint16_t version, const uint16_t *with, size_t count, uint8_t *to, size_t room)
+{
+    memset(to, 99, room + 1);
+    return vadivuzhen_write(
+        version, 2, with, count, ids, 2, donor_blood, 2, patient_blood, 2, donor_age, 2, patient_age, 2,
+        donor_antigens, 2, patient_antigens, 2, patient_antibodies, 2, shuffle, 2, to, room);
+}
+
+/* M and W of two pairs, each with an entry on either side; the middle is lent. */
+static uint8_t table_m[6];
+static uint16_t table_w[6];
+
+/* Builds the pool in the tables in that version, with that many of these points. All entries of M and W held 99 before. */
+static uint32_t build_with(uint16_t version, size_t n, const uint16_t *with, size_t count)
+{
+    for (size_t i = 0; i < 6; i++)
+        table_m[i] = 99, table_w[i] = 99;
+    return vadivuzhen_build(
+        version, n, with, count, ids, 2, donor_blood, 2, patient_blood, 2, donor_age, 2, patient_age, 2,
+        donor_antigens, 2, patient_antigens, 2, patient_antibodies, 2, table_m + 1, 4, table_w + 1, 4).refusal;
+}
+
+/* Have M and W both edges of that weight, and nothing past them changed? */
+static int built(uint16_t weight)
+{
+    const uint8_t due_m[] = {99, 0, 1, 1, 0, 99};
+    const uint16_t due_w[] = {99, 0, weight, weight, 0, 99};
+    return memcmp(table_m, due_m, sizeof table_m) == 0 && memcmp(table_w, due_w, sizeof table_w) == 0;
+}
+
+/* Are M and W as they were? */
+static int unbuilt(void)
+{
+    for (size_t i = 0; i < 6; i++)
+        if (table_m[i] != 99 || table_w[i] != 99)
+            return 0;
+    return 1;
+}
+
+/* Document 01's sheet in version 2: read, written and built with its points. */
+static void versions(void)
+{
+    static const uint16_t wrong[VADIVUZHEN_POINTS] = {2, 0, 0, 65534, 0, 0}, zero[VADIVUZHEN_POINTS] = {0, 400, 250, 100, 50, 30};
+    uint8_t two[VADIVUZHEN_SHEET_2(2)], again[VADIVUZHEN_SHEET_2(2) + 1];
+    size_t length = sizeof two;
+    sheet_2(two, registry);
+    check(length == 99 && VADIVUZHEN_SHEET_2(VADIVUZHEN_MOST_PAIRS) == 7425, "a sheet of version 2 has 15 bytes more");
+    struct vadivuzhen_read_answer read = read_into(two, length, VADIVUZHEN_POINTS + 1);
+    check(read.refusal == VADIVUZHEN_FINISHED && read.version == 2 && read.place == 0 && read.pairs == 2, "it is read");
+    check(points_are(registry) && ids[0] == 11 && ids[1] == 12, "with six points and its pairs, and nothing before or past the points");
+
+    struct vadivuzhen_write_answer written = write_with(read.version, points, VADIVUZHEN_POINTS + 2, again, length);
+    check(written.refusal == VADIVUZHEN_FINISHED && written.length == length, "it is written");
+    check(memcmp(two, again, length) == 0 && again[length] == 99, "as the same sheet, and not a byte more");
+    check(points_are(registry), "and the points are as they were");
+    written = write_with(2, registry, VADIVUZHEN_POINTS, again, length - 1);
+    check(written.refusal == VADIVUZHEN_TOO_SHORT && written.length == 0 && again[0] == 99, "a buffer one byte short is refused");
+
+    /* no mismatch and equal ages: 2000 + 600 + 3, and by document 01's points 1000 + 400 + 50 */
+    check(build_with(2, 2, registry, VADIVUZHEN_POINTS) == VADIVUZHEN_FINISHED && built(2603), "its edges weigh by its points");
+    check(build_with(2, 2, document, VADIVUZHEN_POINTS) == VADIVUZHEN_FINISHED && built(1450), "and by document 01's as in version 1");
+    check(build_with(1, 2, registry, VADIVUZHEN_POINTS) == VADIVUZHEN_FINISHED && built(1450), "in version 1 they weigh by document 01's, whatever is lent");
+    check(build_with(1, 2, registry, 0) == VADIVUZHEN_FINISHED && built(1450), "and where no point is lent");
+    check(build_with(1, 2, zero, VADIVUZHEN_POINTS) == VADIVUZHEN_FINISHED && built(1450), "and where those lent have a base of 0");
+
+    check(read_into(two, length, 5).refusal == VADIVUZHEN_TOO_SHORT && points_are(NULL), "five points are too short to read into");
+    check(write_with(2, registry, 5, again, length).refusal == VADIVUZHEN_TOO_SHORT && again[0] == 99, "and to write from");
+    check(build_with(2, 2, registry, 5) == VADIVUZHEN_TOO_SHORT && unbuilt(), "and to build from");
+    check(build_with(2, 0, registry, 5) == VADIVUZHEN_TOO_SHORT && unbuilt(), "with no pairs too");
+    read = read_into(sheet, sizeof sheet, VADIVUZHEN_POINTS + 2);
+    check(read.refusal == VADIVUZHEN_FINISHED && read.version == 1 && points_are(NULL), "reading version 1 leaves the points as they were");
+    written = write_with(1, zero, VADIVUZHEN_POINTS, again, length);
+    check(written.length == sizeof sheet && memcmp(sheet, again, sizeof sheet) == 0 && again[sizeof sheet] == 99, "and writing it looks at none");
+
+    sheet_2(two, zero);
+    read = read_into(two, length, 0);
+    check(read.refusal == VADIVUZHEN_WRONG_POINTS && read.version == 0 && read.place == 7 && read.pairs == 0 && points_are(NULL), "a base of 0 is refused at 7");
+    sheet_2(two, wrong);
+    two[22] = 9;
+    read = read_into(two, length, 0);
+    check(read.refusal == VADIVUZHEN_WRONG_POINTS && read.place == 7, "and 65,536 together, before the first pair's tag");
+    check(write_with(2, wrong, VADIVUZHEN_POINTS, again, length).refusal == VADIVUZHEN_WRONG_POINTS && again[0] == 99, "and in writing");
+    check(build_with(2, 0, wrong, VADIVUZHEN_POINTS) == VADIVUZHEN_WRONG_POINTS && unbuilt(), "and in building, with no pairs too");
+    for (size_t i = 1; i < VADIVUZHEN_POINTS; i++) {
+        uint16_t with[VADIVUZHEN_POINTS] = {1};
+        with[i] = 65534;
+        uint32_t passes = build_with(2, 2, with, VADIVUZHEN_POINTS);
+        with[0] = 2;
+        check(passes == VADIVUZHEN_FINISHED && build_with(2, 2, with, VADIVUZHEN_POINTS) == VADIVUZHEN_WRONG_POINTS && unbuilt(),
+              "a base of 1 passes beside any one step of 65,534, and a base of 2 is refused");
+    }
+    check(build_with(2, 201, wrong, 0) == VADIVUZHEN_TOO_MANY_PAIRS && build_with(2, 2, wrong, 0) == VADIVUZHEN_TOO_SHORT, "after 4 and after 9");
+    check(build_with(0, 201, wrong, 0) == VADIVUZHEN_WRONG_VERSION && build_with(3, 2, registry, 6) == VADIVUZHEN_WRONG_VERSION
+              && build_with(65535, 2, registry, 6) == VADIVUZHEN_WRONG_VERSION && unbuilt(), "versions 0, 3 and 65,535 are refused before all else");
+    check(write_with(3, registry, 0, again, 0).refusal == VADIVUZHEN_WRONG_VERSION && again[0] == 99, "and in writing");
 }
 
 /* A sheet of n pairs with ids from `id` on, bloods O and AB, one bit of the donor's antigens set, and the shuffle 0 to n - 1. Gives its length. */
@@ -56,7 +193,7 @@ static size_t sheet_of(uint8_t *out, size_t n, uint8_t id)
 }
 
 /* Where sheets are joined, with room to see that no byte too many is written. */
-static uint8_t out[VADIVUZHEN_SHEET(VADIVUZHEN_MOST_PAIRS) + 1];
+static uint8_t out[VADIVUZHEN_SHEET_2(VADIVUZHEN_MOST_PAIRS) + 1];
 
 static struct vadivuzhen_join_answer join(const uint8_t *first, size_t first_length, const uint8_t *second, size_t second_length, size_t out_length)
 {
@@ -129,6 +266,36 @@ static void joins_refused(void)
     many_length = sheet_of(many, 198, 13);
     check(refused(join(sheet, length, many, many_length, 7409), VADIVUZHEN_TOO_SHORT, 0), "a buffer one byte short is refused");
     check(joined(join(sheet, length, many, many_length, 7410), 7410) && out[6] == 200 && out[7409] == 199, "200 pairs together are joined");
+}
+
+/* Sheets of version 2, joined or refused by 15: with the pairs of the sheet on standard input, and with none. */
+static void joins_by_points(void)
+{
+    static const uint8_t none_2[] = {1, 0, 4, 0, 2, 0, 0, 4, 0, 12, 7, 208, 2, 88, 1, 244, 1, 144, 0, 3, 0, 2, 3, 0, 0}, head[] = {1, 0, 4, 0, 2, 0, 4},
+                         last[] = {3, 0, 8, 0, 0, 0, 1, 0, 2, 0, 3};
+    uint8_t two[VADIVUZHEN_SHEET_2(2)], other[VADIVUZHEN_SHEET_2(2)], none[VADIVUZHEN_SHEET(0)];
+    size_t length = sizeof two;
+    sheet_2(two, registry);
+    memcpy(other, two, length);
+    other[22 + 6] = 13;
+    other[57 + 6] = 14;
+    check(joined(join(two, length, other, length, 173), 173), "two sheets with the same points are joined: 25 bytes fewer than both");
+    check(memcmp(out, head, 7) == 0 && memcmp(out + 7, two + 7, 85) == 0 && memcmp(out + 92, other + 22, 70) == 0 && memcmp(out + 162, last, 11) == 0,
+          "with these points, the first's pairs and the second's");
+    check(joined(join(two, length, none_2, sizeof none_2, length), length) && memcmp(out, two, length) == 0, "one of no pairs with these points gives the other");
+
+    check(refused(join(two, length, two, length, 0), VADIVUZHEN_SHARED_ID, 0), "the same points let 11 be seen");
+    for (size_t i = 0; i < VADIVUZHEN_POINTS; i++) {
+        memcpy(other, two, length);
+        other[10 + 2 * i + 1] ^= 1;
+        check(refused(join(two, length, other, length, 0), VADIVUZHEN_DIFFERENT_POINTS, 0), "another point is refused, before 11");
+    }
+    check(refused(join(other, length, none_2, sizeof none_2, sizeof out), VADIVUZHEN_DIFFERENT_POINTS, 0), "with no pairs on one side too");
+    sheet_2(other, document);
+    check(refused(join(sheet, sizeof sheet, other, length, 0), VADIVUZHEN_DIFFERENT_POINTS, 0), "version 1 beside document 01's points in version 2 is refused");
+    check(refused(join(none, sheet_of(none, 0, 0), other, length, sizeof out), VADIVUZHEN_DIFFERENT_POINTS, 0), "with no pairs too");
+    other[10] = other[11] = 0;
+    check(refused(join(two, length, other, length, 0), VADIVUZHEN_WRONG_POINTS, 7), "and after a sheet's own refusal, 14 with its place");
 }
 
 /* Document 01's k10, with the shuffle 2 0 1, in tables that are longer than they need to be. */
@@ -260,17 +427,20 @@ static void numbers(void)
     check(VADIVUZHEN_CUT_OFF == 1 && VADIVUZHEN_WRONG_FIELD == 2 && VADIVUZHEN_WRONG_VERSION == 3 && VADIVUZHEN_TOO_MANY_PAIRS == 4
               && VADIVUZHEN_LEFT_OVER == 5 && VADIVUZHEN_OUT_OF_RANGE == 6 && VADIVUZHEN_REPEATED_ID == 7 && VADIVUZHEN_NOT_A_SHUFFLE == 8
               && VADIVUZHEN_TOO_SHORT == 9 && VADIVUZHEN_NOT_COMPATIBILITY == 10 && VADIVUZHEN_SHARED_ID == 11
-              && VADIVUZHEN_TOO_MANY_TOGETHER == 12 && VADIVUZHEN_FLOOR_TOO_HIGH == 13,
+              && VADIVUZHEN_TOO_MANY_TOGETHER == 12 && VADIVUZHEN_FLOOR_TOO_HIGH == 13 && VADIVUZHEN_WRONG_POINTS == 14
+              && VADIVUZHEN_DIFFERENT_POINTS == 15,
           "the refusals' numbers");
-    check(VADIVUZHEN_MOST_PAIRS == 200 && VADIVUZHEN_MOST_FLOOR == 200000, "the limits");
+    check(VADIVUZHEN_MOST_PAIRS == 200 && VADIVUZHEN_MOST_FLOOR == 200000 && VADIVUZHEN_POINTS == 6, "the limits");
     check(sizeof(struct vadivuzhen_cycle) == 6, "a record is three numbers of 16 bits");
 }
 
 int main(void)
 {
     there_and_back();
+    versions();
     joins();
     joins_refused();
+    joins_by_points();
     a_record();
     floors();
     texts();

@@ -1,4 +1,5 @@
-"""The program `plan`, run: on the examples, on document 01's numbers and limits, and on whole and damaged sheets beside the planner in Rust (trial/).
+"""The program `plan`, run: on the examples, on document 01's numbers and limits, on sheets of version 2 with the numbers of request W-205, and on whole and
+damaged sheets of both versions beside the planner in Rust (trial/).
 
 usage: plan.py [SEED [COUNT]]      the seed is printed, so that a failure can be run again"""
 import os
@@ -9,7 +10,7 @@ import sys
 import time
 
 from closing import check, close
-from sheets import damaged, sheet_of, whole
+from sheets import DOCUMENT, damaged, registry, sheet_of, two_pairs, whole
 
 top = pathlib.Path(__file__).resolve().parent.parent
 examples = top / 'examples'
@@ -47,8 +48,8 @@ def counts(n):
 def try_examples():
     for file in sorted(examples.glob('*.sheet')):
         expect(file.name, file.read_bytes(), file.with_suffix('.plan').read_text())
-    for name, count in make.PAIRS.items():
-        check((examples / f'{name}.sheet').read_bytes() == make.sheet(count), f'{name}.sheet is not what make.py makes')
+    for name, made in make.sheets().items():
+        check((examples / f'{name}.sheet').read_bytes() == made, f'{name}.sheet is not what make.py makes')
     for file in sorted(examples.glob('*.sheet')):
         check(printed(RUST, file.read_bytes()) == file.with_suffix('.plan').read_text(), f'{file.stem}.plan is not what the planner in Rust prints')
 
@@ -63,11 +64,15 @@ def try_limits():
     expect('no pairs', sheet_of([], []), 'PLAN 0 0 0\nCOUNTS 0 0 0\n')
     expect('41 pairs', sheet_of(*pool(41)), 'REFUSED 9 0\n')
     longest = sheet_of(*pool(200))
-    check(len(longest) == 7410, f'the longest sheet has {len(longest)} bytes')
+    check(len(longest) == 7410, f'the longest sheet of version 1 has {len(longest)} bytes')
     expect('7,410 bytes', longest, 'REFUSED 9 0\n')
-    expect('7,411 bytes', longest + b'\0', 'REFUSED 5 7410\n')
-    expect('7,412 bytes', longest + b'\0\0', 'REFUSED 5 7410\n')
-    expect('a million bytes', longest + bytes(10 ** 6), 'REFUSED 5 7410\n')
+    for length in (7411, 7412, 7425, 7426, 7427, 10 ** 6):
+        expect(f'version 1 and {length} bytes', longest + bytes(length - 7410), 'REFUSED 5 7410\n')
+    longest = sheet_of(*pool(200), DOCUMENT)
+    check(len(longest) == 7425, f'the longest sheet of version 2 has {len(longest)} bytes')
+    expect('7,425 bytes', longest, 'REFUSED 9 0\n')
+    for length in (7426, 7427, 10 ** 6):
+        expect(f'version 2 and {length} bytes', longest + bytes(length - 7425), 'REFUSED 5 7425\n')
     expect('201 pairs', sheet_of(*pool(201)), 'REFUSED 4 0\n')
     for n in range(41):
         lines = printed(PLAN, sheet_of(*pool(n))).splitlines()
@@ -75,6 +80,39 @@ def try_limits():
         check(len(lines) == n + 2, f'{n} pairs: {len(lines)} lines')
     greatest = [(2 ** 32 - 1 - k, [0, 0, 0, 0], [0, 0, 0]) for k in range(40)], list(range(40))
     expect('40 pairs with the greatest ids', sheet_of(*greatest), printed(RUST, sheet_of(*greatest)))
+
+
+def try_points():
+    """Document 01's sheet in version 2, with the numbers of request W-205."""
+    text = (examples / 'two.plan').read_text()
+
+    def weighs(points, weight):
+        expect(f'points {points}', two_pairs(points), text.replace('2900', str(weight)))
+
+    check(text.startswith('PLAN 2 1 2900\n') and len(two_pairs(DOCUMENT)) == 99, 'document 01\'s sheet in version 2 has not 99 bytes')
+    check(two_pairs() == (examples / 'two.sheet').read_bytes(), 'document 01\'s sheet is not two.sheet')
+    weighs(DOCUMENT, 2900)
+    weighs([2000, *DOCUMENT[1:]], 4900)
+    weighs([65535, 0, 0, 0, 0, 0], 131070)
+    weighs([1, 0, 0, 65534, 0, 0], 2)
+    weighs([1, 65000, 0, 0, 534, 0], 131070)
+    for cut in range(99):
+        place = max(place for place in (0, 7, 22, 57, 92) if place <= cut)
+        expect(f'version 2 cut at {cut}', two_pairs(DOCUMENT)[:cut], f'REFUSED 1 {place}\n')
+    wrong = two_pairs([0, *DOCUMENT[1:]])
+    expect('a base of 0', wrong, 'REFUSED 14 7\n')
+    expect('a base of 0, and the first pair\'s tag wrong', wrong[:22] + b'\7' + wrong[23:], 'REFUSED 14 7\n')
+    expect('a base of 0, and 201 pairs', wrong[:6] + bytes([201]) + wrong[7:], 'REFUSED 4 0\n')
+    expect('65,536 together', two_pairs([2, 0, 0, 65534, 0, 0]), 'REFUSED 14 7\n')
+    expect('201 pairs and a base of 0', sheet_of(*pool(201), [0] * 6), 'REFUSED 4 0\n')
+    expect('201 pairs in version 2', sheet_of(*pool(201), DOCUMENT), 'REFUSED 4 0\n')
+    expect('41 pairs in version 2', sheet_of(*pool(41), DOCUMENT), 'REFUSED 9 0\n')
+    expect('no pairs in version 2', sheet_of([], [], DOCUMENT), 'PLAN 0 0 0\nCOUNTS 0 0 0\n')
+    expect('points in version 1', two_pairs(DOCUMENT)[:4] + b'\1' + two_pairs(DOCUMENT)[5:], 'REFUSED 2 7\n')
+    expect('no points in version 2', two_pairs()[:4] + b'\2' + two_pairs()[5:], 'REFUSED 2 7\n')
+    expect('version 3', two_pairs(DOCUMENT)[:4] + b'\3' + two_pairs(DOCUMENT)[5:], 'REFUSED 3 0\n')
+    lines = [printed(PLAN, (examples / f'{name}.sheet').read_bytes()).splitlines() for name in ('eight', 'eight_by_age')]
+    check(lines[0][1:] != lines[1][1:] and lines[0][-1] == lines[1][-1], 'eight pairs by other points have the same partners, or another tally')
 
 
 def try_triple():
@@ -119,12 +157,11 @@ def try_random(draw, count):
     for _ in range(count):
         kind = draw.random()
         if kind < 0.3:
-            pairs, shuffle = whole(draw)
-            sheet = sheet_of(pairs, shuffle)
+            sheet = sheet_of(*whole(draw))
         elif kind < 0.7:
             n = draw.randrange(41)
             pairs = [make.pair(draw, k + 1) for k in range(n)]
-            sheet = sheet_of(pairs, draw.sample(range(n), n))
+            sheet = sheet_of(pairs, draw.sample(range(n), n), registry(draw))
         else:
             sheet = damaged(draw)
         want = printed(RUST, sheet)
@@ -134,7 +171,7 @@ def try_random(draw, count):
         expect(f'sheet {sheet.hex()}', sheet, want)
     print('answers', ', '.join(f'{k}: {answers[k]}' for k in sorted(answers)))
     if count >= 1000:
-        for answer in ('planned', '1', '2', '3', '4', '5', '6', '7', '8', '9'):
+        for answer in ('planned', '1', '2', '3', '4', '5', '6', '7', '8', '9', '14'):
             check(answer in answers, f'no sheet was {answer}')
 
 
@@ -146,6 +183,7 @@ def main():
     check(built.returncode == 0, 'cargo build failed:\n' + built.stderr[-3000:])
     try_examples()
     try_limits()
+    try_points()
     try_triple()
     try_pieces()
     try_lost()

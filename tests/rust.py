@@ -1,5 +1,5 @@
-"""The library from Rust: the tests and the documentation of the crate in rust/, its example on document 01's sheet, on a damaged one and where nothing can
-be read or written, and the benchmark at one small size. Links the archive that tests/c.py makes, whatever VADIVUZHEN_LIB says."""
+"""The library from Rust: the tests and the documentation of the crate in rust/, its example on document 01's sheet, on one of version 2, on damaged ones and
+where nothing can be read or written, and the benchmark at one small size. Links the archive that tests/c.py makes, whatever VADIVUZHEN_LIB says."""
 import os
 import pathlib
 import re
@@ -24,7 +24,7 @@ def said(done):
 tests = cargo('rust', 'test', '--offline')
 results = re.findall(r'^test (\S+.*) \.\.\. (\w+)', tests.stdout.decode(), re.M)
 check(tests.returncode == 0, 'cargo test failed:\n' + said(tests))
-check(len(results) >= 22, f'only {len(results)} tests ran')
+check(len(results) >= 29, f'only {len(results)} tests ran')
 for name, result in results:
     check(result == 'ok', f'{name}: {result}')
 
@@ -32,12 +32,17 @@ documented = cargo('rust', 'doc', '--offline', '--no-deps', RUSTDOCFLAGS='-D war
 check(documented.returncode == 0, 'cargo doc:\n' + said(documented))
 
 two = (top / 'examples' / 'two.sheet').read_bytes()
+other = (top / 'examples' / 'eight_by_age.sheet').read_bytes()
+by_age = (top / 'examples' / 'eight_by_age.plan').read_text()
 example = ['run', '--release', '--offline', '--quiet', '--example', 'plan']
 for what, words, given, text, status in [
     ('a file', ['--', '../examples/two.sheet'], b'', PRINTED, 0),
     ('standard input', [], two, PRINTED, 0),
     ('a sheet that is cut off', [], two[:79], 'REFUSED 1 77\n', 1),
     ('many bytes more', [], two + bytes(10000), 'REFUSED 5 84\n', 1),
+    ('version 2', [], other, by_age, 0),
+    ('a base of 0', [], other[:10] + bytes(2) + other[12:], 'REFUSED 14 7\n', 1),
+    ('many bytes more in version 2', [], other + bytes(10000), f'REFUSED 5 {len(other)}\n', 1),
     ('no file', ['--', '../examples/none.sheet'], b'', '', 2),
 ]:
     done = cargo('rust', *example, *words, given=given)
@@ -55,5 +60,6 @@ bench = cargo('bench', 'run', '--release', '--offline', '--quiet', '--', '10')
 check(bench.returncode == 0 and re.search(rb'^\| 10 \| \d+ \|', bench.stdout, re.M), 'the benchmark:\n' + said(bench))
 check(re.search(rb'^\| pairs \| join.*\n.*\n\| 10 \| \d', bench.stdout, re.M), 'the benchmark does not time joining:\n' + said(bench))
 check(re.search(rb'^\| pairs \| floor.*\n.*\n\| 10 \| \d', bench.stdout, re.M), 'the benchmark does not time a floor:\n' + said(bench))
+check(re.search(rb'^\| pairs \| read, version 2.*\n.*\n\| 10 \| \d', bench.stdout, re.M), 'the benchmark does not time version 2:\n' + said(bench))
 
 close()

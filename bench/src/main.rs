@@ -1,13 +1,14 @@
 //! Times reading, building, planning and joining by the proved library; beside
 //! its planning the same gates in plain Rust, and a planner that counts
 //! nothing; and beside its joining the same in plain Rust. Planning is timed
-//! with floor 0, and once more with a floor that leaves about half the cycles.
+//! with floor 0, and once more with a floor that leaves about half the cycles;
+//! reading and building in version 1, and once more in version 2.
 //!
 //! `cargo run --release [-- SIZE..]` prints Markdown.
 
 use reference::best::cycle_weight;
-use reference::random::{pool, pools_apart, PoolKind, Random};
-use reference::{gates, sheet, straight, subsets, Plan, Pool, Room, Tally};
+use reference::random::{plain_pool, pools_apart, PoolKind, Random};
+use reference::{gates, sheet, straight, subsets, Plan, Points, Pool, Room, Tally};
 use std::fs;
 use std::hint::black_box;
 use std::time::Duration;
@@ -50,6 +51,8 @@ fn main() {
     print_joins(&timed);
     println!();
     print_floors(&timed);
+    println!();
+    print_versions(&timed);
     println!();
     print_gates(&timed);
 }
@@ -105,6 +108,9 @@ struct Timed {
     cycles: [usize; 2],
     plan_above: Times,
     gates_above: Times,
+    /// The same pairs in version 2, with document 01's points.
+    read_2: Times,
+    build_2: Times,
 }
 
 impl Timed {
@@ -117,8 +123,7 @@ impl Timed {
 
 /// The sheet of a sound pool.
 fn sheet_of(pool: &Pool) -> Vec<u8> {
-    reference::write(pool.len(), pool.fields(), &pool.shuffle, sheet::LONGEST)
-        .expect("a sound pool is written")
+    reference::write_pool(pool, sheet::LONGEST).expect("a sound pool is written")
 }
 
 /// The tables that planning fills.
@@ -187,12 +192,15 @@ fn middle_weight(n: usize, m: &[u8], w: &[u16], plan: &Plan) -> u32 {
 /// Times all work on a pool of `n` pairs, taking turns, so that whatever else
 /// the machine does falls on all alike.
 fn timed(n: usize) -> Timed {
-    let sheet = sheet_of(&pool(&mut Random::new(SEED), n, PoolKind::Dense));
+    let pool = plain_pool(&mut Random::new(SEED), n, PoolKind::Dense);
+    let sheet = sheet_of(&pool);
+    let sheet_2 = sheet_of(&pool.with_points(Points::DOCUMENT));
     let halves = [n / 2, n - n / 2];
-    let [first, second] =
-        pools_apart(&mut Random::new(SEED), halves, PoolKind::Dense).map(|half| sheet_of(&half));
+    let [first, second] = pools_apart(&mut Random::new(SEED), halves, PoolKind::Dense)
+        .map(|half| sheet_of(&half.of_version_1()));
     let mut joined = vec![0; sheet.len()];
 
+    let mut points = [0; 6];
     let mut ids = vec![0; n];
     let [mut donor_blood, mut patient_blood, mut donor_age, mut patient_age] =
         [(); 4].map(|()| vec![0; n]);
@@ -200,6 +208,7 @@ fn timed(n: usize) -> Timed {
         [(); 3].map(|()| vec![0; n]);
     let mut shuffle = vec![0; n];
     let (mut m, mut w) = (vec![0; n * n], vec![0; n * n]);
+    let (mut m_2, mut w_2) = (m.clone(), w.clone());
     let mut filled = Filled::new(n);
 
     let mut timed = Timed {
@@ -215,15 +224,18 @@ fn timed(n: usize) -> Timed {
         cycles: [0; 2],
         plan_above: Times::default(),
         gates_above: Times::default(),
+        read_2: Times::default(),
+        build_2: Times::default(),
     };
     let often = 1 + (PAIRS_TO_TIME / n.max(1)).pow(3) as u32;
     let start = processor_time();
     let mut runs = 0;
     while runs < OFTEN_ENOUGH || runs < TOO_OFTEN && processor_time() - start < LONG_ENOUGH {
-        let read = timed.read.add(often, || {
+        let mut read = |sheet: &[u8]| {
             raw::read(
-                black_box(&sheet),
+                black_box(sheet),
                 raw::LentPool {
+                    points: &mut points,
                     ids: &mut ids,
                     donor_blood: &mut donor_blood,
                     patient_blood: &mut patient_blood,
@@ -235,7 +247,10 @@ fn timed(n: usize) -> Timed {
                     shuffle: &mut shuffle,
                 },
             )
-        });
+        };
+        let read_1 = timed.read.add(often, || read(&sheet));
+        let read_2 = timed.read_2.add(often, || read(&sheet_2));
+        assert_eq!((read_1.version, read_2.version), (1, 2));
         let fields = raw::Fields {
             ids: &ids,
             donor_blood: &donor_blood,
@@ -246,10 +261,16 @@ fn timed(n: usize) -> Timed {
             patient_antigens: &patient_antigens,
             patient_antibodies: &patient_antibodies,
         };
-        let build = timed
+        let build_1 = timed
             .build
-            .add(often, || raw::build(n, fields, &mut m, &mut w));
-        assert_eq!((read.refusal, build.refusal), (0, 0));
+            .add(often, || raw::build(1, n, &points, fields, &mut m, &mut w));
+        let build_2 = timed.build_2.add(often, || {
+            raw::build(2, n, &points, fields, &mut m_2, &mut w_2)
+        });
+        assert_eq!((read_1.refusal, build_1.refusal), (0, 0));
+        assert_eq!((read_2.refusal, build_2.refusal), (0, 0));
+        // The points are document 01's, so the tables are the same.
+        assert_eq!((&m_2, &w_2), (&m, &w));
 
         // All make the same plan, and those that count count alike.
         let room = Room::due(n);
@@ -351,6 +372,22 @@ fn print_floors(timed: &[Timed]) {
             t.gates_above.cell(),
             ratio(&t.plan_above, &t.plan),
             ratio(&t.plan_above, &t.gates_above),
+        );
+    }
+}
+
+/// Reading and building in version 2, beside version 1.
+fn print_versions(timed: &[Timed]) {
+    println!("| pairs | read, version 2 | build, version 2 | read, version 2 / 1 | build, version 2 / 1 |");
+    println!("|--:|--:|--:|--:|--:|");
+    for t in timed {
+        println!(
+            "| {} | {} | {} | {} | {} |",
+            t.n,
+            t.read_2.cell(),
+            t.build_2.cell(),
+            ratio(&t.read_2, &t.read),
+            ratio(&t.build_2, &t.build),
         );
     }
 }

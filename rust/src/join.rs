@@ -6,14 +6,17 @@ use crate::refused::{finished, Refused};
 
 /// The sheet of two sheets' pairs: the first's, then the second's. The shuffle
 /// is the first's, then the second's with the first's number of pairs added to
-/// each number. Joining with a sheet of no pairs gives the other one, byte for
-/// byte.
+/// each number. The two have the same version and points, and so has the joined
+/// one. Joining with a sheet of no pairs gives the other one, byte for byte.
 ///
 /// # Errors
 ///
 /// The first fault of the first sheet, as [`Pool::read`](crate::Pool::read)
 /// finds it; then that of the second. The place is in the sheet at fault, and
 /// which one that is, reading the first alone tells. After these,
+/// [`DifferentPoints`](crate::Refusal::DifferentPoints) where their versions or
+/// points differ, also where one has no pairs, and where one is of version 1
+/// and the other has document 01's points in version 2;
 /// [`SharedId`](crate::Refusal::SharedId) where an id is in both, and
 /// [`TooManyTogether`](crate::Refusal::TooManyTogether) where there are more
 /// than [`MOST_PAIRS`](crate::MOST_PAIRS) pairs together. Room for the sheet is

@@ -13,6 +13,7 @@
 //! N, and a [`Plan`] has all that planning leaves, with the ids to print it by.
 //! [`join()`] makes one sheet of two, such as a sheet and its addendum.
 //! [`Pool::plan_above`] leaves out exchanges that are too light to travel for.
+//! A pool of version 2 has its registry's own [`Points`] to weigh by.
 //! Nothing here is proved but what is called; [`raw`] has the calls themselves.
 //!
 //! "Document 01", which the comments cite, is the scope agreed with the buyer.
@@ -78,6 +79,7 @@ compile_error!(
 
 mod join;
 mod plan;
+mod points;
 mod pool;
 pub mod raw;
 mod refused;
@@ -85,6 +87,7 @@ mod tables;
 
 pub use crate::join::join;
 pub use crate::plan::{Plan, Tally, MOST_FLOOR};
+pub use crate::points::Points;
 pub use crate::pool::{Age, Blood, Pair, Pool, LONGEST_SHEET, MOST_PAIRS};
 pub use crate::raw::Cycle;
 pub use crate::refused::{Refusal, Refused, UnknownRefusal};

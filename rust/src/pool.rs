@@ -1,6 +1,7 @@
 //! A pool in its fields.
 
 use crate::plan::Plan;
+use crate::points::Points;
 use crate::raw;
 use crate::refused::{finished, sound, Refusal, Refused};
 use crate::tables::Tables;
@@ -10,12 +11,13 @@ pub const MOST_PAIRS: usize = 200;
 
 /// The length of the longest sheet, in bytes. Whoever reads a sheet from
 /// outside needs to read one byte more and no further.
-pub const LONGEST_SHEET: usize = sheet_length(MOST_PAIRS);
+pub const LONGEST_SHEET: usize = sheet_length(2, MOST_PAIRS);
 
-/// The length of a sheet of `n` pairs: its head, a field for each pair, and
-/// the shuffle, each after a start of three bytes.
-const fn sheet_length(n: usize) -> usize {
-    (3 + 4) + n * (3 + 32) + (3 + 2 * n)
+/// The length of a sheet of `n` pairs: its head, in version 2 the points, a
+/// field for each pair, and the shuffle, each after a start of three bytes.
+const fn sheet_length(version: u16, n: usize) -> usize {
+    let points = if version == 2 { 3 + 12 } else { 0 };
+    (3 + 4) + points + n * (3 + 32) + (3 + 2 * n)
 }
 
 /// A blood group. The discriminants are the sheet's bytes.
@@ -74,15 +76,20 @@ pub struct Pair {
     pub patient_antibodies: u64,
 }
 
-/// A pool of pairs and its shuffle, with none of the faults that document 01
-/// lists: there are at most [`MOST_PAIRS`] pairs, no two ids are alike, and
-/// the shuffle holds each pair's number once.
+/// A pool of pairs and its shuffle, with none of the faults that documents 01
+/// and 02 list: there are at most [`MOST_PAIRS`] pairs, no two ids are alike,
+/// the shuffle holds each pair's number once, and the points of version 2 are
+/// such as may be.
 ///
 /// A pair's number is its index among the pairs, from 0. A place is an index
-/// into the shuffle. Equal pools have the same pairs in the same order and the
-/// same shuffle.
+/// into the shuffle. Equal pools have the same version and points, the same
+/// pairs in the same order and the same shuffle. A pool of version 1 and one of
+/// version 2 with document 01's points are weighed alike, and are not equal:
+/// their sheets differ.
 #[derive(Clone, Debug, PartialEq, Eq, Hash)]
 pub struct Pool {
+    // Those of version 2; version 1 has none.
+    points: Option<Points>,
     // All of one length.
     ids: Vec<u32>,
     donor_blood: Vec<u8>,
@@ -96,7 +103,8 @@ pub struct Pool {
 }
 
 impl Pool {
-    /// The pool of these pairs, with place p holding pair `shuffle[p]`.
+    /// The pool of these pairs, with place p holding pair `shuffle[p]`. It is
+    /// of version 1, and weighed by document 01's points.
     ///
     /// # Errors
     ///
@@ -104,7 +112,54 @@ impl Pool {
     /// first of its kind, then a shuffle that has not each pair's number once
     /// and no more. The refusal does not say which pair is at fault.
     pub fn new(pairs: &[Pair], shuffle: &[u16]) -> Result<Pool, Refused> {
+        Pool::make(None, pairs, shuffle)
+    }
+
+    /// The pool of these pairs in version 2, weighed by its registry's points.
+    ///
+    /// # Errors
+    ///
+    /// Refused are more than [`MOST_PAIRS`] pairs, then points whose base is 0
+    /// or of which base, largest mismatch step and larger age step together
+    /// exceed 65,535, then what [`new`](Pool::new) refuses.
+    ///
+    /// # Example
+    ///
+    /// ```
+    /// use vadivuzhen::{Age, Blood, Pair, Points, Pool, Refusal};
+    ///
+    /// let pair = |id, donor_blood, patient_blood| Pair {
+    ///     id,
+    ///     donor_blood,
+    ///     patient_blood,
+    ///     donor_age: Age::Young,
+    ///     patient_age: Age::Young,
+    ///     donor_antigens: 0,
+    ///     patient_antigens: 0,
+    ///     patient_antibodies: 0,
+    /// };
+    /// let pairs = [pair(11, Blood::A, Blood::B), pair(12, Blood::B, Blood::A)];
+    /// let points = Points {
+    ///     base: 2_000,
+    ///     ..Points::DOCUMENT
+    /// };
+    /// let pool = Pool::with_points(points, &pairs, &[0, 1])?;
+    /// assert_eq!((pool.version(), pool.points()), (2, Some(points)));
+    /// assert_eq!(pool.plan().weight(), 4_900);
+    /// assert_eq!(Pool::read(&pool.write())?, pool);
+    ///
+    /// let none = Points { base: 0, ..points };
+    /// let refused = Pool::with_points(none, &pairs, &[0, 1]);
+    /// assert_eq!(refused.expect_err("a base of 0").why, Refusal::WrongPoints);
+    /// # Ok::<(), vadivuzhen::Refused>(())
+    /// ```
+    pub fn with_points(points: Points, pairs: &[Pair], shuffle: &[u16]) -> Result<Pool, Refused> {
+        Pool::make(Some(points), pairs, shuffle)
+    }
+
+    fn make(points: Option<Points>, pairs: &[Pair], shuffle: &[u16]) -> Result<Pool, Refused> {
         let pool = Pool {
+            points,
             ids: pairs.iter().map(|pair| pair.id).collect(),
             donor_blood: pairs.iter().map(|pair| pair.donor_blood as u8).collect(),
             patient_blood: pairs.iter().map(|pair| pair.patient_blood as u8).collect(),
@@ -120,8 +175,15 @@ impl Pool {
         let n = pairs.len();
         let mut numbers = shuffle.to_vec();
         numbers.resize(n, u16::MAX);
-        let mut sheet = vec![0; sheet_length(n.min(MOST_PAIRS))];
-        let answer = raw::write(n, pool.fields(), &numbers, &mut sheet);
+        let mut sheet = vec![0; sheet_length(pool.version(), n.min(MOST_PAIRS))];
+        let answer = raw::write(
+            pool.version(),
+            n,
+            &pool.lent_points(),
+            pool.fields(),
+            &numbers,
+            &mut sheet,
+        );
         finished(answer.refusal, 0)?;
         if shuffle.len() > n {
             return Err(Refusal::NotAShuffle.at(0));
@@ -129,13 +191,15 @@ impl Pool {
         Ok(pool)
     }
 
-    /// The pool that a sheet says.
+    /// The pool that a sheet of either version says.
     ///
     /// # Errors
     ///
     /// The first fault of the sheet, going forward, and where it is.
     pub fn read(sheet: &[u8]) -> Result<Pool, Refused> {
+        let mut points = [0; 6];
         let mut pool = Pool {
+            points: None,
             ids: vec![0; MOST_PAIRS],
             donor_blood: vec![0; MOST_PAIRS],
             patient_blood: vec![0; MOST_PAIRS],
@@ -149,6 +213,7 @@ impl Pool {
         let answer = raw::read(
             sheet,
             raw::LentPool {
+                points: &mut points,
                 ids: &mut pool.ids,
                 donor_blood: &mut pool.donor_blood,
                 patient_blood: &mut pool.patient_blood,
@@ -161,6 +226,7 @@ impl Pool {
             },
         );
         finished(answer.refusal, answer.place)?;
+        pool.points = (answer.version == 2).then(|| points.into());
         pool.truncate(answer.pairs);
         Ok(pool)
     }
@@ -175,6 +241,27 @@ impl Pool {
         self.patient_antigens.truncate(n);
         self.patient_antibodies.truncate(n);
         self.shuffle.truncate(n);
+    }
+
+    /// The version of the pool's sheet: 2 where it has points of its own, else
+    /// 1.
+    pub fn version(&self) -> u16 {
+        match self.points {
+            Some(_) => 2,
+            None => 1,
+        }
+    }
+
+    /// The points of a pool of version 2. A pool of version 1 has none: it is
+    /// weighed by [`Points::DOCUMENT`].
+    pub fn points(&self) -> Option<Points> {
+        self.points
+    }
+
+    /// The points for the calls of [`raw`]; those lent with version 1, which
+    /// nothing looks at, are document 01's.
+    pub(crate) fn lent_points(&self) -> [u16; 6] {
+        self.points.unwrap_or(Points::DOCUMENT).into()
     }
 
     /// The number of pairs, N.
@@ -226,20 +313,22 @@ impl Pool {
         }
     }
 
-    /// The pool's sheet. Reading it gives this pool.
+    /// The pool's sheet, in its version. Reading it gives this pool.
     #[must_use = "the sheet is given back, and stored nowhere"]
     pub fn write(&self) -> Vec<u8> {
-        let n = self.len();
-        let mut sheet = vec![0; sheet_length(n)];
-        let answer = raw::write(n, self.fields(), &self.shuffle, &mut sheet);
+        let (version, n) = (self.version(), self.len());
+        let mut sheet = vec![0; sheet_length(version, n)];
+        let (points, fields) = (self.lent_points(), self.fields());
+        let answer = raw::write(version, n, &points, fields, &self.shuffle, &mut sheet);
         sound(answer.refusal);
         sheet
     }
 
     /// The pool's compatibilities and weights, built anew by each call.
     ///
-    /// Mismatches lower a weight, by steps: antigens of the donor that the
-    /// patient does not have. What only the patient has does not count.
+    /// Weights are by the pool's [`Points`], in version 1 by document 01's.
+    /// Mismatches are antigens of the donor that the patient does not have.
+    /// What only the patient has does not count.
     pub fn tables(&self) -> Tables {
         Tables::build(self)
     }

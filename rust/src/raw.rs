@@ -52,6 +52,8 @@ pub struct Cycle {
 pub struct ReadAnswer {
     /// Document 01's number of the refusal, or 0.
     pub refusal: u32,
+    /// The sheet's version, 1 or 2; of a refusal, 0.
+    pub version: u16,
     /// The offset that goes with the refusal.
     pub place: usize,
     /// The number of pairs, N.
@@ -76,8 +78,8 @@ pub struct WriteAnswer {
 pub struct JoinAnswer {
     /// Document 01's number of the refusal, or 0.
     pub refusal: u32,
-    /// Of a sheet's own refusal, 1 to 8, the offset in that sheet; of 11, 12
-    /// and 9, 0.
+    /// Of a sheet's own refusal, 1 to 8 or 14, the offset in that sheet; of
+    /// 15, 11, 12 and 9, 0.
     pub place: usize,
     /// The joined sheet's length in bytes.
     pub length: usize,
@@ -143,10 +145,13 @@ pub struct Fields<'a> {
     pub patient_antibodies: &'a [u64],
 }
 
-/// A pool's tables, lent to be filled by [`read`]: the pairs' fields, and the
-/// shuffle.
+/// A pool's tables, lent to be filled by [`read`]: the points, the pairs'
+/// fields, and the shuffle.
 #[derive(Debug, Default)]
 pub struct LentPool<'a> {
+    /// The points, six for version 2. For version 1 they are neither read nor
+    /// changed, however many there are.
+    pub points: &'a mut [u16],
     /// Ids.
     pub ids: &'a mut [u32],
     /// Bloods of the donors.
@@ -182,7 +187,8 @@ pub struct Planned<'a> {
     pub records: &'a mut [Cycle],
 }
 
-/// Reads a sheet into the lent tables, of which it fills the first N entries.
+/// Reads a sheet into the lent tables, of which it fills the first N entries,
+/// and for version 2 the first six of the points.
 pub fn read(sheet: &[u8], into: LentPool<'_>) -> ReadAnswer {
     // SAFETY: every pointer is a live slice's and goes with its length, what
     // is filled is lent by `&mut`, and the call keeps no pointer.
@@ -190,6 +196,8 @@ pub fn read(sheet: &[u8], into: LentPool<'_>) -> ReadAnswer {
         vadivuzhen_read(
             sheet.as_ptr(),
             sheet.len(),
+            into.points.as_mut_ptr(),
+            into.points.len(),
             into.ids.as_mut_ptr(),
             into.ids.len(),
             into.donor_blood.as_mut_ptr(),
@@ -212,12 +220,24 @@ pub fn read(sheet: &[u8], into: LentPool<'_>) -> ReadAnswer {
     }
 }
 
-/// Writes the sheet of a pool of `n` pairs into the lent buffer.
-pub fn write(n: usize, fields: Fields<'_>, shuffle: &[u16], out: &mut [u8]) -> WriteAnswer {
+/// Writes the sheet of a pool of `n` pairs in that version into the lent
+/// buffer. For version 2 the first six of the points are written; for version 1
+/// they are not looked at.
+pub fn write(
+    version: u16,
+    n: usize,
+    points: &[u16],
+    fields: Fields<'_>,
+    shuffle: &[u16],
+    out: &mut [u8],
+) -> WriteAnswer {
     // SAFETY: as in `read`.
     unsafe {
         vadivuzhen_write(
+            version,
             n,
+            points.as_ptr(),
+            points.len(),
             fields.ids.as_ptr(),
             fields.ids.len(),
             fields.donor_blood.as_ptr(),
@@ -244,11 +264,11 @@ pub fn write(n: usize, fields: Fields<'_>, shuffle: &[u16], out: &mut [u8]) -> W
 
 /// Joins two sheets into one in the lent buffer: the first's pairs, then the
 /// second's, and the first's shuffle, then the second's with the first's N
-/// added to each number.
+/// added to each number. Both have the same version and points.
 ///
 /// The first sheet's own refusal comes first, then the second's. The answer
 /// does not say which sheet it is about: who needs to know reads the first
-/// alone, with [`read`] and tables of 200 entries.
+/// alone, with [`read`], tables of 200 entries and six points.
 pub fn join(first: &[u8], second: &[u8], out: &mut [u8]) -> JoinAnswer {
     // SAFETY: as in `read`.
     unsafe {
@@ -264,12 +284,23 @@ pub fn join(first: &[u8], second: &[u8], out: &mut [u8]) -> JoinAnswer {
 }
 
 /// Builds M and W of `n` pairs into the lent tables: `n` rows of `n`, row i
-/// holding donor i.
-pub fn build(n: usize, fields: Fields<'_>, m: &mut [u8], w: &mut [u16]) -> BuildAnswer {
+/// holding donor i. For version 2 the first six of the points weigh; for
+/// version 1, which does not look at them, document 01's.
+pub fn build(
+    version: u16,
+    n: usize,
+    points: &[u16],
+    fields: Fields<'_>,
+    m: &mut [u8],
+    w: &mut [u16],
+) -> BuildAnswer {
     // SAFETY: as in `read`.
     unsafe {
         vadivuzhen_build(
+            version,
             n,
+            points.as_ptr(),
+            points.len(),
             fields.ids.as_ptr(),
             fields.ids.len(),
             fields.donor_blood.as_ptr(),
@@ -376,6 +407,8 @@ extern "C" {
     fn vadivuzhen_read(
         sheet: *const u8,
         sheet_length: usize,
+        points: *mut u16,
+        points_length: usize,
         ids: *mut u32,
         ids_length: usize,
         donor_blood: *mut u8,
@@ -397,7 +430,10 @@ extern "C" {
     ) -> ReadAnswer;
 
     fn vadivuzhen_write(
+        version: u16,
         n: usize,
+        points: *const u16,
+        points_length: usize,
         ids: *const u32,
         ids_length: usize,
         donor_blood: *const u8,
@@ -430,7 +466,10 @@ extern "C" {
     ) -> JoinAnswer;
 
     fn vadivuzhen_build(
+        version: u16,
         n: usize,
+        points: *const u16,
+        points_length: usize,
         ids: *const u32,
         ids_length: usize,
         donor_blood: *const u8,

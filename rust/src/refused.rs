@@ -16,7 +16,7 @@ pub enum Refusal {
     CutOff = 1,
     /// 2: the tag or the length is not the one due.
     WrongField = 2,
-    /// 3: the version is not 1.
+    /// 3: the version is neither 1 nor 2.
     WrongVersion = 3,
     /// 4: there are more than 200 pairs.
     TooManyPairs = 4,
@@ -38,6 +38,11 @@ pub enum Refusal {
     TooManyTogether = 12,
     /// 13: the floor is above 200,000.
     FloorTooHigh = 13,
+    /// 14: the base is 0, or base, largest mismatch step and larger age step
+    /// together exceed 65,535.
+    WrongPoints = 14,
+    /// 15: the versions or points of the sheets to be joined differ.
+    DifferentPoints = 15,
 }
 
 impl Refusal {
@@ -56,6 +61,8 @@ impl Refusal {
         Refusal::SharedId,
         Refusal::TooManyTogether,
         Refusal::FloorTooHigh,
+        Refusal::WrongPoints,
+        Refusal::DifferentPoints,
     ];
 
     /// Document 01's number. It is not 0, which in an answer means that the
@@ -98,8 +105,8 @@ impl Error for UnknownRefusal {}
 pub struct Refused {
     /// Why.
     pub why: Refusal,
-    /// Of a refusal from 1 to 8, where a sheet was read or joined, the offset
-    /// of the field at fault in that sheet, for
+    /// Of a refusal from 1 to 8 or 14, where a sheet was read or joined, the
+    /// offset of the field at fault in that sheet, for
     /// [`LeftOver`](Refusal::LeftOver) that of the first byte too many; else
     /// 0.
     pub place: usize,
@@ -130,9 +137,10 @@ impl fmt::Display for Refused {
                 f,
                 "the field at byte {place} has not the tag and length due there; ask the sender for the fields in their order"
             ),
-            Refusal::WrongVersion => {
-                write!(f, "the sheet's version is not 1; ask the sender for version 1")
-            }
+            Refusal::WrongVersion => write!(
+                f,
+                "the version is neither 1 nor 2; ask the sender for one of these"
+            ),
             Refusal::TooManyPairs => {
                 write!(f, "there are more than 200 pairs; plan a smaller pool")
             }
@@ -172,6 +180,14 @@ impl fmt::Display for Refused {
             Refusal::FloorTooHigh => write!(
                 f,
                 "the floor is above 200,000, and so above every exchange; plan with a lower one"
+            ),
+            Refusal::WrongPoints => write!(
+                f,
+                "the base is 0, or base, largest mismatch step and larger age step together exceed 65,535; ask the sender for the registry's points"
+            ),
+            Refusal::DifferentPoints => write!(
+                f,
+                "the two sheets' versions or points differ; ask the sender for a sheet in the version of the other and with its points"
             ),
         }
     }

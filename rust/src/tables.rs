@@ -59,7 +59,9 @@ impl Tables {
             weights: vec![0; n * n],
         };
         let answer = raw::build(
+            pool.version(),
             n,
+            &pool.lent_points(),
             pool.fields(),
             &mut tables.compatibilities,
             &mut tables.weights,

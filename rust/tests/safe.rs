@@ -1,8 +1,8 @@
 //! The safe types: what they refuse, and that a refusal says what to do.
 
 use vadivuzhen::{
-    join, raw, Age, Blood, Cycle, Pair, Plan, Pool, Refusal, Refused, Tables, UnknownRefusal,
-    LONGEST_SHEET, MOST_FLOOR,
+    join, raw, Age, Blood, Cycle, Pair, Plan, Points, Pool, Refusal, Refused, Tables,
+    UnknownRefusal, LONGEST_SHEET, MOST_FLOOR,
 };
 
 /// The pair of that id; any two of these suit each other.
@@ -42,9 +42,195 @@ fn a_pool_is_what_it_was_made_of() {
         let pairs: Vec<Pair> = pool.pairs().collect();
         assert_eq!(pairs.len(), pool.len());
         assert_eq!(Pool::new(&pairs, pool.shuffle()), Ok(pool.clone()));
+        assert_eq!((pool.version(), pool.points()), (1, None));
         assert_eq!(Pool::read(&pool.write()), Ok(pool));
     }
-    assert_eq!(pool(200).write().len(), LONGEST_SHEET);
+    assert_eq!(pool(200).write().len(), 7_410);
+}
+
+/// The pairs of a pool in version 2, with these points.
+fn with_points(pool: &Pool, points: [u16; 6]) -> Result<Pool, Refused> {
+    let pairs: Vec<Pair> = pool.pairs().collect();
+    Pool::with_points(points.into(), &pairs, pool.shuffle())
+}
+
+/// Document 01's points in the sheet's order.
+const DOCUMENT: [u16; 6] = [1_000, 400, 250, 100, 50, 30];
+
+#[test]
+fn a_pool_with_points_is_what_it_was_made_of() {
+    assert_eq!(<[u16; 6]>::from(Points::DOCUMENT), DOCUMENT);
+    for n in [0, 1, 2, 40, 200] {
+        let one = pool(n);
+        for points in [
+            DOCUMENT,
+            [1, 2, 3, 4, 5, 6],
+            [1, 0, 0, 65_534, 0, 0],
+            [65_535, 0, 0, 0, 0, 0],
+        ] {
+            let two = with_points(&one, points).expect("a sound pool");
+            assert_eq!((two.version(), two.points()), (2, Some(points.into())));
+            assert!(two.pairs().eq(one.pairs()));
+            assert_eq!(two.shuffle(), one.shuffle());
+            let sheet = two.write();
+            assert_eq!(sheet.len(), one.write().len() + 15);
+            assert_eq!(sheet[..5], [1, 0, 4, 0, 2]);
+            assert_eq!(sheet[7..10], [4, 0, 12]);
+            for (point, two) in points.iter().zip(sheet[10..22].chunks(2)) {
+                assert_eq!(two, point.to_be_bytes());
+            }
+            assert_eq!(sheet[22..], one.write()[7..]);
+            assert_eq!(Pool::read(&sheet).as_ref(), Ok(&two));
+            assert_ne!(two, one);
+        }
+    }
+    let longest = with_points(&pool(200), DOCUMENT).expect("a sound pool");
+    assert_eq!((longest.write().len(), LONGEST_SHEET), (7_425, 7_425));
+}
+
+#[test]
+fn points_weigh_a_pool() {
+    let one = pool(40);
+    let two = with_points(&one, DOCUMENT).expect("a sound pool");
+    assert_eq!(two.tables(), one.tables());
+    assert_eq!(two.plan(), one.plan());
+    // Each step is another power of ten: the sum says which ones it has.
+    let weight = |bits: u32, donor_age, patient_age| {
+        let donor = Pair {
+            donor_antigens: (1 << bits) - 1,
+            donor_age,
+            ..pair(1)
+        };
+        let patient = Pair {
+            patient_antigens: 0,
+            patient_age,
+            ..pair(2)
+        };
+        let points = Points::from([10_000, 1_000, 200, 30, 4, 5]);
+        let pool = Pool::with_points(points, &[donor, patient], &[0, 1]);
+        pool.expect("a sound pool").tables().weights()[1]
+    };
+    for (bits, step) in (0..).zip([1_000, 200, 200, 30, 30, 0, 0]) {
+        assert_eq!(weight(bits, Age::Young, Age::Young), 10_004 + step);
+        assert_eq!(weight(bits, Age::Senior, Age::Senior), 10_004 + step);
+        assert_eq!(weight(bits, Age::Young, Age::Senior), 10_005 + step);
+        assert_eq!(weight(bits, Age::Senior, Age::Young), 10_000 + step);
+    }
+}
+
+#[test]
+fn points_that_may_not_be_are_refused() {
+    let wrong = Err(refused(Refusal::WrongPoints, 0));
+    for n in [0, 2] {
+        for points in [
+            [0; 6],
+            [0, 400, 250, 100, 50, 30],
+            [2, 0, 0, 65_534, 0, 0],
+            [2, 65_534, 0, 0, 0, 0],
+            [2, 0, 0, 0, 65_534, 0],
+            [2, 0, 0, 0, 0, 65_534],
+            [30_001, 1, 20_000, 2, 3, 15_535],
+            [65_535; 6],
+        ] {
+            assert_eq!(with_points(&pool(n), points), wrong);
+        }
+        let last = [30_000, 1, 20_000, 2, 3, 15_535];
+        assert!(with_points(&pool(n), last).is_ok());
+    }
+    // Before the pairs' own faults, and after too many of them.
+    let points = Points::from([0; 6]);
+    let twice = Pool::with_points(points, &[pair(7), pair(7)], &[0, 0]);
+    assert_eq!(twice, wrong);
+    let many: Vec<Pair> = (0..201).map(pair).collect();
+    let many = Pool::with_points(points, &many, &[]);
+    assert_eq!(many, Err(refused(Refusal::TooManyPairs, 0)));
+
+    // In a sheet it is said where.
+    let mut sheet = with_points(&pool(2), DOCUMENT).expect("a pool").write();
+    sheet[10..12].fill(0);
+    let at = Err(refused(Refusal::WrongPoints, 7));
+    assert_eq!(Pool::read(&sheet), at);
+    assert_eq!(Pool::read(&sheet[..22]), at);
+    assert_eq!(Pool::read(&sheet[..21]), Err(refused(Refusal::CutOff, 7)));
+    sheet[4] = 1;
+    assert_eq!(Pool::read(&sheet), Err(refused(Refusal::WrongField, 7)));
+    sheet[4] = 3;
+    assert_eq!(Pool::read(&sheet), Err(refused(Refusal::WrongVersion, 0)));
+}
+
+#[test]
+fn the_bare_calls_with_points() {
+    let pool = pool(2);
+    let points = [2_000, 1, 2, 3, 4, 5, 77];
+    let write = |version, points: &[u16]| {
+        let mut sheet = [99; 110];
+        let answer = raw::write(
+            version,
+            2,
+            points,
+            pool.fields(),
+            pool.shuffle(),
+            &mut sheet,
+        );
+        (answer.refusal, answer.length, sheet)
+    };
+    let build = |version, points: &[u16]| {
+        let (mut m, mut w) = ([99; 5], [99; 5]);
+        let answer = raw::build(version, 2, points, pool.fields(), &mut m, &mut w);
+        (answer.refusal, m, w)
+    };
+    for version in [0, 3, u16::MAX] {
+        assert_eq!(write(version, &points), (3, 0, [99; 110]));
+        assert_eq!(build(version, &points), (3, [99; 5], [99; 5]));
+    }
+    assert_eq!(write(2, &points[..5]), (9, 0, [99; 110]));
+    assert_eq!(build(2, &points[..5]), (9, [99; 5], [99; 5]));
+    // Version 1 looks at none.
+    let (one, tables) = (write(1, &points), build(1, &points));
+    assert_eq!((one.0, one.1, tables.0), (0, 84, 0));
+    for other in [&[][..], &[0; 6], &[u16::MAX; 8]] {
+        assert_eq!(write(1, other), one);
+        assert_eq!(build(1, other), tables);
+    }
+
+    // Reading fills six for version 2 and none for version 1.
+    let (refusal, length, two) = write(2, &points);
+    assert_eq!((refusal, length), (0, 99));
+    let read = |sheet: &[u8], points: &mut [u16]| {
+        let mut bytes = [[0; 2]; 4];
+        let mut words = [[0; 2]; 3];
+        let [donor_blood, patient_blood, donor_age, patient_age] = &mut bytes;
+        let [donor_antigens, patient_antigens, patient_antibodies] = &mut words;
+        raw::read(
+            sheet,
+            raw::LentPool {
+                points,
+                ids: &mut [0; 2],
+                donor_blood,
+                patient_blood,
+                donor_age,
+                patient_age,
+                donor_antigens,
+                patient_antigens,
+                patient_antibodies,
+                shuffle: &mut [0; 2],
+            },
+        )
+    };
+    let mut table = [99; 8];
+    let answer = read(&two[..99], &mut table);
+    assert_eq!((answer.refusal, answer.version, answer.pairs), (0, 2, 2));
+    assert_eq!(table, [2_000, 1, 2, 3, 4, 5, 99, 99]);
+    let mut five = [99; 5];
+    let answer = read(&two[..99], &mut five);
+    assert_eq!((answer.refusal, answer.version, answer.place), (9, 0, 0));
+    assert_eq!(five, [99; 5]);
+    for length in 0..8 {
+        let mut table = [99; 8];
+        let answer = read(&one.2[..84], &mut table[..length]);
+        assert_eq!((answer.refusal, answer.version, answer.pairs), (0, 1, 2));
+        assert_eq!(table, [99; 8]);
+    }
 }
 
 #[test]
@@ -165,7 +351,41 @@ fn the_first_fault_of_joining_is_told() {
     let together = refused(Refusal::TooManyTogether, 0);
     assert_eq!(refusal(&sheet, &pool_from(2, 199).write()), together);
     let whole = join(&sheet, &pool_from(2, 198).write());
+    assert_eq!(whole.map(|whole| whole.len()), Ok(7_410));
+}
+
+#[test]
+fn sheets_of_one_version_and_the_same_points_are_joined() {
+    let two = |pool: &Pool, points| with_points(pool, points).expect("a pool").write();
+    let points = [2_000, 6, 5, 4, 3, 2];
+    let (first, second) = (pool_from(0, 1), pool_from(1, 1));
+    let sheet = join(&two(&first, points), &two(&second, points)).expect("two sound sheets");
+    assert_eq!(sheet.len(), 62 + 62 - 25);
+    let joined = Pool::read(&sheet).expect("a joined sheet");
+    assert_eq!(
+        (joined.version(), joined.points()),
+        (2, Some(points.into()))
+    );
+    assert!(joined.pairs().eq(first.pairs().chain(second.pairs())));
+    let whole = join(&two(&pool(100), points), &two(&pool_from(100, 100), points));
     assert_eq!(whole.map(|whole| whole.len()), Ok(LONGEST_SHEET));
+
+    let different = Err(refused(Refusal::DifferentPoints, 0));
+    for (m, n) in [(0, 0), (0, 1), (1, 0), (2, 2)] {
+        // Before an id in both.
+        let (first, second) = (pool(m), pool(n));
+        for point in 0..6 {
+            let mut other = points;
+            other[point] += 1;
+            let (a, b) = (two(&first, points), two(&second, other));
+            assert_eq!(join(&a, &b), different);
+            assert_eq!(join(&b, &a), different);
+        }
+        // Version 1 has the same points, and is another version.
+        let (a, b) = (first.write(), two(&second, DOCUMENT));
+        assert_eq!(join(&a, &b), different);
+        assert_eq!(join(&b, &a), different);
+    }
 }
 
 #[test]
@@ -330,6 +550,10 @@ fn a_plan_is_printed_with_its_own_pairs_ids() {
             include_bytes!("../../examples/eight.sheet"),
             include_str!("../../examples/eight.plan"),
         ),
+        (
+            include_bytes!("../../examples/eight_by_age.sheet"),
+            include_str!("../../examples/eight_by_age.plan"),
+        ),
     ];
     for (sheet, printed) in examples {
         let pool = Pool::read(sheet).expect("a sound sheet");
@@ -357,7 +581,7 @@ fn a_plan_is_printed_with_its_own_pairs_ids() {
 
 #[test]
 fn every_refusal_has_its_number_and_says_what_to_do() {
-    assert_eq!(Refusal::ALL.len(), 13);
+    assert_eq!(Refusal::ALL.len(), 15);
     for (&why, number) in Refusal::ALL.iter().zip(1..) {
         assert_eq!(why.number(), number);
         assert_eq!(Refusal::try_from(number), Ok(why));
@@ -367,14 +591,14 @@ fn every_refusal_has_its_number_and_says_what_to_do() {
         assert!(told.starts_with(&format!("refusal {number}: ")));
         assert!(told.contains("; "), "{told}");
     }
-    let longest = refused(Refusal::FloorTooHigh, usize::MAX);
-    assert_eq!(longest.print(), format!("REFUSED 13 {}\n", usize::MAX));
+    let longest = refused(Refusal::DifferentPoints, usize::MAX);
+    assert_eq!(longest.print(), format!("REFUSED 15 {}\n", usize::MAX));
 }
 
 #[test]
 fn a_number_of_no_refusal_is_said_to_be_unknown() {
     // 0 is a call that finished; later requests go up to 22.
-    for number in (14..=22).chain([0, 23, 256 + 1, u32::MAX]) {
+    for number in (16..=22).chain([0, 23, 256 + 1, u32::MAX]) {
         let unknown = Refusal::try_from(number).expect_err("no refusal");
         assert_eq!(unknown, UnknownRefusal(number));
         assert!(unknown.to_string().starts_with(&format!("{number} is ")));

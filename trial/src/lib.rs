@@ -23,6 +23,8 @@
 //! | [`mod@join`]   | W-201: late registrations join the sheet           |
 //! | [`planner`]    | W-202: a floor below which nobody travels          |
 //! | [`tables`]     | W-204: the laboratories' new mismatch rule         |
+//! | [`points`]     | W-205: points set by each registry                 |
+//! | [`sheet`]      | W-205: sheet version 2                             |
 //!
 //! Beside the planner by rounds stand four others:
 //!
@@ -42,13 +44,13 @@
 //! # Example
 //!
 //! ```
-//! use reference::{build, plan, printed, read, Room};
+//! use reference::{build_pool, plan, printed, read, Room};
 //!
 //! let sheet = reference::sheet::EXAMPLE;
 //! let pool = read(&sheet).unwrap();
 //! let n = pool.len();
 //!
-//! let tables = build(n, pool.fields(), n * n, n * n).unwrap();
+//! let tables = build_pool(&pool).unwrap();
 //! let planned = |floor| {
 //!     plan(n, floor, &tables.m, &tables.w, &pool.shuffle, Room::due(n)).unwrap()
 //! };
@@ -71,6 +73,7 @@ pub mod best;
 pub mod gates;
 pub mod join;
 pub mod planner;
+pub mod points;
 pub mod pool;
 pub mod printout;
 pub mod random;
@@ -85,9 +88,10 @@ pub use crate::algorithm1::algorithm1;
 pub use crate::best::{best, best_above};
 pub use crate::join::join;
 pub use crate::planner::{plan, Plan, Room, MOST_FLOOR};
+pub use crate::points::Points;
 pub use crate::pool::{Fields, Pool};
 pub use crate::printout::printed;
 pub use crate::refusal::{Reason, Refusal};
-pub use crate::sheet::{read, write};
-pub use crate::tables::{build, Tables};
+pub use crate::sheet::{read, write, write_pool};
+pub use crate::tables::{build, build_pool, Tables};
 pub use crate::tally::Tally;

@@ -1,7 +1,12 @@
 //! A pool in its fields, and the checks on them that reading, writing and
 //! building share.
 
+use crate::points::{self, Points};
 use crate::refusal::Reason;
+
+/// The versions of sheets and pools: 1, and 2 for pools with points of their
+/// own.
+pub const VERSIONS: [u16; 2] = [1, 2];
 
 /// The greatest number of pairs, N.
 pub const MOST_PAIRS: usize = 200;
@@ -12,9 +17,14 @@ pub const MOST_BLOOD: u8 = 3;
 /// The greatest age group: 0 is young, 1 is senior.
 pub const MOST_AGE: u8 = 1;
 
-/// A pool that owns its fields. Every table has one entry for each pair.
-#[derive(Clone, Debug, Default, PartialEq, Eq)]
+/// A pool that owns its fields. Every table but that of the points has one
+/// entry for each pair.
+#[derive(Clone, Debug, PartialEq, Eq)]
 pub struct Pool {
+    /// The version, 1 or 2.
+    pub version: u16,
+    /// Of version 2, the six points; of version 1 none.
+    pub points: Vec<u16>,
     /// Ids, no two alike.
     pub ids: Vec<u32>,
     /// Bloods of the donors.
@@ -35,7 +45,52 @@ pub struct Pool {
     pub shuffle: Vec<u16>,
 }
 
+/// The pool of no pairs, of version 1.
+impl Default for Pool {
+    fn default() -> Pool {
+        Pool {
+            version: 1,
+            points: Vec::new(),
+            ids: Vec::new(),
+            donor_bloods: Vec::new(),
+            patient_bloods: Vec::new(),
+            donor_ages: Vec::new(),
+            patient_ages: Vec::new(),
+            donor_antigens: Vec::new(),
+            patient_antigens: Vec::new(),
+            patient_antibodies: Vec::new(),
+            shuffle: Vec::new(),
+        }
+    }
+}
+
 impl Pool {
+    /// The same pairs in version 1, weighed by document 01's points.
+    pub fn of_version_1(self) -> Pool {
+        Pool {
+            version: 1,
+            points: Vec::new(),
+            ..self
+        }
+    }
+
+    /// The same pairs in version 2, with these points.
+    pub fn with_points(self, points: Points) -> Pool {
+        Pool {
+            version: 2,
+            points: points.table().to_vec(),
+            ..self
+        }
+    }
+
+    /// The same pairs with these points, or in version 1 where there are none.
+    pub fn weighed_by(self, points: Option<Points>) -> Pool {
+        match points {
+            Some(points) => self.with_points(points),
+            None => self.of_version_1(),
+        }
+    }
+
     /// The number of pairs, N.
     pub fn len(&self) -> usize {
         self.ids.len()
@@ -119,6 +174,32 @@ impl Fields<'_> {
     pub fn check_pairs(&self, n: usize) -> Result<(), Reason> {
         (0..n).try_for_each(|i| self.check_pair(i))
     }
+}
+
+/// Refusal 3 of writing and building.
+pub fn check_version(version: u16) -> Result<(), Reason> {
+    if VERSIONS.contains(&version) {
+        Ok(())
+    } else {
+        Err(Reason::Version)
+    }
+}
+
+/// Whether a lent table of points is too short: "for version 2 a points table
+/// shorter than six counts for 9". Version 1 has no points.
+pub fn short_of_points(version: u16, points: usize) -> bool {
+    version == 2 && points < points::COUNT
+}
+
+/// The points that a pool is weighed by: for version 2 those that were lent,
+/// which 14 must let pass, and for version 1 document 01's.
+pub fn points_of(version: u16, lent: &[u16]) -> Result<Points, Reason> {
+    if version == 1 {
+        return Ok(Points::DOCUMENT);
+    }
+    let points = Points::of(lent);
+    points.check()?;
+    Ok(points)
 }
 
 /// Whether the numbers are those from 0 to one less than their count, each

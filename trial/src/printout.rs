@@ -1,13 +1,15 @@
 //! The printout of the program `plan`.
 
 use crate::planner::{plan, Plan, Room};
+use crate::points;
 use crate::refusal::{Reason, Refusal};
 use crate::sheet::{self, read};
 use crate::tables::build;
 use crate::tally::Tally;
 use std::fmt::Write;
 
-/// How many bytes the program reads at most: one more than the longest sheet.
+/// How many bytes the program reads at most: one more than the longest sheet,
+/// "at most 7,426 bytes" (W-205).
 pub const MOST_READ: usize = sheet::LONGEST + 1;
 
 /// For how many pairs the program lends buffers.
@@ -109,12 +111,13 @@ pub fn refused_by(number: u32, place: usize) -> String {
 pub fn program(input: &[u8]) -> String {
     let bytes = &input[..input.len().min(MOST_READ)];
     let outcome = read(bytes).and_then(|pool| {
-        sheet::fits(&pool, &[LENT_PAIRS])?;
+        sheet::fits(&pool, points::COUNT, &[LENT_PAIRS])?;
         let n = pool.len();
         // What has been read and fits is refused by nothing that follows.
         let no_place = |reason: Reason| reason.at(0);
         let table = LENT_PAIRS * LENT_PAIRS;
-        let tables = build(n, pool.fields(), table, table).map_err(no_place)?;
+        let (points, fields) = (&pool.points, pool.fields());
+        let tables = build(pool.version, n, points, fields, table, table).map_err(no_place)?;
         let room = Room::due(LENT_PAIRS);
         let (m, w) = (&tables.m, &tables.w);
         let (plan, tally) = plan(n, FLOOR, m, w, &pool.shuffle, room).map_err(no_place)?;
@@ -159,7 +162,10 @@ mod tests {
 
     #[test]
     fn the_empty_pool_is_planned() {
-        let sheet = crate::write(0, crate::Fields::default(), &[], 10).unwrap();
-        assert_eq!(program(&sheet), "PLAN 0 0 0\nCOUNTS 0 0 0\n");
+        let none = crate::Pool::default();
+        for none in [none.clone(), none.with_points(points::Points::DOCUMENT)] {
+            let sheet = crate::write_pool(&none, sheet::LONGEST).unwrap();
+            assert_eq!(program(&sheet), "PLAN 0 0 0\nCOUNTS 0 0 0\n");
+        }
     }
 }

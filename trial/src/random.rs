@@ -5,6 +5,7 @@
 
 use crate::best::cycle_weight;
 use crate::planner::MOST_FLOOR;
+use crate::points::{self, Points, MOST_TOGETHER};
 use crate::pool::{Pool, MOST_PAIRS};
 use crate::sheet;
 use crate::tables::Tables;
@@ -209,6 +210,85 @@ fn weight_of_some_cycle(random: &mut Random, n: usize, tables: &Tables) -> u32 {
     0
 }
 
+/// Points that pass, and with which the weighing goes to its ends.
+pub const EXTREME_POINTS: [[u16; points::COUNT]; 8] = [
+    [1, 0, 0, 0, 0, 0],
+    [1, 65_534, 0, 0, 0, 0],
+    [1, 0, 0, 65_534, 0, 0],
+    [1, 0, 0, 0, 65_534, 0],
+    [1, 0, 0, 0, 0, 65_534],
+    [1, 32_767, 32_767, 32_767, 32_767, 32_767],
+    [65_534, 0, 1, 0, 0, 0],
+    [65_535, 0, 0, 0, 0, 0],
+];
+
+/// Points of which base, largest mismatch step and larger age step are just so
+/// much together. The largest stand in any place; steps fall or rise.
+fn points_together(random: &mut Random, together: usize) -> [u16; points::COUNT] {
+    const MOST: usize = u16::MAX as usize;
+    let base = random.between(together.saturating_sub(2 * MOST).max(1), together.min(MOST));
+    let rest = together - base;
+    let largest = random.between(rest.saturating_sub(MOST), rest.min(MOST));
+    let mut table = [0; points::COUNT];
+    table[0] = base as u16;
+    for (steps, greatest) in [(1..4, largest), (4..6, rest - largest)] {
+        for step in &mut table[steps.clone()] {
+            *step = random.between(0, greatest) as u16;
+        }
+        table[random.between(steps.start, steps.end - 1)] = greatest as u16;
+    }
+    table
+}
+
+/// Points of any sort that pass: document 01's, those at the ends, small ones,
+/// and such as are just so much together as may be, or less.
+pub fn points(random: &mut Random) -> Points {
+    let most = MOST_TOGETHER as usize;
+    let table = match random.below(6) {
+        0 => Points::DOCUMENT.table(),
+        1 => random.one_of(&EXTREME_POINTS),
+        2 => {
+            let together = random.between(1, 9);
+            points_together(random, together)
+        }
+        3 => points_together(random, most),
+        _ => {
+            let together = random.between(1, most);
+            points_together(random, together)
+        }
+    };
+    Points::of(&table)
+}
+
+/// Points that do not pass: with a base of 0, or just one too much together, or
+/// so much that it would wrap, or any more.
+pub fn wrong_points(random: &mut Random) -> Points {
+    let most = MOST_TOGETHER as usize;
+    let table = match random.below(4) {
+        0 => Points {
+            base: 0,
+            ..points(random)
+        }
+        .table(),
+        1 => points_together(random, most + 1),
+        2 => random.one_of(&[[0; points::COUNT], [u16::MAX; points::COUNT]]),
+        _ => {
+            let together = random.between(most + 2, 3 * most);
+            points_together(random, together)
+        }
+    };
+    Points::of(&table)
+}
+
+/// What a registry sets: points of any sort that pass; or nothing, as in
+/// version 1.
+pub fn registry(random: &mut Random) -> Option<Points> {
+    if random.chance(1, 3) {
+        return None;
+    }
+    Some(points(random))
+}
+
 /// What a pool in its fields is like.
 #[derive(Clone, Copy, Debug, PartialEq, Eq, Hash)]
 pub enum PoolKind {
@@ -235,8 +315,16 @@ impl PoolKind {
     ];
 }
 
-/// A pool of `n` pairs in its fields, with a random shuffle.
+/// A pool of `n` pairs in its fields, with a random shuffle, of either version
+/// and with any points that pass.
 pub fn pool(random: &mut Random, n: usize, kind: PoolKind) -> Pool {
+    let pool = plain_pool(random, n, kind);
+    let registry = registry(random);
+    pool.weighed_by(registry)
+}
+
+/// A pool of `n` pairs in version 1, with a random shuffle.
+pub fn plain_pool(random: &mut Random, n: usize, kind: PoolKind) -> Pool {
     let mut pool = Pool {
         ids: random.ids(n),
         shuffle: random.shuffle(n),
@@ -281,17 +369,20 @@ pub fn pool(random: &mut Random, n: usize, kind: PoolKind) -> Pool {
     pool
 }
 
-/// Pools of these sizes, no id being in two of them.
+/// Pools of these sizes, no id being in two of them, all of one version and with
+/// the same points.
 pub fn pools_apart<const POOLS: usize>(
     random: &mut Random,
     sizes: [usize; POOLS],
     kind: PoolKind,
 ) -> [Pool; POOLS] {
     let mut ids = random.ids(sizes.iter().sum());
-    sizes.map(|n| Pool {
+    let pools = sizes.map(|n| Pool {
         ids: ids.split_off(ids.len() - n),
-        ..pool(random, n, kind)
-    })
+        ..plain_pool(random, n, kind)
+    });
+    let registry = registry(random);
+    pools.map(|pool| pool.weighed_by(registry))
 }
 
 /// A way to damage a sheet.
@@ -307,6 +398,11 @@ pub enum Damage {
     StartChanged,
     /// Version or N becomes another.
     HeadChanged,
+    /// A point becomes another, or all become such as do not pass.
+    PointsChanged,
+    /// The points' field is taken out, or one is put in; at times the version
+    /// becomes the other one as well, which does no harm.
+    PointsMoved,
     /// A blood or an age group becomes another, which may be allowed.
     GroupChanged,
     /// Two fields change places, which may do no harm.
@@ -323,12 +419,14 @@ pub enum Damage {
 
 impl Damage {
     /// All ways.
-    pub const ALL: [Damage; 11] = [
+    pub const ALL: [Damage; 13] = [
         Damage::Cut,
         Damage::Grown,
         Damage::BytesChanged,
         Damage::StartChanged,
         Damage::HeadChanged,
+        Damage::PointsChanged,
+        Damage::PointsMoved,
         Damage::GroupChanged,
         Damage::FieldsSwapped,
         Damage::IdRepeated,
@@ -338,11 +436,12 @@ impl Damage {
     ];
 }
 
-/// Damages what was the sheet of `n` pairs and may have been damaged before.
+/// Damages what was the sheet of this pool and may have been damaged before.
 /// Where there is nothing to do the damage to, the sheet stays as it is.
-pub fn damage(random: &mut Random, n: usize, sheet: &mut Vec<u8>, damage: Damage) {
-    let shuffle = sheet::offset_of_shuffle(n);
-    let pair = sheet::offset_of_pair;
+pub fn damage(random: &mut Random, pool: &Pool, sheet: &mut Vec<u8>, damage: Damage) {
+    let (version, n) = (pool.version, pool.len());
+    let shuffle = sheet::offset_of_shuffle(version, n);
+    let pair = |i| sheet::offset_of_pair(version, i);
     match damage {
         Damage::Cut => {
             if !sheet.is_empty() {
@@ -364,19 +463,17 @@ pub fn damage(random: &mut Random, n: usize, sheet: &mut Vec<u8>, damage: Damage
             }
         }
         Damage::StartChanged => {
-            let field = match random.below(n + 2) {
-                0 => 0,
-                field => pair(field - 1),
-            };
+            let field = random.one_of(&sheet::offsets(version, n));
             let at = field + random.below(sheet::START);
             let value = random.byte() >> random.below(8);
             put(sheet, at, &[value]);
         }
         Damage::HeadChanged => {
             let near = [n.wrapping_sub(1), n, n + 1, MOST_PAIRS, MOST_PAIRS + 1];
-            match random.below(3) {
+            match random.below(4) {
                 0 => put(sheet, sheet::START + random.below(2), &[random.byte()]),
-                1 => put(
+                1 => put(sheet, sheet::START + 1, &[random.below(4) as u8]),
+                2 => put(
                     sheet,
                     sheet::START + 2,
                     &(random.bits() as u16).to_be_bytes(),
@@ -388,6 +485,31 @@ pub fn damage(random: &mut Random, n: usize, sheet: &mut Vec<u8>, damage: Damage
                 ),
             }
         }
+        Damage::PointsChanged => {
+            if version == 2 {
+                let value = sheet::OFFSET_OF_POINTS + sheet::START;
+                if random.chance(1, 2) {
+                    let any = random.bits() as u16;
+                    let point = random.one_of(&[0, 1, u16::MAX, any]);
+                    let at = value + 2 * random.below(points::COUNT);
+                    put(sheet, at, &point.to_be_bytes());
+                } else {
+                    let field = sheet::points_field(wrong_points(random).table());
+                    put(sheet, value, &field[sheet::START..]);
+                }
+            }
+        }
+        Damage::PointsMoved => {
+            let points = if random.chance(1, 2) {
+                points(random)
+            } else {
+                wrong_points(random)
+            };
+            move_points(version, sheet, points);
+            if random.chance(1, 2) {
+                put(sheet, sheet::START + 1, &[3 - version as u8]);
+            }
+        }
         Damage::GroupChanged => {
             if n > 0 {
                 let groups = pair(random.below(n)) + sheet::START + 4;
@@ -396,8 +518,8 @@ pub fn damage(random: &mut Random, n: usize, sheet: &mut Vec<u8>, damage: Damage
             }
         }
         Damage::FieldsSwapped => {
-            if sheet.len() == sheet::length(n) {
-                swap_fields(random, n, sheet);
+            if sheet.len() == sheet::length(version, n) {
+                swap_fields(random, version, n, sheet);
             }
         }
         Damage::IdRepeated => {
@@ -436,12 +558,12 @@ pub fn damage(random: &mut Random, n: usize, sheet: &mut Vec<u8>, damage: Damage
     }
 }
 
-/// A copy of the sheet of `n` pairs with one to three damages of any kind.
-pub fn damaged(random: &mut Random, n: usize, sheet: &[u8]) -> Vec<u8> {
+/// A copy of this pool's sheet with one to three damages of any kind.
+pub fn damaged(random: &mut Random, pool: &Pool, sheet: &[u8]) -> Vec<u8> {
     let mut copy = sheet.to_vec();
     for _ in 0..random.one_of(&[1, 1, 1, 2, 3]) {
         let kind = random.one_of(&Damage::ALL);
-        damage(random, n, &mut copy, kind);
+        damage(random, pool, &mut copy, kind);
     }
     copy
 }
@@ -453,10 +575,23 @@ fn put(sheet: &mut [u8], at: usize, bytes: &[u8]) {
     }
 }
 
+/// Takes the points' field out of what was a sheet of version 2, and puts one
+/// with these points into what was a sheet of version 1, if it reaches so far.
+/// Where that is done already, the sheet stays as it is.
+pub fn move_points(version: u16, sheet: &mut Vec<u8>, points: Points) {
+    let at = sheet::OFFSET_OF_POINTS;
+    let field = sheet::points_field(points.table());
+    let there = sheet.get(at) == field.first();
+    if version == 2 && there && sheet.len() >= at + field.len() {
+        sheet.drain(at..at + field.len());
+    } else if version == 1 && !there && sheet.len() >= at {
+        sheet.splice(at..at, field);
+    }
+}
+
 /// Lets two of the fields of a sheet of `n` pairs change places.
-fn swap_fields(random: &mut Random, n: usize, sheet: &mut Vec<u8>) {
-    let mut bounds = vec![0];
-    bounds.extend((0..=n).map(sheet::offset_of_pair));
+fn swap_fields(random: &mut Random, version: u16, n: usize, sheet: &mut Vec<u8>) {
+    let mut bounds = sheet::offsets(version, n);
     bounds.push(sheet.len());
     let mut fields: Vec<&[u8]> = bounds
         .windows(2)
@@ -505,7 +640,7 @@ impl Drop for Witness<'_> {
 mod tests {
     use super::*;
     use crate::pool::is_shuffle;
-    use crate::tables::build;
+    use crate::tables::build_pool;
 
     #[test]
     fn a_seed_always_gives_the_same() {
@@ -526,7 +661,7 @@ mod tests {
             let kind = random.one_of(&PoolKind::ALL);
             let pool = pool(random, n, kind);
             assert!(is_shuffle(&pool.shuffle));
-            build(n, pool.fields(), n * n, n * n).expect("no fault in the fields");
+            build_pool(&pool).expect("no fault in the fields");
             let kind = random.one_of(&TableKind::ALL);
             let tables = tables(random, n, kind);
             let room = crate::Room::due(n);
@@ -555,10 +690,101 @@ mod tests {
         }
     }
 
+    /// Base, largest mismatch step and larger age step together.
+    fn together(points: [u16; points::COUNT]) -> u32 {
+        let greatest = |steps: &[u16]| u32::from(*steps.iter().max().unwrap());
+        u32::from(points[0]) + greatest(&points[1..4]) + greatest(&points[4..])
+    }
+
+    /// Where the greatest of these steps stands.
+    fn greatest(steps: &[u16]) -> usize {
+        (0..steps.len()).max_by_key(|&at| steps[at]).unwrap()
+    }
+
+    #[test]
+    fn points_of_every_sort_pass() {
+        let mut random = Random::new(205);
+        let drawn: Vec<[u16; points::COUNT]> = (0..5_000)
+            .map(|_| {
+                let points = points(&mut random);
+                assert_eq!(points.check(), Ok(()));
+                points.table()
+            })
+            .collect();
+        for table in EXTREME_POINTS.into_iter().chain([Points::DOCUMENT.table()]) {
+            assert!(drawn.contains(&table), "{table:?}");
+        }
+        // Just so much as may be, the greatest in every place.
+        for place in 0..6 {
+            let there = |points: &&[u16; points::COUNT]| {
+                together(**points) == MOST_TOGETHER
+                    && greatest(&points[1..4]) == place % 3
+                    && greatest(&points[4..]) == place / 3
+                    && points[1..].iter().all(|&step| step > 0)
+            };
+            assert!(drawn.iter().filter(there).count() > 20, "{place}");
+        }
+        let rising = |points: &&[u16; points::COUNT]| points[1..4].is_sorted();
+        assert!(drawn.iter().filter(rising).count() > 200);
+
+        let versions: Vec<_> = (0..300).map(|_| registry(&mut random)).collect();
+        let ones = versions.iter().filter(|points| points.is_none()).count();
+        assert!((50..150).contains(&ones), "{ones} of version 1");
+    }
+
+    #[test]
+    fn wrong_points_do_not_pass() {
+        let mut random = Random::new(14);
+        let drawn: Vec<[u16; points::COUNT]> = (0..5_000)
+            .map(|_| {
+                let points = wrong_points(&mut random);
+                assert!(points.check().is_err());
+                points.table()
+            })
+            .collect();
+        let zero =
+            |points: &&[u16; points::COUNT]| points[0] == 0 && together(**points) <= MOST_TOGETHER;
+        assert!(drawn.iter().filter(zero).count() > 500);
+        for place in 0..6 {
+            let there = |points: &&[u16; points::COUNT]| {
+                together(**points) == MOST_TOGETHER + 1
+                    && points[0] > 0
+                    && greatest(&points[1..4]) == place % 3
+                    && greatest(&points[4..]) == place / 3
+            };
+            assert!(drawn.iter().filter(there).count() > 50, "{place}");
+        }
+        assert!(drawn.contains(&[u16::MAX; points::COUNT]));
+    }
+
+    #[test]
+    fn points_move_in_and_out() {
+        let n = 3;
+        let one = plain_pool(&mut Random::new(6), n, PoolKind::Any);
+        let two = one.clone().with_points(Points::DOCUMENT);
+        let sheet = |pool: &Pool| sheet::write_pool(pool, sheet::LONGEST).unwrap();
+        let (one, two) = (sheet(&one), sheet(&two));
+        let mut moved = one.clone();
+        for _ in 0..2 {
+            move_points(1, &mut moved, Points::DOCUMENT);
+            put(&mut moved, sheet::START + 1, &[2]);
+            assert_eq!(moved, two);
+        }
+        for _ in 0..2 {
+            move_points(2, &mut moved, Points::DOCUMENT);
+            put(&mut moved, sheet::START + 1, &[1]);
+            assert_eq!(moved, one);
+        }
+    }
+
     #[test]
     fn pools_apart_share_no_id() {
         let pools = pools_apart(&mut Random::new(4), [100, 0, 150], PoolKind::Any);
         assert_eq!(pools.each_ref().map(Pool::len), [100, 0, 150]);
+        for pool in &pools {
+            assert_eq!(pool.version, pools[0].version);
+            assert_eq!(pool.points, pools[0].points);
+        }
         let mut ids: Vec<u32> = pools.into_iter().flat_map(|pool| pool.ids).collect();
         ids.sort();
         ids.dedup();
@@ -571,15 +797,15 @@ mod tests {
         let mut random = Random::new(2);
         let mut edges = |kind| -> usize {
             let pool = pool(&mut random, n, kind);
-            let tables = build(n, pool.fields(), n * n, n * n).unwrap();
+            let tables = build_pool(&pool).unwrap();
             tables.m.iter().map(|&m| usize::from(m)).sum()
         };
         assert!(edges(PoolKind::Dense) > n * n * 2 / 3);
         assert!((1..n * n / 3).contains(&edges(PoolKind::Sparse)));
         assert_eq!(edges(PoolKind::Empty), 0);
 
-        let ties = pool(&mut random, n, PoolKind::Ties);
-        let tables = build(n, ties.fields(), n * n, n * n).unwrap();
+        let ties = plain_pool(&mut random, n, PoolKind::Ties);
+        let tables = build_pool(&ties).unwrap();
         let off_diagonal = (0..n * n).filter(|entry| entry % (n + 1) != 0);
         assert!(off_diagonal.clone().all(|entry| tables.w[entry] == 1_450));
     }
@@ -587,8 +813,8 @@ mod tests {
     #[test]
     fn every_mismatch_step_comes_up() {
         let mut random = Random::new(3);
-        let pool = pool(&mut random, 60, PoolKind::Dense);
-        let tables = build(60, pool.fields(), 3_600, 3_600).unwrap();
+        let pool = plain_pool(&mut random, 60, PoolKind::Dense);
+        let tables = build_pool(&pool).unwrap();
         for age in [0, 30, 50] {
             for mismatch in [0, 100, 250, 400] {
                 assert!(tables.w.contains(&(1_000 + mismatch + age)));

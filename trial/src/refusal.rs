@@ -10,7 +10,7 @@ pub enum Reason {
     CutOff = 1,
     /// 2: the tag or the length is not the one due.
     NotDue = 2,
-    /// 3: the version is not 1.
+    /// 3: the version is neither 1 nor 2.
     Version = 3,
     /// 4: N is above 200.
     TooManyPairs = 4,
@@ -32,11 +32,16 @@ pub enum Reason {
     TooManyTogether = 12,
     /// 13: the floor is above 200,000.
     FloorTooHigh = 13,
+    /// 14: the base is 0, or base, largest mismatch step and larger age step
+    /// together exceed 65,535.
+    WrongPoints = 14,
+    /// 15: the versions or points of the sheets to be joined differ.
+    DifferentPoints = 15,
 }
 
 impl Reason {
     /// All reasons, by number.
-    pub const ALL: [Reason; 13] = [
+    pub const ALL: [Reason; 15] = [
         Reason::CutOff,
         Reason::NotDue,
         Reason::Version,
@@ -50,6 +55,8 @@ impl Reason {
         Reason::SharedId,
         Reason::TooManyTogether,
         Reason::FloorTooHigh,
+        Reason::WrongPoints,
+        Reason::DifferentPoints,
     ];
 
     /// Document 01's number.
@@ -74,7 +81,7 @@ pub struct Refusal {
     /// Why.
     pub reason: Reason,
     /// The offset in the sheet of the field that is at fault; for 5 that of
-    /// the first byte too many, for 9, 11, 12 and in the writer 0.
+    /// the first byte too many, for 9, 11, 12, 15 and in the writer 0.
     pub place: usize,
 }
 

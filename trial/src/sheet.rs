@@ -2,12 +2,13 @@
 //!
 //! A sheet is a row of fields, each a tag of one byte, the length of its value
 //! in two, and the value. Numbers of several bytes have the high byte first.
+//! Sheets of version 2 have a field more, the points, after the head.
 
-use crate::pool::{is_shuffle, Fields, Pool, MOST_PAIRS};
+use crate::points::{self, Points};
+use crate::pool::{
+    check_version, is_shuffle, points_of, short_of_points, Fields, Pool, MOST_PAIRS,
+};
 use crate::refusal::{Reason, Refusal};
-
-/// The version of the sheets described here.
-pub const VERSION: u16 = 1;
 
 /// Length of a field's start: its tag and the length of its value.
 pub const START: usize = 3;
@@ -15,20 +16,25 @@ pub const START: usize = 3;
 /// Length of the value of the first field: version and N.
 pub const HEAD: usize = 4;
 
+/// Length of the value of the points' field: six numbers of two bytes.
+pub const POINTS: usize = 2 * points::COUNT;
+
 /// Length of the value of a pair's field.
 pub const PAIR: usize = 32;
 
-/// Length of the longest sheet.
-pub const LONGEST: usize = length(MOST_PAIRS);
+/// Length of the longest sheet: one of version 2.
+pub const LONGEST: usize = length(2, MOST_PAIRS);
 
 const TAG_HEAD: u8 = 1;
 const TAG_PAIR: u8 = 2;
 const TAG_SHUFFLE: u8 = 3;
+const TAG_POINTS: u8 = 4;
 
 /// The example sheet of document 01: two pairs that give to each other.
-pub const EXAMPLE: [u8; length(2)] = {
-    let mut sheet = [0; length(2)];
-    let (first, second, last) = (offset_of_pair(0), offset_of_pair(1), offset_of_shuffle(2));
+pub const EXAMPLE: [u8; length(1, 2)] = {
+    let mut sheet = [0; length(1, 2)];
+    let (first, second) = (offset_of_pair(1, 0), offset_of_pair(1, 1));
+    let last = offset_of_shuffle(1, 2);
     // 01 0004 0001 0002
     (sheet[0], sheet[2], sheet[4], sheet[6]) = (0x01, 0x04, 0x01, 0x02);
     // 02 0020 0000000B 01 02 00 00 and 24 zero bytes
@@ -42,37 +48,78 @@ pub const EXAMPLE: [u8; length(2)] = {
     sheet
 };
 
+/// Where the points' field begins in a sheet of version 2.
+pub const OFFSET_OF_POINTS: usize = START + HEAD;
+
+/// Where the first pair's field begins: after the head, and for version 2 after
+/// the points.
+const fn start_of_pairs(version: u16) -> usize {
+    match version {
+        2 => OFFSET_OF_POINTS + START + POINTS,
+        _ => START + HEAD,
+    }
+}
+
 /// Where the field of pair `i` begins.
-pub const fn offset_of_pair(i: usize) -> usize {
-    START + HEAD + i * (START + PAIR)
+pub const fn offset_of_pair(version: u16, i: usize) -> usize {
+    start_of_pairs(version) + i * (START + PAIR)
 }
 
 /// Where the shuffle's field begins in a sheet of `n` pairs.
-pub const fn offset_of_shuffle(n: usize) -> usize {
-    offset_of_pair(n)
+pub const fn offset_of_shuffle(version: u16, n: usize) -> usize {
+    offset_of_pair(version, n)
 }
 
 /// The length of a sheet of `n` pairs.
-pub const fn length(n: usize) -> usize {
-    offset_of_shuffle(n) + START + 2 * n
+pub const fn length(version: u16, n: usize) -> usize {
+    offset_of_shuffle(version, n) + START + 2 * n
 }
 
-/// Reads a sheet: refusals 1 to 8, at the first fault met going forward.
+/// Where the fields of a sheet of `n` pairs begin: the head, the points in
+/// version 2, the pairs, the shuffle.
+pub fn offsets(version: u16, n: usize) -> Vec<usize> {
+    let mut offsets = vec![0];
+    if version == 2 {
+        offsets.push(OFFSET_OF_POINTS);
+    }
+    offsets.extend((0..n).map(|i| offset_of_pair(version, i)));
+    offsets.push(offset_of_shuffle(version, n));
+    offsets
+}
+
+/// The field of these points, as a sheet of version 2 has it, whether 14 lets
+/// them pass or not.
+pub fn points_field(points: [u16; points::COUNT]) -> Vec<u8> {
+    let mut field = Vec::with_capacity(START + POINTS);
+    start_field(&mut field, TAG_POINTS, POINTS);
+    field.extend(points.iter().flat_map(|point| point.to_be_bytes()));
+    field
+}
+
+/// Reads a sheet: refusals 1 to 8 and 14, at the first fault met going forward.
 ///
 /// Refusal 9 belongs to tables lent by a caller; see [`fits`].
 pub fn read(sheet: &[u8]) -> Result<Pool, Refusal> {
     let mut cursor = Cursor { sheet, offset: 0 };
 
     let (place, value) = cursor.field(TAG_HEAD, HEAD)?;
-    if number(&value[..2]) != u64::from(VERSION) {
-        return Err(Reason::Version.at(place));
-    }
+    let version = number(&value[..2]) as u16;
+    check_version(version).map_err(|reason| reason.at(place))?;
     let n = number(&value[2..]) as usize;
     if n > MOST_PAIRS {
         return Err(Reason::TooManyPairs.at(place));
     }
 
-    let mut pool = Pool::default();
+    let mut pool = Pool {
+        version,
+        ..Pool::default()
+    };
+    if version == 2 {
+        let (place, value) = cursor.field(TAG_POINTS, POINTS)?;
+        pool.points = value.chunks(2).map(|two| number(two) as u16).collect();
+        let points = Points::of(&pool.points);
+        points.check().map_err(|reason| reason.at(place))?;
+    }
     for i in 0..n {
         let (place, value) = cursor.field(TAG_PAIR, PAIR)?;
         pool.ids.push(number(&value[..4]) as u32);
@@ -101,35 +148,69 @@ pub fn read(sheet: &[u8]) -> Result<Pool, Refusal> {
 }
 
 /// Refusal 9 of reading, which comes after all others: whether tables of
-/// these lengths, the shuffle's among them, can take `pool`.
-pub fn fits(pool: &Pool, lengths: &[usize]) -> Result<(), Refusal> {
-    if lengths.iter().any(|&length| length < pool.len()) {
+/// these lengths, the shuffle's among them, can take `pool`, and one of
+/// `points` entries its points.
+pub fn fits(pool: &Pool, points: usize, lengths: &[usize]) -> Result<(), Refusal> {
+    let short = lengths.iter().any(|&length| length < pool.len());
+    if short || short_of_points(pool.version, points) {
         return Err(Reason::TooShort.at(0));
     }
     Ok(())
 }
 
-/// Writes the sheet of a pool of `n` pairs, for a buffer of `room` bytes.
+/// Writes the sheet of a pool of `n` pairs in that version, for a buffer of
+/// `room` bytes.
 ///
-/// The tables are a caller's: only their first `n` entries count, and a table
-/// with fewer is refused. Checks 4; 9 for those tables; 6 and 7 pair by pair;
-/// 8; 9 for the buffer. All places are 0.
+/// The tables are a caller's: only their first `n` entries count, and of the
+/// points, which version 1 does not look at, the first six; a table with fewer
+/// is refused. Checks 3; 4; 9 for those tables; 14; 6 and 7 pair by pair; 8; 9
+/// for the buffer. All places are 0.
 pub fn write(
+    version: u16,
     n: usize,
+    points: &[u16],
     fields: Fields<'_>,
     shuffle: &[u16],
     room: usize,
 ) -> Result<Vec<u8>, Refusal> {
-    check_written(n, fields, shuffle, room).map_err(|reason| reason.at(0))?;
-    Ok(bytes(n, fields, shuffle))
+    check_written(version, n, points, fields, shuffle, room).map_err(|reason| reason.at(0))?;
+    Ok(bytes_of(version, n, points, fields, shuffle))
 }
 
-/// The sheet of a pool of `n` pairs that has no fault.
-pub(crate) fn bytes(n: usize, fields: Fields<'_>, shuffle: &[u16]) -> Vec<u8> {
-    let mut sheet = Vec::with_capacity(length(n));
+/// Writes the sheet of a pool, for a buffer of `room` bytes.
+pub fn write_pool(pool: &Pool, room: usize) -> Result<Vec<u8>, Refusal> {
+    let (points, fields) = (&pool.points, pool.fields());
+    write(
+        pool.version,
+        pool.len(),
+        points,
+        fields,
+        &pool.shuffle,
+        room,
+    )
+}
+
+/// The sheet of a pool that has no fault.
+pub(crate) fn bytes(pool: &Pool) -> Vec<u8> {
+    let (points, fields) = (&pool.points, pool.fields());
+    bytes_of(pool.version, pool.len(), points, fields, &pool.shuffle)
+}
+
+/// The sheet of the first `n` pairs of tables that have no fault.
+fn bytes_of(
+    version: u16,
+    n: usize,
+    points: &[u16],
+    fields: Fields<'_>,
+    shuffle: &[u16],
+) -> Vec<u8> {
+    let mut sheet = Vec::with_capacity(length(version, n));
     start_field(&mut sheet, TAG_HEAD, HEAD);
-    sheet.extend(VERSION.to_be_bytes());
+    sheet.extend(version.to_be_bytes());
     sheet.extend((n as u16).to_be_bytes());
+    if version == 2 {
+        sheet.extend(points_field(Points::of(points).table()));
+    }
     for i in 0..n {
         start_field(&mut sheet, TAG_PAIR, PAIR);
         sheet.extend(fields.ids[i].to_be_bytes());
@@ -147,18 +228,28 @@ pub(crate) fn bytes(n: usize, fields: Fields<'_>, shuffle: &[u16]) -> Vec<u8> {
 }
 
 /// The writer's checks, in order.
-fn check_written(n: usize, fields: Fields<'_>, shuffle: &[u16], room: usize) -> Result<(), Reason> {
+fn check_written(
+    version: u16,
+    n: usize,
+    points: &[u16],
+    fields: Fields<'_>,
+    shuffle: &[u16],
+    room: usize,
+) -> Result<(), Reason> {
+    check_version(version)?;
     if n > MOST_PAIRS {
         return Err(Reason::TooManyPairs);
     }
-    if fields.shortest() < n || shuffle.len() < n {
+    let short = fields.shortest() < n || shuffle.len() < n;
+    if short || short_of_points(version, points.len()) {
         return Err(Reason::TooShort);
     }
+    points_of(version, points)?;
     fields.check_pairs(n)?;
     if !is_shuffle(&shuffle[..n]) {
         return Err(Reason::Shuffle);
     }
-    if room < length(n) {
+    if room < length(version, n) {
         return Err(Reason::TooShort);
     }
     Ok(())
@@ -211,8 +302,12 @@ mod tests {
 
     #[test]
     fn the_longest_sheet() {
-        assert_eq!(LONGEST, 7_410);
-        assert_eq!(length(0), 10);
+        assert_eq!((length(1, 0), length(1, MOST_PAIRS)), (10, 7_410));
+        assert_eq!((length(2, 0), length(2, MOST_PAIRS)), (25, 7_425));
+        assert_eq!(LONGEST, 7_425);
+        assert_eq!((offset_of_pair(1, 0), offset_of_pair(2, 0)), (7, 22));
+        assert_eq!(offsets(1, 2), [0, 7, 42, 77]);
+        assert_eq!(offsets(2, 2), [0, 7, 22, 57, 92]);
     }
 
     #[test]
@@ -238,6 +333,8 @@ mod tests {
         assert_eq!(
             pool,
             Pool {
+                version: 1,
+                points: vec![],
                 ids: vec![11, 12],
                 donor_bloods: vec![1, 2],
                 patient_bloods: vec![2, 1],
@@ -249,14 +346,38 @@ mod tests {
                 shuffle: vec![0, 1],
             }
         );
-        assert_eq!(fits(&pool, &[2, 3]), Ok(()));
-        assert_eq!(fits(&pool, &[2, 1]), Err(Reason::TooShort.at(0)));
+        assert_eq!(fits(&pool, 0, &[2, 3]), Ok(()));
+        assert_eq!(fits(&pool, 0, &[2, 1]), Err(Reason::TooShort.at(0)));
+        let two = pool.with_points(Points::DOCUMENT);
+        assert_eq!(fits(&two, 6, &[2, 3]), Ok(()));
+        assert_eq!(fits(&two, 7, &[2, 1]), Err(Reason::TooShort.at(0)));
+        assert_eq!(fits(&two, 5, &[2, 3]), Err(Reason::TooShort.at(0)));
+    }
+
+    #[test]
+    fn the_points_stand_after_the_head_in_their_order() {
+        let points = Points {
+            base: 0x0102,
+            no_mismatch: 0x0304,
+            few_mismatches: 0x0506,
+            some_mismatches: 0x0708,
+            same_age: 0x090A,
+            young_to_senior: 0x0B0C,
+        };
+        let pool = read(&EXAMPLE).unwrap().with_points(points);
+        let sheet = write_pool(&pool, LONGEST).unwrap();
+        assert_eq!(sheet.len(), 99);
+        assert_eq!(sheet[..7], [1, 0, 4, 0, 2, 0, 2]);
+        assert_eq!(sheet[7..10], [4, 0, 12]);
+        assert_eq!(sheet[10..22], [1, 2, 3, 4, 5, 6, 7, 8, 9, 10, 11, 12]);
+        assert_eq!(sheet[22..], EXAMPLE[7..]);
+        assert_eq!(read(&sheet), Ok(pool));
     }
 
     #[test]
     fn every_byte_of_a_pair_has_its_field() {
         let mut sheet = EXAMPLE;
-        let value = offset_of_pair(1) + START;
+        let value = offset_of_pair(1, 1) + START;
         for (byte, at) in (0x81..).zip(value..value + 4) {
             sheet[at] = byte;
         }
@@ -277,7 +398,8 @@ mod tests {
     fn the_empty_pool_still_has_a_shuffle() {
         let sheet = [1, 0, 4, 0, 1, 0, 0, 3, 0, 0];
         assert_eq!(read(&sheet), Ok(Pool::default()));
-        assert_eq!(write(0, Fields::default(), &[], 10).unwrap(), sheet);
+        let written = write(1, 0, &[], Fields::default(), &[], 10);
+        assert_eq!(written.unwrap(), sheet);
         assert_eq!(read(&sheet[..7]), Err(Reason::CutOff.at(7)));
     }
 }

@@ -1,10 +1,10 @@
 //! The examples of document 01, each as it is written there.
 
-use reference::random::{pool, PoolKind, Random};
+use reference::random::{plain_pool, PoolKind, Random};
 use reference::sheet::{self, EXAMPLE};
 use reference::{
-    algorithm1, best, build, gates, plan, printout, read, straight, write, Plan, Reason, Room,
-    Tables, Tally,
+    algorithm1, best, build, gates, plan, printout, read, straight, write, write_pool, Plan,
+    Reason, Room, Tables, Tally,
 };
 
 /// Plans with all planners, which must agree, and gives what they say.
@@ -172,20 +172,20 @@ fn the_example_sheet_is_printed_and_written_again() {
         "PLAN 2 1 2900\n11 12 12\n12 11 11\nCOUNTS 1 6 1\n"
     );
     let pool = read(&EXAMPLE).unwrap();
-    let written = write(2, pool.fields(), &pool.shuffle, EXAMPLE.len());
+    let written = write_pool(&pool, EXAMPLE.len());
     assert_eq!(written.unwrap(), EXAMPLE);
 }
 
 #[test]
 fn a_printout_with_pairs_that_sit_out_and_ids_of_every_length() {
     // Donor AB suits patient AB only: 1 and 2 exchange, 0 and 3 sit out.
-    let mut pool = pool(&mut Random::new(0), 4, PoolKind::Ties);
+    let mut pool = plain_pool(&mut Random::new(0), 4, PoolKind::Ties);
     pool.ids = vec![0, 4_294_967_295, 10, 7];
     pool.donor_bloods = vec![3, 1, 2, 3];
     pool.patient_bloods = vec![0, 2, 1, 0];
     pool.patient_antibodies = vec![0; 4];
     pool.shuffle = vec![3, 1, 0, 2];
-    let sheet = write(4, pool.fields(), &pool.shuffle, sheet::LONGEST).unwrap();
+    let sheet = write_pool(&pool, sheet::LONGEST).unwrap();
     assert_eq!(
         printout::program(&sheet),
         "PLAN 4 1 2900\n0 - -\n4294967295 10 10\n10 4294967295 4294967295\n7 - -\nCOUNTS 24 162 2\n"
@@ -194,8 +194,8 @@ fn a_printout_with_pairs_that_sit_out_and_ids_of_every_length() {
 
 #[test]
 fn two_hundred_pairs_are_read_and_one_more_is_not() {
-    let pool = pool(&mut Random::new(200), 200, PoolKind::Any);
-    let sheet = write(200, pool.fields(), &pool.shuffle, sheet::LONGEST).unwrap();
+    let pool = plain_pool(&mut Random::new(200), 200, PoolKind::Any);
+    let sheet = write_pool(&pool, sheet::LONGEST).unwrap();
     assert_eq!(sheet.len(), 7_410);
     assert_eq!(read(&sheet).as_ref(), Ok(&pool));
 
@@ -203,19 +203,19 @@ fn two_hundred_pairs_are_read_and_one_more_is_not() {
     more[6] = 201;
     assert_eq!(read(&more), Err(Reason::TooManyPairs.at(0)));
     assert_eq!(
-        write(201, pool.fields(), &pool.shuffle, sheet::LONGEST),
+        write(1, 201, &[], pool.fields(), &pool.shuffle, sheet::LONGEST),
         Err(Reason::TooManyPairs.at(0))
     );
     assert_eq!(
-        build(201, pool.fields(), 50_000, 50_000),
+        build(1, 201, &[], pool.fields(), 50_000, 50_000),
         Err(Reason::TooManyPairs)
     );
 
     // The program has room for forty pairs.
     assert_eq!(printout::program(&sheet), "REFUSED 9 0\n");
     let sheet_of = |n| {
-        let pool = self::pool(&mut Random::new(n as u64), n, PoolKind::Dense);
-        write(n, pool.fields(), &pool.shuffle, sheet::LONGEST).unwrap()
+        let pool = plain_pool(&mut Random::new(n as u64), n, PoolKind::Dense);
+        write_pool(&pool, sheet::LONGEST).unwrap()
     };
     assert!(printout::program(&sheet_of(40)).starts_with("PLAN 40 "));
     assert_eq!(printout::program(&sheet_of(41)), "REFUSED 9 0\n");
@@ -223,8 +223,8 @@ fn two_hundred_pairs_are_read_and_one_more_is_not() {
 
 #[test]
 fn bytes_past_those_that_the_program_reads_change_nothing() {
-    let pool = pool(&mut Random::new(7), 200, PoolKind::Any);
-    let mut sheet = write(200, pool.fields(), &pool.shuffle, sheet::LONGEST).unwrap();
+    let pool = plain_pool(&mut Random::new(7), 200, PoolKind::Any);
+    let mut sheet = write_pool(&pool, sheet::LONGEST).unwrap();
     sheet.push(0);
     assert_eq!(printout::program(&sheet), "REFUSED 5 7410\n");
     sheet.extend([0; 100]);

@@ -4,10 +4,10 @@
 
 use reference::best::cycle_weight;
 use reference::random::{
-    floor, pool, tables, trials, PoolKind, Random, TableKind, GREATEST_WEIGHT,
+    floor, plain_pool, pool, tables, trials, PoolKind, Random, TableKind, GREATEST_WEIGHT,
 };
 use reference::{
-    algorithm1, best, best_above, build, gates, plan, printed, printout, read, straight, Plan,
+    algorithm1, best, best_above, build_pool, gates, plan, printed, printout, read, straight, Plan,
     Reason, Room, Tables, Tally, MOST_FLOOR,
 };
 
@@ -152,7 +152,7 @@ fn the_heaviest_triple() {
 #[test]
 fn the_eight_pairs_of_the_examples() {
     let pool = read(include_bytes!("../../examples/eight.sheet")).expect("a sound sheet");
-    let tables = build(8, pool.fields(), 64, 64).expect("a sound pool");
+    let tables = build_pool(&pool).expect("a sound pool");
     let planned = |floor| planned(8, floor, &tables, &pool.shuffle);
     let plan = planned(2_700);
     assert_eq!((plan.choices, plan.weight), (vec![6, 84, 84, 84], 3_250));
@@ -258,7 +258,7 @@ fn any_tables(random: &mut Random, n: usize) -> Tables {
     } else {
         let kind = random.one_of(&PoolKind::ALL);
         let pool = pool(random, n, kind);
-        build(n, pool.fields(), n * n, n * n).expect("a sound pool")
+        build_pool(&pool).expect("a sound pool")
     }
 }
 
@@ -423,8 +423,8 @@ fn three_times_the_plan_is_at_least_the_best_above_the_floor() {
 #[test]
 fn two_hundred_pairs_with_a_floor() {
     let n = 200;
-    let pool = pool(&mut Random::new(202), n, PoolKind::Dense);
-    let tables = build(n, pool.fields(), n * n, n * n).expect("a sound pool");
+    let pool = plain_pool(&mut Random::new(202), n, PoolKind::Dense);
+    let tables = build_pool(&pool).expect("a sound pool");
     let (m, w, room) = (&tables.m, &tables.w, Room::due(n));
     let whole = straight::plan(n, 0, m, w, &pool.shuffle, room).expect("a plan");
     let weights = cycle_weights(n, &tables, &whole);

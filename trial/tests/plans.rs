@@ -3,7 +3,7 @@
 
 use reference::best::cycle_weight;
 use reference::random::{pool, tables, trials, PoolKind, Random, TableKind};
-use reference::{algorithm1, best, build, gates, plan, straight, Plan, Room, Tables, Tally};
+use reference::{algorithm1, best, build_pool, gates, plan, straight, Plan, Room, Tables, Tally};
 
 /// Tables of any kind, a caller's own or built from fields.
 fn any_tables(random: &mut Random, n: usize) -> Tables {
@@ -13,7 +13,7 @@ fn any_tables(random: &mut Random, n: usize) -> Tables {
     } else {
         let kind = random.one_of(&PoolKind::ALL);
         let pool = pool(random, n, kind);
-        build(n, pool.fields(), n * n, n * n).unwrap()
+        build_pool(&pool).unwrap()
     }
 }
 
@@ -134,7 +134,7 @@ fn tallies_follow_the_closed_form() {
 fn two_hundred_pairs() {
     let n = 200;
     let pool = pool(&mut Random::new(200), n, PoolKind::Dense);
-    let tables = build(n, pool.fields(), n * n, n * n).unwrap();
+    let tables = build_pool(&pool).unwrap();
     let plan = planned(n, &tables, &pool.shuffle);
     let both = algorithm1(n, 0, &tables.m, &tables.w, &pool.shuffle);
     assert_eq!((plan.donors, plan.recipients), both);

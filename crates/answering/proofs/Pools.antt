@@ -10,11 +10,12 @@ use Rattle.laws.proofs.Below.{length-table, getD-table, table-cong, table-getD}
 use Rattle.refusal.specs.Answer.{finished, outcome}
 use Rattle.refusal.specs.declared.Refusal.{Refusal}
 use Rattle.pool.specs.Pool.{Pair}
-use Rattle.pool.specs.Tables.{Tables, pairIn}
-use Rattle.pool.specs.Faultless.{EachOnce, Faultless}
+use Rattle.pool.specs.Points.{Points}
+use Rattle.pool.specs.Tables.{Tables, entry as Pool·entry, pairIn}
+use Rattle.pool.specs.Faultless.{EachOnce, Faultless, pointsOfTable}
 use Rattle.pool.proofs.Pairs.{faultless-cong}
 use Rattle.donation.specs.Compatibility.{compatibility}
-use Rattle.donation.specs.Weight.{documentPoints, weight}
+use Rattle.donation.specs.Weight.{weight}
 use Rattle.graph.specs.Graph.{Graph}
 use Rattle.weighing.specs.Promises as Weighing
 use Rattle.weighing.specs.Answers as Weighing·Answers
@@ -37,32 +38,36 @@ taken n l h = sym (table-getD 0 (take n l) n (λ i. getD l i 0) (length-take-le 
 
 -- ## A faultless pool
 
-module _ (n : ℕ) (pair : ℕ → Pair) (s : ℕ → ℕ) (w : Faultless n pair s) where
+module _ (v : ℕ) (p : ℕ → ℕ) (n : ℕ) (pair : ℕ → Pair) (s : ℕ → ℕ) (w : Faultless v p n pair s) where
   pub each-once : EachOnce n (λ j. getD (table n s) j 0)
-  each-once = faultless-cong n pair pair s _ (λ i l. refl) (λ j l. sym (getD-table n s 0 j l)) w .eachOnce
+  each-once = faultless-cong v n p p pair pair s _ (λ k l. refl) (λ i l. refl) (λ j l. sym (getD-table n s 0 j l)) w .eachOnce
 
   pub shuffle-seated : Invertible n (table n s)
   shuffle-seated = invertible n (table n s) (omega (arith, length-table n s)) each-once
 
-  -- its plan depends on its n pairs alone
-  pub same-plan : (other : ℕ → Pair) (t : ℕ → ℕ) → ((i : ℕ) → i < n → pair i ≡ other i) → table n s ≡ table n t → printedPlanOf n pair s ≡ printedPlanOf n other t
+  -- its plan by points q depends on its n pairs alone
+  pub same-plan : (q : Points) (other : ℕ → Pair) (t : ℕ → ℕ) → ((i : ℕ) → i < n → pair i ≡ other i) → table n s ≡ table n t
+      → printedPlanOf q n pair s ≡ printedPlanOf q n other t
   unfolding printedPlanOf compatibility weight
-  same-plan other t h g =
-      plan-agree n (compatibility pair) (compatibility other) (weight documentPoints pair) (weight documentPoints other) (table n s) shuffle-seated
+  same-plan q other t h g =
+      plan-agree n (compatibility pair) (compatibility other) (weight q pair) (weight q other) (table n s) shuffle-seated
       (λ i j _ _. compatibility-most pair i j) (λ i j a b. rw (h i a, h j b)) (λ i j a b. rw (h i a, h j b)) (table n (λ i. pair i .id))
-      ∙ ap₂ (λ (ids shuffle : List ℕ). planBy ids (input n noFloor (compatibility other) (weight documentPoints other) shuffle))
+      ∙ ap₂ (λ (ids shuffle : List ℕ). planBy ids (input n noFloor (compatibility other) (weight q other) shuffle))
       (table-cong n _ _ (λ i l. ap (λ (q : Pair). q .id) (h i l))) g
 
 -- ## What was read is built
 
-module _ (n : ℕ) (t : Tables) (p : Read n t) (old : Graph) (room : (1600 ≤ length (old .compatibilities)) × (1600 ≤ length (old .weights))) (a : Building) (new : Graph)
-    (w : Weighing.BuildsRightly n (t .fields) old (outcome (Weighing·Answers.answerOf a) new)) where
+module _ (v n : ℕ) (t : Tables) (p : Read v n t) (old : Graph) (room : (1600 ≤ length (old .compatibilities)) × (1600 ≤ length (old .weights))) (a : Building) (new : Graph)
+    (w : Weighing.BuildsRightly v n (t .points) (t .fields) old (outcome (Weighing·Answers.answerOf a) new)) where
   surely : Weighing·Answers.answerOf a ≡ finished tt
   surely =
       w .accepts
       (record {
+        version = p .faultless .pool .version;
         few = omega (arith, p .few);
         hold = p .faultless .hold .fields;
+        held = p .faultless .hold .points;
+        points = p .faultless .pool .points;
         inRange = p .faultless .pool .inRange;
         unlike = p .faultless .pool .unlike;
       })
@@ -90,17 +95,17 @@ module _ (n : ℕ) (t : Tables) (p : Read n t) (old : Graph) (room : (1600 ≤ l
         compatibilities = omega (arith, square-most n (p .few), h .0);
         weights = omega (arith, square-most n (p .few), h .1);
         shuffle = omega (arith, length-take-le n (t .shuffle) held);
-        eachOnce = rw (taken n (t .shuffle) held) (each-once n _ _ (p .faultless .pool));
+        eachOnce = rw (taken n (t .shuffle) held) (each-once v _ n _ _ (p .faultless .pool));
         compatible = compatible;
       }
 
   -- its plan is the pool's
   pub plan-is : planBy (take n (t .fields .ids)) (inputOf (request n noFloor (new .compatibilities) (new .weights) (take n (t .shuffle))))
-      ≡ printedPlanOf n (pairIn (t .fields)) (λ j. getD (t .shuffle) j 0)
+      ≡ printedPlanOf (pointsOfTable v (t .points)) n (pairIn (t .fields)) (Pool·entry (t .shuffle))
   unfolding printedPlanOf pairIn entry
   plan-is =
       let e = w .built surely in
       ap₂ (λ (ids shuffle : List ℕ). planBy ids (inputOf (request n noFloor (new .compatibilities) (new .weights) shuffle)))
       (taken n (t .fields .ids) (p .faultless .hold .fields .ids)) (taken n (t .shuffle) (p .faultless .hold .shuffle))
       ∙ plan-agree n (entry (new .compatibilities) n) (compatibility (pairIn (t .fields))) (entry (new .weights) n)
-      (weight documentPoints (pairIn (t .fields))) _ (shuffle-seated n _ _ (p .faultless .pool)) (compatible .zeroOrOne) (e .compatibilities) (e .weights) _
+      (weight (pointsOfTable v (t .points)) (pairIn (t .fields))) _ (shuffle-seated v _ n _ _ (p .faultless .pool)) (compatible .zeroOrOne) (e .compatibilities) (e .weights) _

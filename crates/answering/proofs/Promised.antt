@@ -8,12 +8,13 @@ use Rattle.refusal.specs.Fault.{Fault, none, fault, _then_}
 use Rattle.refusal.specs.Answer.{finished}
 use Rattle.refusal.proofs.Faults.{then-none, none-then, by-then}
 use Rattle.pool.specs.Pool.{Pair}
-use Rattle.pool.specs.Sheet.{pairsIn, pairAt, shuffleAt}
+use Rattle.pool.specs.Points.{Points}
+use Rattle.pool.specs.Sheet.{versionIn, pairsIn, pointAt, pairAt, shuffleAt}
 use Rattle.pool.specs.Faults.{sheetFault, roomFault}
 use Rattle.pool.specs.Faultless.{Faultless, FaultlessSheet}
 use Rattle.pool.proofs.Reading.{room-none, room-passed, room-fault, sheet-none, sheet-passed, sheet-pool, sheet-fault}
 use Rattle.donation.specs.Compatibility.{compatibility}
-use Rattle.donation.specs.Weight.{documentPoints, weight}
+use Rattle.donation.specs.Weight.{weight}
 use Rattle.donation.proofs.Compatible.{compatibility-most}
 use Rattle.weighing.proofs.Promised.{rightly}
 use Rattle.exchange.specs.Subsets.{cycles, entry, pairsAt}
@@ -30,14 +31,14 @@ use Rattle.exchange.proofs.Partners.{algorithm-partners}
 use Rattle.exchange.proofs.Checked.{answers-rightly}
 use Rattle.printout.specs.Printed.{PrintedPlan, planText, refusalText}
 use Rattle.buffers.specs.Most.{most}
-use Rattle.answering.specs.Answering.{planBy, poolInput, printedPlanOf, orRefusal, answerText, putting, answering}
+use Rattle.answering.specs.Answering.{planBy, poolInput, printedPlanOf, pointsOn, orRefusal, answerText, putting, answering}
 use Rattle.answering.specs.Promises.{BuiltIsPlanned, PlanGuarantee, SheetPlanned, AnswerFault, sheet, tooMany, AnsweringIsRight}
 use Rattle.answering.proofs.Pools.{shuffle-seated}
 
 pub built-is-planned : BuiltIsPlanned
 unfolding entry
-built-is-planned n floor f old g s t built left low once long =
-    let w = rightly n f old (finished tt) g (λ i. record { answer = sym built i; lent = left i }) in
+built-is-planned v n floor points f old g s t built left low once long =
+    let w = rightly v n points f old (finished tt) g (λ i. record { answer = sym built i; lent = left i }) in
     let z = w .plannable refl in
     answers-rightly (request n floor _ _ s) t .accepts
     (record {
@@ -50,18 +51,18 @@ built-is-planned n floor f old g s t built left low once long =
 
 -- ## The printed plan
 
-module _ (n : ℕ) (pair : ℕ → Pair) (s : ℕ → ℕ) (w : Faultless n pair s) where
+module _ (points : Points) (version : ℕ) (own : ℕ → ℕ) (n : ℕ) (pair : ℕ → Pair) (s : ℕ → ℕ) (w : Faultless version own n pair s) where
   abbrev q : Input
-  q = poolInput n pair s
+  q = poolInput points n pair s
 
   abbrev m : ℕ → ℕ → ℕ
   m = compatibility pair
 
   abbrev v : ℕ → ℕ → ℕ
-  v = weight documentPoints pair
+  v = weight points pair
 
   seated : Invertible n (table n s)
-  seated = shuffle-seated n pair s w
+  seated = shuffle-seated version own n pair s w
 
   same : plannedBy q ≡ map (pairsAt (table n s)) (Algorithm1.chosenCycles q)
   same = same-cycles noFloor 3 n m v (table n s)
@@ -71,7 +72,7 @@ module _ (n : ℕ) (pair : ℕ → Pair) (s : ℕ → ℕ) (w : Faultless n pair
   partners = rw same
       (algorithm-partners q (rw same at (planned-apart noFloor 3 n m v (table n s) seated)) _ _ (λ i h. getD-table n _ 0 i h) (λ i h. getD-table n _ 0 i h))
 
-  plan-guarantee : PlanGuarantee q (printedPlanOf n pair s)
+  plan-guarantee : PlanGuarantee q (printedPlanOf points n pair s)
   unfolding printedPlanOf planBy planFrom
   plan-guarantee =
       record {
@@ -90,7 +91,7 @@ module _ (n : ℕ) (pair : ℕ → Pair) (s : ℕ → ℕ) (w : Faultless n pair
 module _ (b : List ℕ) where
   -- the plan of the pool that b says
   abbrev plan : PrintedPlan
-  plan = printedPlanOf (pairsIn b) (pairAt b) (shuffleAt b (pairsIn b))
+  plan = printedPlanOf (pointsOn b) (pairsIn b) (pairAt b) (shuffleAt b (pairsIn b))
 
   abbrev found : Fault
   found = sheetFault b then roomFault most (pairsIn b)
@@ -101,7 +102,7 @@ module _ (b : List ℕ) where
 
   sheet-planned : FaultlessSheet b → SheetPlanned b plan
   unfolding printedPlanOf planBy
-  sheet-planned s = record { pairs = refl; ids = refl; guarantee = plan-guarantee (pairsIn b) (pairAt b) (shuffleAt b (pairsIn b)) (sheet-pool b s) }
+  sheet-planned s = record { pairs = refl; ids = refl; guarantee = plan-guarantee (pointsOn b) (versionIn b) (pointAt b) (pairsIn b) (pairAt b) (shuffleAt b (pairsIn b)) (sheet-pool b s) }
 
   answer-fault : (k o : ℕ) → found ≡ fault k o → AnswerFault b k o
   answer-fault k o = by-then (AnswerFault b) (sheetFault b) (roomFault most (pairsIn b))

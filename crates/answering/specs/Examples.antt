@@ -1,8 +1,9 @@
--- Two sheets and their answers, from bytes to printout: document 01's, and one of ours in which what the first leaves alike differs. Assumes nothing.
+-- Three sheets and their answers, from bytes to printout: document 01's, the same as version 2 with a registry's base, and one of ours in which what the
+-- first leaves alike differs. Assumes nothing.
 use mathlib.Core.Path.{_≡_}
 use mathlib.Core.List.{List, [], _∷_, flatten}
 use Prim.Native.Nat.{ℕ}
-use Rattle.pool.specs.Examples.{exampleSheet}
+use Rattle.pool.specs.Examples.{exampleSheet, examplePair}
 use Rattle.text.specs.Text.{bytesOf}
 use Rattle.answering.specs.Answering.{answerText}
 
@@ -10,6 +11,21 @@ use Rattle.answering.specs.Answering.{answerText}
 
 abbrev pub ExampleAnswered : Type 0
 ExampleAnswered = answerText exampleSheet ≡ bytesOf "PLAN 2 1 2900\n11 12 12\n12 11 11\nCOUNTS 1 6 1\n"
+
+-- ## The same pairs in version 2: base 2,000 and the other points as in document 01, so 2,450 for each giving
+
+abbrev pub registrySheet : List ℕ
+registrySheet =
+    flatten
+    ((1 ∷ 0 ∷ 4 ∷ 0 ∷ 2 ∷ 0 ∷ 2 ∷ [])
+    ∷ (4 ∷ 0 ∷ 12 ∷ 7 ∷ 208 ∷ 1 ∷ 144 ∷ 0 ∷ 250 ∷ 0 ∷ 100 ∷ 0 ∷ 50 ∷ 0 ∷ 30 ∷ [])
+    ∷ examplePair 0 11 1 2
+    ∷ examplePair 0 12 2 1
+    ∷ (3 ∷ 0 ∷ 4 ∷ 0 ∷ 0 ∷ 0 ∷ 1 ∷ [])
+    ∷ [])
+
+abbrev pub RegistryAnswered : Type 0
+RegistryAnswered = answerText registrySheet ≡ bytesOf "PLAN 2 1 4900\n11 12 12\n12 11 11\nCOUNTS 1 6 1\n"
 
 -- ## A triple
 

@@ -5,6 +5,6 @@ use Rattle.pool.specs.Faultless.{FaultlessPool}
 use Rattle.buffers.specs.Most.{most}
 
 -- a pool that was read: it has none of the faults, and at most 40 pairs
-pub record Read (n : ℕ) (t : Tables) : Type 0 where
+pub record Read (v n : ℕ) (t : Tables) : Type 0 where
   pub few : n ≤ most
-  pub faultless : FaultlessPool n t
+  pub faultless : FaultlessPool v n t

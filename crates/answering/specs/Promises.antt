@@ -8,7 +8,6 @@ use Rattle.refusal.specs.Answer.{finished, Outcome}
 use Rattle.pool.specs.Sheet.{pairsIn, pairAt, shuffleAt}
 use Rattle.pool.specs.Tables.{Fields}
 use Rattle.pool.specs.Faultless.{EachOnce, FaultlessSheet, SheetFault}
-use Rattle.donation.specs.Weight.{documentPoints, weight}
 use Rattle.graph.specs.Graph.{Graph}
 use Rattle.weighing.specs.Building.{building}
 use Rattle.greedy.specs.Tally.{tally}
@@ -21,14 +20,14 @@ use Rattle.exchange.specs.Rivals.{ExchangeSetOf, weightIn}
 use Rattle.exchange.specs.Promises.{TallyOf}
 use Rattle.printout.specs.Printed.{PrintedPlan, planText, refusalText}
 use Rattle.buffers.specs.Most.{most}
-use Rattle.answering.specs.Answering.{poolInput, putting, answering}
+use Rattle.answering.specs.Answering.{poolInput, pointsOn, putting, answering}
 
--- tables that were built are planned, with any shuffle, any floor up to the greatest and any tables that are long enough: they have no fault 10
+-- tables that were built, by whatever points, are planned, with any shuffle, any floor up to the greatest and any tables that are long enough: they have no fault 10
 abbrev pub BuiltIsPlanned : Type 0
 BuiltIsPlanned =
-    (n floor : ℕ) (f : Fields) (old g : Graph) (s : List ℕ) (t : Lent)
-    → building documentPoints n f old .answer ≡ finished tt
-    → g ≡ building documentPoints n f old .lent
+    (v n floor : ℕ) (points : List ℕ) (f : Fields) (old g : Graph) (s : List ℕ) (t : Lent)
+    → building v n points f old .answer ≡ finished tt
+    → g ≡ building v n points f old .lent
     → floor ≤ mostFloor
     → EachOnce n (λ j. getD s j 0)
     → LongEnough (request n floor (g .compatibilities) (g .weights) s) t
@@ -50,11 +49,11 @@ pub record PlanGuarantee (q : Input) (p : PrintedPlan) : Type 0 where
   pub partners : Algorithm1.Partners q (p .donors) (p .recipients)
   pub cycles : planned ≡ map (pairsAt (q .shuffle)) (Algorithm1.chosenCycles q)
 
--- the plan p that answers the sheet b: of the pool that b says
+-- the plan p that answers the sheet b: of the pool that b says, by the points that it is weighed by
 pub record SheetPlanned (b : List ℕ) (p : PrintedPlan) : Type 0 where
   pub pairs : p .pairs ≡ pairsIn b
   pub ids : p .ids ≡ table (pairsIn b) (λ i. pairAt b i .id)
-  pub guarantee : PlanGuarantee (poolInput (pairsIn b) (pairAt b) (shuffleAt b (pairsIn b))) p
+  pub guarantee : PlanGuarantee (poolInput (pointsOn b) (pairsIn b) (pairAt b) (shuffleAt b (pairsIn b))) p
 
 -- fault k of a sheet that is to be answered, at place o: one of the sheet's, or 9 with place 0 for more than 40 pairs
 pub data AnswerFault (b : List ℕ) : ℕ → ℕ → Type 0 where

@@ -7,10 +7,11 @@ use refusal::Refusal;
 use weighing::Building;
 ghost use mathlib.Core.Path.{_≡_};
 ghost use Prim.Native.Nat.{_≤_};
-ghost use lib.ListN.{getD, length};
+ghost use lib.ListN.{length};
 ghost use Rattle.refusal.specs.Answer.{finished, outcome};
 ghost use Rattle.refusal.specs.Number.{numberOf};
-ghost use Rattle.pool.specs.Tables.{pairIn};
+ghost use Rattle.pool.specs.Tables.{entry, pairIn};
+ghost use Rattle.pool.specs.Faultless.{pointsOfTable};
 ghost use Rattle.pool.specs.Lent.{lentTables, tablesNow};
 ghost use Rattle.exchange.specs.Input.{noFloor, inputOf, request};
 ghost use Rattle.printout.specs.Printed.{planText, refusalText};
@@ -54,9 +55,11 @@ fn print_planned(
     }
 }
 
-// Builds the tables of the pool in the first n entries of its fields, plans it, and prints the plan.
+// Builds the tables of the pool in the first n entries of its fields, by the points of its version, plans it, and prints the plan.
 fn print_pool(
+    version: u16,
     n: usize,
+    points: &[u16],
     ids: &[u32],
     donor_blood: &[u8],
     patient_blood: &[u8],
@@ -68,20 +71,23 @@ fn print_pool(
     shuffle: &[u16],
     out: &mut [u8; 1458],
 ) -> usize
-    requires { ⌜ Read n
-        (tablesNow ids «donor_blood» «patient_blood» «donor_age» «patient_age»
+    requires { ⌜ Read version n
+        (tablesNow points ids «donor_blood» «patient_blood» «donor_age» «patient_age»
         «donor_antigens» «patient_antigens» «patient_antibodies» shuffle) ⌝ }
     ensures { λ r.
-        let t = lentTables ids «donor_blood» «patient_blood» «donor_age» «patient_age»
+        let t = lentTables points ids «donor_blood» «patient_blood» «donor_age» «patient_age»
         «donor_antigens» «patient_antigens» «patient_antibodies» shuffle in
-        let plan = printedPlanOf n (pairIn (t .entry .fields)) (λ j. getD (t .entry .shuffle) j 0) in
+        let q = pointsOfTable version (t .entry .points) in
+        let plan = printedPlanOf q n (pairIn (t .entry .fields)) (entry (t .entry .shuffle)) in
         ⌜ outcome (finished r) (now (out .exit)) ≡ putting (planText plan) (now (out .entry)) ⌝ }
 {
     // 40 rows of 40.
     let mut m = [0u8; 1600];
     let mut w = [0u16; 1600];
     match weighing::build(
+        version,
         n,
+        points,
         ids,
         donor_blood,
         patient_blood,
@@ -112,6 +118,7 @@ fn print_refused(why: Refusal, place: usize, out: &mut [u8; 1458]) -> usize
 pub fn answer(sheet: &[u8], out: &mut [u8; 1458]) -> usize
     ensures { λ r. ⌜ AnswersSheet (now (sheet .entry)) (now (out .entry)) (outcome (finished r) (now (out .exit))) ⌝ }
 {
+    let mut points = [0u16; 6];
     let mut ids = [0u32; 40];
     let mut donor_blood = [0u8; 40];
     let mut patient_blood = [0u8; 40];
@@ -123,6 +130,7 @@ pub fn answer(sheet: &[u8], out: &mut [u8; 1458]) -> usize
     let mut shuffle = [0u16; 40];
     match reader::read(
         sheet,
+        &mut points,
         &mut ids,
         &mut donor_blood,
         &mut patient_blood,
@@ -134,8 +142,10 @@ pub fn answer(sheet: &[u8], out: &mut [u8; 1458]) -> usize
         &mut shuffle,
     ) {
         Reading::Refused(why, place) => print_refused(why, place, out),
-        Reading::Pairs(n) => print_pool(
+        Reading::Pairs(version, n) => print_pool(
+            version,
             n,
+            &points,
             &ids,
             &donor_blood,
             &patient_blood,

@@ -1,4 +1,4 @@
-// What reading, writing, building and planning check alike: 4, 6, 7, 8, and 9 of the tables of the fields.
+// What reading, writing, building and planning check alike: 3, 4, 6, 7, 8, 9 of the tables of the fields and of the points, and 14.
 use refusal::Refusal;
 use refusal::Verdict;
 ghost use mathlib.Core.Path.{_≡_};
@@ -9,8 +9,9 @@ ghost use lib.Dec.{eqb};
 ghost use Rattle.laws.specs.Below.{anyBelow, countBelow};
 ghost use Rattle.refusal.specs.Number.{faultAt};
 ghost use Rattle.pool.specs.Pool.{Pair};
-ghost use Rattle.pool.specs.Tables.{fields, pairIn};
-ghost use Rattle.pool.specs.Faults.{groupFault, pairFault, pairsFault, shuffleFault};
+ghost use Rattle.pool.specs.Points.{pointCount, pointsOf};
+ghost use Rattle.pool.specs.Tables.{entry, fields, pairIn};
+ghost use Rattle.pool.specs.Faults.{groupFault, pairFault, pointsFault, tablesFault, beforeFault, pairsFault, shuffleFault};
 ghost use Rattle.checks.specs.Preconditions.{PairAgrees, TablesHaveRoom};
 
 // The lesser of two lengths.
@@ -102,10 +103,53 @@ pub fn pair(
     }
 }
 
-// The first n pairs of lent tables, of which the shortest of all has `space` entries: 4, 9, then 6 and 7 pair by pair.
+// 9 of n pairs and the points of a version: tables for the pairs whose shortest has `space` entries, and one of so many points.
+pub fn tables(version: u16, n: usize, space: usize, points: usize) -> Verdict
+    ensures { λ r. ⌜ ((l : List ℕ) → length l ≡ points → faultAt 0 r ≡ tablesFault version n space l) ⌝ }
+{
+    if space < n {
+        return Verdict::Faulty(Refusal::TooShort);
+    }
+    if points < layout::point_count(version) {
+        return Verdict::Faulty(Refusal::TooShort);
+    }
+    Verdict::Sound
+}
+
+// 14 of a pool's own points. Version 1 has none, and its table is not looked at.
+fn own_points(version: u16, table: &[u16]) -> Verdict
+    requires { ⌜ pointCount version ≤ length (now table) ⌝ }
+    ensures { λ r. ⌜ ((o : ℕ) → faultAt o r ≡ pointsFault o (pointsOf version (entry (now (table .entry))))) ⌝ }
+{
+    if layout::has_points(version) {
+        points::judge(points::own(table))
+    } else {
+        Verdict::Sound
+    }
+}
+
+// What is looked at before the pairs, in a pool of n pairs in lent tables: 3, 4, 9, 14.
+fn ready(version: u16, n: usize, space: usize, points: &[u16]) -> Verdict
+    ensures { λ r. ⌜ faultAt 0 r ≡ beforeFault version n space (now (points .entry)) ⌝ }
+{
+    if !layout::known(version) {
+        return Verdict::Faulty(Refusal::WrongVersion);
+    }
+    if n > 200 {
+        return Verdict::Faulty(Refusal::TooManyPairs);
+    }
+    match tables(version, n, space, points.len()) {
+        Verdict::Faulty(why) => Verdict::Faulty(why),
+        Verdict::Sound => own_points(version, points),
+    }
+}
+
+// The first n pairs of lent tables, of which the shortest of all has `space` entries, and their points: 3, 4, 9, 14, then 6 and 7 pair by pair.
 pub fn pairs(
+    version: u16,
     n: usize,
     space: usize,
+    points: &[u16],
     ids: &[u32],
     donor_blood: &[u8],
     patient_blood: &[u8],
@@ -115,14 +159,14 @@ pub fn pairs(
     requires { ⌜ TablesHaveRoom space (now ids) (now «donor_blood») (now «patient_blood») (now «donor_age») (now «patient_age») ⌝ }
     ensures { λ r.
         ⌜ ((f g h : List ℕ)
-        → faultAt 0 r ≡ pairsFault n space (pairIn (fields (now (ids .entry)) (now («donor_blood» .entry))
+        → faultAt 0 r ≡ pairsFault version n space (now (points .entry)) (pairIn (fields (now (ids .entry)) (now («donor_blood» .entry))
         (now («patient_blood» .entry)) (now («donor_age» .entry)) (now («patient_age» .entry)) f g h))) ⌝ }
 {
-    if n > 200 {
-        return Verdict::Faulty(Refusal::TooManyPairs);
-    }
-    if space < n {
-        return Verdict::Faulty(Refusal::TooShort);
+    match ready(version, n, space, points) {
+        Verdict::Faulty(why) => {
+            return Verdict::Faulty(why);
+        }
+        Verdict::Sound => {}
     }
     let mut i: usize = 0;
     while i < n {

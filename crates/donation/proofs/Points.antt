@@ -1,42 +1,57 @@
 -- The points, for any values that they have. Assumes nothing.
 use mathlib.Core.Path.{_≡_, refl, sym, ap, ap₂, _∙_}
 use mathlib.Core.Bool.{Bool, true, false, _&&_, cond}
-use Prim.Native.Nat.{ℕ, _+_, _≤_, _<_}
+use Prim.Native.Nat.{ℕ, _+_, _≤_, max}
+use native.Mathlib.Nat.{le-max-left, le-max-right}
 use native.Mathlib.Omega.{arith}
 use borrow.Author.Tests.{eq-eqb, ne-eqb}
-use lib.Dec.{lit<, eqb, leb}
+use lib.Dec.{eqb, leb}
 use Rattle.laws.specs.Below.{countBelow, one}
 use Rattle.pool.specs.Pool.{Pair}
+use Rattle.pool.specs.Points.{Points, documentPoints, hasPoints, pointsOf, heaviest}
+use Rattle.pool.specs.Faultless.{SoundPoints}
+use Rattle.pool.proofs.Points.{sound-heaviest}
 use Rattle.donation.specs.Compatibility.{has}
-use Rattle.donation.specs.Promises.{SameOf, CountsMismatches, EdgeExamples, SharedExamples, PatientsOwnExamples}
-use Rattle.donation.specs.Weight.{Points, documentPoints, young, senior, mismatches, mismatchPoints, agePoints, weight}
+use Rattle.donation.specs.Promises.{SameOf, CountsMismatches, EdgeExamples, SharedExamples, PatientsOwnExamples, RegistryExamples, DocumentRange}
+use Rattle.donation.specs.Weight.{young, senior, mismatches, mismatchPoints, agePoints, weight}
 use Rattle.donation.proofs.Mismatched.{one-sided, no-other-count}
 
 cond-most : (most : ℕ) (t : Bool) (x y : ℕ) → x ≤ most → y ≤ most → cond t x y ≤ most
 cond-most most true x y h k = h
 cond-most most false x y h k = k
 
-module _ (points : Points) (most : ℕ) where
-  -- no step gives more than the greatest
-  pub mismatch-most : points .noMismatch ≤ most → points .fewMismatches ≤ most → points .someMismatches ≤ most
-      → (count : ℕ) → mismatchPoints points count ≤ most
+-- ## No step gives more than the largest
+
+module _ (points : Points) where
+  abbrev largestStep : ℕ
+  largestStep = max (points .noMismatch) (max (points .fewMismatches) (points .someMismatches))
+
+  mismatch-most : (count : ℕ) → mismatchPoints points count ≤ largestStep
   unfolding mismatchPoints
-  mismatch-most h k l count =
-      cond-most most (eqb count 0) _ _ h (cond-most most (leb count 2) _ _ k (cond-most most (leb count 4) _ _ l (omega arith)))
+  mismatch-most count =
+      let few = max (points .fewMismatches) (points .someMismatches) in
+      let fewer = le-max-right (points .noMismatch) few in
+      cond-most largestStep (eqb count 0) _ _ (le-max-left (points .noMismatch) few)
+      (cond-most largestStep (leb count 2) _ _ (omega (arith, fewer, le-max-left (points .fewMismatches) (points .someMismatches)))
+      (cond-most largestStep (leb count 4) _ _ (omega (arith, fewer, le-max-right (points .fewMismatches) (points .someMismatches))) (omega arith)))
 
-  pub age-most : points .equalAges ≤ most → points .youngToSenior ≤ most → (donor patient : ℕ) → agePoints points donor patient ≤ most
+  abbrev largerAge : ℕ
+  largerAge = max (points .equalAges) (points .youngToSenior)
+
+  age-most : (donor patient : ℕ) → agePoints points donor patient ≤ largerAge
   unfolding agePoints
-  age-most h k donor patient =
-      cond-most most (eqb donor patient) _ _ h (cond-most most (eqb donor young && eqb patient senior) _ _ k (omega arith))
+  age-most donor patient =
+      cond-most largerAge (eqb donor patient) _ _ (le-max-left (points .equalAges) (points .youngToSenior))
+      (cond-most largerAge (eqb donor young && eqb patient senior) _ _ (le-max-right (points .equalAges) (points .youngToSenior)) (omega arith))
 
--- document 01's
-pub documentMismatch-most : (count : ℕ) → mismatchPoints documentPoints count ≤ documentPoints .noMismatch
-unfolding documentPoints
-documentMismatch-most = mismatch-most documentPoints (documentPoints .noMismatch) (omega arith) (omega arith) (omega arith)
+  -- "base, largest mismatch step and larger age step together"
+  sum-most : (count donor patient : ℕ) → points .base + mismatchPoints points count + agePoints points donor patient ≤ heaviest points
+  unfolding heaviest
+  sum-most count donor patient = omega (arith, mismatch-most count, age-most donor patient)
 
-pub documentAge-most : (donor patient : ℕ) → agePoints documentPoints donor patient ≤ documentPoints .equalAges
-unfolding documentPoints
-documentAge-most = age-most documentPoints (documentPoints .equalAges) (omega arith) (omega arith)
+  -- by points that 14 lets pass, it fits 16 bits
+  pub weight-fits : SoundPoints points → (count donor patient : ℕ) → points .base + mismatchPoints points count + agePoints points donor patient ≤ 65535
+  weight-fits s count donor patient = omega (arith, sum-most count donor patient, sound-heaviest points s)
 
 -- ## W
 
@@ -56,10 +71,8 @@ module _ (points : Points) (pair : ℕ → Pair) (i j : ℕ) where
   pub weight-least : (i ≡ j → ⊥) → points .base ≤ weight points pair i j
   weight-least h = rw (weight-other h) (omega arith)
 
-  pub weight-most : (mismatch age : ℕ) → ((count : ℕ) → mismatchPoints points count ≤ mismatch) → ((d p : ℕ) → agePoints points d p ≤ age)
-      → (i ≡ j → ⊥) → weight points pair i j ≤ points .base + mismatch + age
-  weight-most mismatch age m a h =
-      rw (weight-other h) (omega (arith, m apart, a (pair i .donorAge) (pair j .patientAge)))
+  pub weight-most : (i ≡ j → ⊥) → weight points pair i j ≤ heaviest points
+  weight-most h = rw (weight-other h) (sum-most points apart (pair i .donorAge) (pair j .patientAge))
 
 -- the documents' edge examples, and others, computed
 pub edge-examples : EdgeExamples
@@ -73,6 +86,14 @@ shared-examples = refl
 pub patients-own-examples : PatientsOwnExamples
 unfolding weight documentPoints mismatches mismatchPoints agePoints has countBelow one
 patients-own-examples = refl
+
+pub registry-examples : RegistryExamples
+unfolding weight documentPoints hasPoints pointsOf mismatches mismatchPoints agePoints has countBelow one
+registry-examples = (refl, refl, refl)
+
+pub document-range : DocumentRange
+unfolding documentPoints heaviest
+document-range = (refl, refl)
 
 module _ (points : Points) (pair : ℕ → Pair) (i : ℕ) where
   pub weight-alike : (j k : ℕ) → (i ≡ j → ⊥) → (i ≡ k → ⊥)
@@ -93,15 +114,3 @@ module _ (points : Points) (pair : ℕ → Pair) (i : ℕ) where
       weight-other points pair i j h
       ∙ ap (λ (m : ℕ). points .base + mismatchPoints points m + agePoints points (pair i .donorAge) (pair j .patientAge))
       (sym (no-other-count count c _ _))
-
--- document 01's: 1,000 to 1,450
-module _ (pair : ℕ → Pair) (i j : ℕ) (h : i ≡ j → ⊥) where
-  pub document-least : documentPoints .base ≤ weight documentPoints pair i j
-  document-least = weight-least documentPoints pair i j h
-
-  pub document-most : weight documentPoints pair i j ≤ documentPoints .base + documentPoints .noMismatch + documentPoints .equalAges
-  document-most = weight-most documentPoints pair i j (documentPoints .noMismatch) (documentPoints .equalAges) documentMismatch-most documentAge-most h
-
-pub document-some : 0 < documentPoints .base
-unfolding documentPoints
-document-some = lit< tt

@@ -7,8 +7,10 @@ use mathlib.Core.Logic.{_↔_}
 use mathlib.Core.List.{List, [], _∷_, map}
 use lib.Dec.{eqb}
 use Rattle.pool.specs.Pool.{Pair}
+use Rattle.pool.specs.Points.{Points, documentPoints, pointsOf, heaviest}
+use Rattle.pool.specs.Tables.{entry}
 use Rattle.donation.specs.Compatibility.{suits, entries, has, compatibility}
-use Rattle.donation.specs.Weight.{documentPoints, mismatches, weight}
+use Rattle.donation.specs.Weight.{mismatches, weight}
 
 -- ## Blood, in words
 
@@ -108,9 +110,12 @@ coupled c i =
       patientAntibodies = 0;
     }
 
--- what each weighs
+-- what each weighs, by any points and by document 01's
+abbrev pub weightsBy : Points → List Couple → List ℕ
+weightsBy q l = map (λ (c : Couple). weight q (coupled c) 0 1) l
+
 abbrev pub weights : List Couple → List ℕ
-weights l = map (λ (c : Couple). weight documentPoints (coupled c) 0 1) l
+weights l = weightsBy documentPoints l
 
 -- "Age group: 0 young, 1 senior"; "0 mismatches, equal ages 1,450; 2 give 1,300; 3, young to senior 1,130; 4, the same 1,130; 5, senior to young 1,000",
 -- "read with the mismatches all on the donor's side"
@@ -129,3 +134,33 @@ abbrev pub PatientsOwnExamples : Type 0
 PatientsOwnExamples =
     weights (couple 7 0 31 0 ∷ couple 3 1 4 1 ∷ couple 7 0 24 1 ∷ couple 15 0 240 1 ∷ couple 31 1 18446744073709551584 0 ∷ couple 0 1 31 0 ∷ [])
     ≡ 1450 ∷ 1300 ∷ 1130 ∷ 1130 ∷ 1000 ∷ 1400 ∷ []
+
+-- ## W by a registry's own points: document 02, W-205
+
+-- no mismatch with equal ages, with a young donor and a senior patient, with a senior donor and a young patient; then 1, 2, 3, 4 and 5 mismatches
+abbrev pub registryCouples : List Couple
+registryCouples =
+    couple 7 0 7 0
+    ∷ couple 7 0 7 1
+    ∷ couple 7 1 7 0
+    ∷ couple 1 1 0 0
+    ∷ couple 3 1 0 1
+    ∷ couple 7 0 0 1
+    ∷ couple 15 0 0 0
+    ∷ couple 31 0 0 1
+    ∷ []
+
+-- by the points of version v with this table
+abbrev pub registryWeights : ℕ → List ℕ → List ℕ
+registryWeights v points = weightsBy (pointsOf v (entry points)) registryCouples
+
+-- a registry whose steps rise; one with the greatest base and no steps; and the first one's table in version 1, which keeps document 01's
+abbrev pub RegistryExamples : Type 0
+RegistryExamples =
+    (registryWeights 2 (2000 ∷ 0 ∷ 7 ∷ 300 ∷ 5 ∷ 90 ∷ []) ≡ 2005 ∷ 2090 ∷ 2000 ∷ 2007 ∷ 2012 ∷ 2390 ∷ 2305 ∷ 2090 ∷ [])
+    × (registryWeights 2 (65535 ∷ 0 ∷ 0 ∷ 0 ∷ 0 ∷ 0 ∷ []) ≡ 65535 ∷ 65535 ∷ 65535 ∷ 65535 ∷ 65535 ∷ 65535 ∷ 65535 ∷ 65535 ∷ [])
+    × (registryWeights 1 (2000 ∷ 0 ∷ 7 ∷ 300 ∷ 5 ∷ 90 ∷ []) ≡ 1450 ∷ 1430 ∷ 1400 ∷ 1250 ∷ 1300 ∷ 1130 ∷ 1150 ∷ 1030 ∷ [])
+
+-- document 01's points weigh 1,000 to 1,450
+abbrev pub DocumentRange : Type 0
+DocumentRange = (documentPoints .base ≡ 1000) × (heaviest documentPoints ≡ 1450)

@@ -1,38 +1,15 @@
--- "Compatibility and weight": W. Assumes nothing.
+-- "Compatibility and weight": W, by any points. Assumes nothing.
 use Prim.Native.Nat.{ℕ, _+_}
 use mathlib.Core.Bool.{not, _&&_, cond}
 use lib.Dec.{eqb, leb}
 use Rattle.laws.specs.Below.{countBelow}
 use Rattle.pool.specs.Pool.{Pair}
+use Rattle.pool.specs.Points.{Points}
 use Rattle.donation.specs.Compatibility.{entries, has}
 
--- ## Points
+-- ## Points: document 01's, or "Points set by each registry"; `pool` has them
 
--- the point values, by name
-pub record Points : Type 0 where
-  pub base : ℕ
-  -- 0 mismatches, 1 or 2, 3 or 4
-  pub noMismatch : ℕ
-  pub fewMismatches : ℕ
-  pub someMismatches : ℕ
-  -- equal age groups, a young donor and a senior patient
-  pub equalAges : ℕ
-  pub youngToSenior : ℕ
-
--- document 01's. "The point values are named constants of the weighing, used nowhere as bare numbers": the numbers stand here and, in the code,
--- as associated constants of the type `Weighing`, which the contracts hold to these
-unfoldable pub documentPoints : Points
-documentPoints =
-    record {
-      base = 1000;
-      noMismatch = 400;
-      fewMismatches = 250;
-      someMismatches = 100;
-      equalAges = 50;
-      youngToSenior = 30;
-    }
-
--- "more gives 0", "else 0"
+-- what is given where no step is, in every registry: "more gives 0", "else 0"
 abbrev pub noPoints : ℕ
 noPoints = 0
 

@@ -1,13 +1,19 @@
-// Compatibility and weight (document 01, with 02's mismatches) of one donor and one patient: an entry of M and of W.
+// Compatibility and weight (document 01, with 02's mismatches and points) of one donor and one patient: an entry of M and of W.
+use points::Points;
 ghost use mathlib.Core.Path.{_≡_};
 ghost use mathlib.Core.Bool.{not, _&&_, cond};
 ghost use Prim.Native.Nat.{_+_, _≤_};
+ghost use lib.ListN.{length};
 ghost use lib.Dec.{eqb};
 ghost use Rattle.laws.specs.Below.{one};
+ghost use Rattle.pool.specs.Points.{documentPoints, pointCount, pointsOf};
+ghost use Rattle.pool.specs.Tables.{entry};
+ghost use Rattle.pool.specs.Faultless.{SoundPoints};
+ghost use Rattle.points.specs.Named.{named};
 ghost use Rattle.donation.specs.Compatibility.{suits, shareBit};
-ghost use Rattle.donation.specs.Weight.{documentPoints, mismatches, mismatchPoints, agePoints};
+ghost use Rattle.donation.specs.Weight.{mismatches, mismatchPoints, agePoints};
 
-// The weighing, with document 01's points by name.
+// The weighing, with document 01's points by name. Many mismatches and other ages give 0 in every registry.
 pub struct Weighing;
 
 impl Weighing {
@@ -28,6 +34,31 @@ impl Weighing {
     pub const YOUNG_TO_SENIOR: u16 = 30;
 
     pub const OTHER_AGES: u16 = 0;
+}
+
+// Document 01's points.
+pub fn document() -> Points
+    ensures { λ r. ⌜ named r ≡ documentPoints ⌝ }
+{
+    Points {
+        base: Weighing::BASE,
+        none: Weighing::NO_MISMATCH,
+        few: Weighing::FEW_MISMATCHES,
+        some: Weighing::SOME_MISMATCHES,
+        equal: Weighing::EQUAL_AGES,
+        rising: Weighing::YOUNG_TO_SENIOR,
+    }
+}
+
+// What a pool of this version is weighed by: its own points, or document 01's.
+pub fn points_of(version: u16, own: &[u16]) -> Points
+    requires { ⌜ pointCount version ≤ length (now own) ⌝ }
+    ensures { λ r. ⌜ named r ≡ pointsOf version (entry (now (own .entry))) ⌝ }
+{
+    if !layout::has_points(version) {
+        return document();
+    }
+    points::own(own)
 }
 
 const YOUNG: u8 = 0;
@@ -64,29 +95,29 @@ fn mismatches(donor: u64, patient: u64) -> u32
     u64::count_ones(donor & !patient)
 }
 
-fn mismatch_points(count: u32) -> u16
-    ensures { λ r. ⌜ r ≡ mismatchPoints documentPoints count ⌝ }
+fn mismatch_points(points: Points, count: u32) -> u16
+    ensures { λ r. ⌜ r ≡ mismatchPoints (named points) count ⌝ }
 {
     if count == 0 {
-        return Weighing::NO_MISMATCH;
+        return points.none;
     }
     if count <= 2 {
-        return Weighing::FEW_MISMATCHES;
+        return points.few;
     }
     if count <= 4 {
-        return Weighing::SOME_MISMATCHES;
+        return points.some;
     }
     Weighing::MANY_MISMATCHES
 }
 
-fn age_points(donor: u8, patient: u8) -> u16
-    ensures { λ r. ⌜ r ≡ agePoints documentPoints donor patient ⌝ }
+fn age_points(points: Points, donor: u8, patient: u8) -> u16
+    ensures { λ r. ⌜ r ≡ agePoints (named points) donor patient ⌝ }
 {
     if donor == patient {
-        return Weighing::EQUAL_AGES;
+        return points.equal;
     }
     if donor == YOUNG && patient == SENIOR {
-        return Weighing::YOUNG_TO_SENIOR;
+        return points.rising;
     }
     Weighing::OTHER_AGES
 }
@@ -115,8 +146,9 @@ pub fn compatibility(
     0
 }
 
-// W(i, j), of donor i and patient j.
+// W(i, j), of donor i and patient j, by points whose sums fit 16 bits.
 pub fn weight(
+    points: Points,
     i: usize,
     j: usize,
     donor_age: u8,
@@ -124,15 +156,16 @@ pub fn weight(
     donor_antigens: u64,
     patient_antigens: u64,
 ) -> u16
+    requires { ⌜ SoundPoints (named points) ⌝ }
     ensures { λ r.
-        let points = documentPoints in
+        let q = named points in
         let apart = mismatches «donor_antigens» «patient_antigens» in
-        ⌜ r ≡ cond (eqb i j) 0 (points .base + mismatchPoints points apart + agePoints points «donor_age» «patient_age») ⌝ }
+        ⌜ r ≡ cond (eqb i j) 0 (q .base + mismatchPoints q apart + agePoints q «donor_age» «patient_age») ⌝ }
 {
     if i != j {
-        return Weighing::BASE
-            + mismatch_points(mismatches(donor_antigens, patient_antigens))
-            + age_points(donor_age, patient_age);
+        return points.base
+            + mismatch_points(points, mismatches(donor_antigens, patient_antigens))
+            + age_points(points, donor_age, patient_age);
     }
     0
 }

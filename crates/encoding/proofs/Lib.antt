@@ -1,3 +1,3 @@
--- `Numbers`: a number that is written byte by byte. `Shuffles`: a shuffle's field, of its start and its numbers.
+-- `Numbers`: a number that is written byte by byte. `Fields`: a field of two-byte numbers, of its start and its numbers.
 pub mod Numbers
-pub mod Shuffles
+pub mod Fields

@@ -1,12 +1,14 @@
-// The pieces of a sheet, written into a lent buffer (document 01, 'The pool sheet'): a number, a field's start, the head, a pair, the shuffle.
+// The pieces of a sheet, written into a lent buffer (document 01, 'The pool sheet', with 02's version 2): a number, a field's start, the head, a pair, and
+// a field of two-byte numbers: the points, and the shuffle.
 ghost use mathlib.Core.Path.{_≡_};
 ghost use mathlib.Core.List.{_++_, flatMap};
 ghost use Prim.Native.Nat.{_+_, _*_, _≤_};
-ghost use lib.ListN.{length, getD};
+ghost use lib.ListN.{length};
 ghost use Rattle.laws.specs.Below.{table};
 ghost use Rattle.laws.specs.Digits.{bytes};
 ghost use Rattle.laws.specs.Lent.{stored};
-ghost use Rattle.pool.specs.Sheet.{headField, pairField, shuffleField, startLength, firstPair, pairSize, pairPlace, sheetLength};
+ghost use Rattle.pool.specs.Sheet.{headField, numbersField, pairField, startLength, headSize, pairSize};
+ghost use Rattle.pool.specs.Tables.{entry};
 ghost use Rattle.encoding.specs.PairValue.{pairBy, groupBytes, tissueBytes};
 
 // Writes the k bytes of x from `at` on, high byte first; the last byte is stored first.
@@ -32,13 +34,13 @@ pub fn put_start(out: &mut [u8], at: usize, tag: u64, len: u64)
     put(out, at + 1, 2, len);
 }
 
-// The head: version 1, and N.
-pub fn put_head(out: &mut [u8], n: u64)
-    requires { ⌜ firstPair ≤ length (now out) ⌝ }
-    ensures { λ _. ⌜ now (out .exit) ≡ stored 0 (headField n) (now (out .entry)) ⌝ }
+// The head: the version, and N.
+pub fn put_head(out: &mut [u8], version: u64, n: u64)
+    requires { ⌜ headSize ≤ length (now out) ⌝ }
+    ensures { λ _. ⌜ now (out .exit) ≡ stored 0 (headField version n) (now (out .entry)) ⌝ }
 {
     put_start(out, 0, layout::HEAD_TAG, layout::HEAD_LENGTH as u64);
-    put(out, layout::VERSION_PLACE, 2, layout::VERSION);
+    put(out, layout::VERSION_PLACE, 2, version);
     put(out, layout::PAIRS_PLACE, 2, n);
 }
 
@@ -115,28 +117,27 @@ pub fn put_pair(
     );
 }
 
-// The shuffle's first n numbers.
-fn put_numbers(out: &mut [u8], at: usize, n: usize, shuffle: &[u16])
-    requires { ⌜ (at + 2 * n ≤ length (now out)) × (n ≤ length (now shuffle)) ⌝ }
+// The first n numbers of a table, two bytes each.
+fn put_numbers(out: &mut [u8], at: usize, n: usize, t: &[u16])
+    requires { ⌜ (at + 2 * n ≤ length (now out)) × (n ≤ length (now t)) ⌝ }
     ensures { λ _.
-        let s = table n (λ j. getD (now (shuffle .entry)) j 0) in
+        let s = table n (entry (now (t .entry))) in
         ⌜ now (out .exit) ≡ stored at (flatMap (bytes 2) s) (now (out .entry)) ⌝ }
 {
     let mut j: usize = 0;
     while j < n {
-        put(out, at + 2 * j, 2, shuffle[j] as u64);
+        put(out, at + 2 * j, 2, t[j] as u64);
         j += 1;
     }
 }
 
-// The shuffle's field.
-pub fn put_shuffle(out: &mut [u8], n: usize, shuffle: &[u16])
-    requires { ⌜ (sheetLength n ≤ length (now out)) × (n ≤ length (now shuffle)) ⌝ }
+// The field of this tag with the first n numbers of a table.
+pub fn put_field(out: &mut [u8], at: usize, tag: u64, n: usize, t: &[u16])
+    requires { ⌜ (at + startLength + 2 * n ≤ length (now out)) × (n ≤ length (now t)) ⌝ }
     ensures { λ _.
-        let s = table n (λ j. getD (now (shuffle .entry)) j 0) in
-        ⌜ now (out .exit) ≡ stored (pairPlace n) (shuffleField s) (now (out .entry)) ⌝ }
+        let s = table n (entry (now (t .entry))) in
+        ⌜ now (out .exit) ≡ stored at (numbersField tag s) (now (out .entry)) ⌝ }
 {
-    let at = layout::pair_place(n);
-    put_start(out, at, layout::SHUFFLE_TAG, (2 * n) as u64);
-    put_numbers(out, at + layout::START_LENGTH, n, shuffle);
+    put_start(out, at, tag, (2 * n) as u64);
+    put_numbers(out, at + layout::START_LENGTH, n, t);
 }

@@ -1,13 +1,15 @@
 -- "Start 1, tag and length 2, value 1, then 3 and 4": which fault a field or the head has, by how far the check came. Assumes nothing.
 use mathlib.Core.Path.{_≡_}
+use mathlib.Core.Bool.{true, false}
 use mathlib.Core.List.{List}
 use Prim.Native.Nat.{ℕ, _+_, _≤_, _<_}
 use borrow.Author.Tests.{lt-ltb, le-ltb, eq-eqb, ne-eqb}
 use lib.ListN.{length}
 use Rattle.laws.specs.Digits.{bigEndian}
 use Rattle.refusal.specs.Fault.{none, fault, refuse, _then_}
-use Rattle.pool.specs.Sheet.{headTag, headLength, sheetVersion, startLength, versionPlace, pairsIn}
-use Rattle.pool.specs.Faults.{fieldFault, headFault}
+use Rattle.pool.specs.Points.{knownVersion}
+use Rattle.pool.specs.Sheet.{headTag, headLength, startLength, versionIn, pairsIn}
+use Rattle.pool.specs.Faults.{versionFault, fieldFault, headFault}
 
 -- ## A field: 1, 2, 1
 
@@ -33,15 +35,15 @@ module _ (b : List ℕ) (o tag len : ℕ) where
 -- ## The head: its field, then 3 and 4
 
 module _ (b : List ℕ) (f : fieldFault b 0 headTag headLength ≡ none) where
-  pub other-version : (bigEndian 2 b versionPlace ≡ sheetVersion → ⊥) → headFault b ≡ fault 3 0
-  unfolding headFault refuse _then_
-  other-version v = simp (f, ne-eqb _ _ v)
+  pub other-version : knownVersion (versionIn b) ≡ false → headFault b ≡ fault 3 0
+  unfolding headFault versionFault refuse _then_
+  other-version v = simp (f, v)
 
-  module _ (v : bigEndian 2 b versionPlace ≡ sheetVersion) where
+  module _ (v : knownVersion (versionIn b) ≡ true) where
     pub too-many : 200 < pairsIn b → headFault b ≡ fault 4 0
-    unfolding headFault refuse _then_
-    too-many l = simp (f, eq-eqb _ _ v, lt-ltb _ _ l)
+    unfolding headFault versionFault refuse _then_
+    too-many l = simp (f, v, lt-ltb _ _ l)
 
     pub head-none : pairsIn b ≤ 200 → headFault b ≡ none
-    unfolding headFault refuse _then_
-    head-none l = simp (f, eq-eqb _ _ v, le-ltb _ _ l)
+    unfolding headFault versionFault refuse _then_
+    head-none l = simp (f, v, le-ltb _ _ l)

@@ -6,7 +6,7 @@ ghost use Prim.Native.Nat.{_+_, _≤_};
 ghost use lib.ListN.{length};
 ghost use Rattle.laws.specs.Digits.{bigEndian};
 ghost use Rattle.refusal.specs.Number.{faultAt};
-ghost use Rattle.pool.specs.Sheet.{firstPair, pairsIn};
+ghost use Rattle.pool.specs.Sheet.{headSize, versionIn, pairsIn};
 ghost use Rattle.pool.specs.Faults.{fieldFault, headFault};
 
 // The number in the k bytes from `at` on, high byte first.
@@ -44,9 +44,17 @@ pub fn field(b: &[u8], o: usize, tag: u64, len: usize) -> Verdict
     }
 }
 
+// The version, as the head says.
+pub fn version_in(b: &[u8]) -> u16
+    requires { ⌜ headSize ≤ length (now b) ⌝ }
+    ensures { λ r. ⌜ r ≡ versionIn (now (b .entry)) ⌝ }
+{
+    number(b, layout::VERSION_PLACE, 2) as u16
+}
+
 // N, as the head says.
 pub fn pairs_in(b: &[u8]) -> usize
-    requires { ⌜ firstPair ≤ length (now b) ⌝ }
+    requires { ⌜ headSize ≤ length (now b) ⌝ }
     ensures { λ r. ⌜ r ≡ pairsIn (now (b .entry)) ⌝ }
 {
     number(b, layout::PAIRS_PLACE, 2) as usize
@@ -62,7 +70,7 @@ pub fn head(b: &[u8]) -> Verdict
         }
         Verdict::Sound => {}
     }
-    if number(b, layout::VERSION_PLACE, 2) != layout::VERSION {
+    if !layout::known(version_in(b)) {
         return Verdict::Faulty(Refusal::WrongVersion);
     }
     if pairs_in(b) > 200 {

@@ -4,8 +4,9 @@ use mathlib.Core.List.{List}
 use Rattle.laws.specs.Below.{table}
 use Rattle.laws.specs.Lent.{filled, stored}
 use Rattle.pool.specs.Pool.{Pair}
+use Rattle.pool.specs.Points.{Points}
 use Rattle.donation.specs.Compatibility.{compatibility}
-use Rattle.donation.specs.Weight.{Points, weight}
+use Rattle.donation.specs.Weight.{weight}
 
 -- the two tables that a caller lends: "M of bytes, W of 16-bit numbers"
 pub record Graph : Type 0 where

@@ -2,7 +2,9 @@
 use Prim.Native.Nat.{ℕ, _*_, _≤_, _<_}
 use mathlib.Core.List.{List}
 use lib.ListN.{length, getD}
+use Rattle.pool.specs.Points.{Points}
 use Rattle.pool.specs.Tables.{Fields}
+use Rattle.pool.specs.Faultless.{SoundPoints}
 use Rattle.graph.specs.Graph.{Graph}
 
 -- row i of n, in a table that n rows of n fit
@@ -27,10 +29,11 @@ pub record ReadableForW (n : ℕ) (donorAge patientAge donorAntigens patientAnti
   pub inDonorAntigens : n ≤ length donorAntigens
   pub inPatientAntigens : n ≤ length patientAntigens
 
--- both, and tables that n rows of n fit; the ids play no part
-pub record Buildable (n : ℕ) (f : Fields) (g : Graph) : Type 0 where
+-- both, tables that n rows of n fit, and points whose sums fit 16 bits; the ids play no part
+pub record Buildable (q : Points) (n : ℕ) (f : Fields) (g : Graph) : Type 0 where
   pub few : n ≤ 200
   pub forM : ReadableForM n (f .donorBlood) (f .patientBlood) (f .donorAntigens) (f .patientAntibodies)
   pub forW : ReadableForW n (f .donorAge) (f .patientAge) (f .donorAntigens) (f .patientAntigens)
   pub inCompatibilities : n * n ≤ length (g .compatibilities)
   pub inWeights : n * n ≤ length (g .weights)
+  pub points : SoundPoints q

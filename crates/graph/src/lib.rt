@@ -1,8 +1,11 @@
 // The tables M and W (document 01, 'Compatibility and weight'), filled row by row.
+use points::Points;
 ghost use mathlib.Core.Path.{_≡_};
 ghost use Rattle.pool.specs.Tables.{pairIn};
+ghost use Rattle.pool.specs.Faultless.{SoundPoints};
+ghost use Rattle.points.specs.Named.{named};
 ghost use Rattle.donation.specs.Compatibility.{compatibility};
-ghost use Rattle.donation.specs.Weight.{documentPoints, weight};
+ghost use Rattle.donation.specs.Weight.{weight};
 ghost use Rattle.graph.specs.Graph.{filledGraph, withRow};
 ghost use Rattle.graph.specs.Lent.{graphNow, lentGraph};
 ghost use Rattle.graph.specs.Sources.{idlessNow, lentIdless, lentForM, lentForW};
@@ -41,8 +44,9 @@ fn compatibility_row(
     }
 }
 
-// Row i of W: the same donor and patients.
+// Row i of W: the same donor and patients, by these points.
 fn weight_row(
+    points: Points,
     i: usize,
     n: usize,
     donor_age: &[u8],
@@ -53,9 +57,10 @@ fn weight_row(
 )
     requires { ⌜ Row i n (now weights) ⌝ }
     requires { ⌜ ReadableForW n (now «donor_age») (now «patient_age») (now «donor_antigens») (now «patient_antigens») ⌝ }
+    requires { ⌜ SoundPoints (named points) ⌝ }
     ensures { λ _.
         let f = lentForW «donor_age» «patient_age» «donor_antigens» «patient_antigens» in
-        ⌜ now (weights .exit) ≡ withRow n (weight documentPoints (pairIn f)) i (now (weights .entry)) ⌝ }
+        ⌜ now (weights .exit) ≡ withRow n (weight (named points) (pairIn f)) i (now (weights .entry)) ⌝ }
 {
     let age = donor_age[i];
     let antigens = donor_antigens[i];
@@ -63,6 +68,7 @@ fn weight_row(
     let mut j = 0;
     while j < n {
         weights[start + j] = donation::weight(
+            points,
             i,
             j,
             age,
@@ -74,8 +80,9 @@ fn weight_row(
     }
 }
 
-// N rows of both tables.
+// N rows of both tables, weighed by any points that 14 lets pass.
 pub fn fill(
+    points: Points,
     n: usize,
     donor_blood: &[u8],
     patient_blood: &[u8],
@@ -88,11 +95,11 @@ pub fn fill(
     weights: &mut [u16],
 )
     requires { let f = idlessNow «donor_blood» «patient_blood» «donor_age» «patient_age» «donor_antigens» «patient_antigens» «patient_antibodies» in
-        ⌜ Buildable n f (graphNow compatibilities weights) ⌝ }
+        ⌜ Buildable (named points) n f (graphNow compatibilities weights) ⌝ }
     ensures { λ _.
         let f = lentIdless «donor_blood» «patient_blood» «donor_age» «patient_age» «donor_antigens» «patient_antigens» «patient_antibodies» in
         let g = lentGraph compatibilities weights in
-        ⌜ g .exit ≡ filledGraph documentPoints n (pairIn (f .entry)) (g .entry) ⌝ }
+        ⌜ g .exit ≡ filledGraph (named points) n (pairIn (f .entry)) (g .entry) ⌝ }
 {
     let mut i: usize = 0;
     while i < n {
@@ -106,6 +113,7 @@ pub fn fill(
             compatibilities,
         );
         weight_row(
+            points,
             i,
             n,
             donor_age,

@@ -1,6 +1,7 @@
 -- Laws of `specs/Below.antt`. Assumes nothing.
 use mathlib.Core.Path.{_≡_, refl, sym, ap, ap₂, _∙_, subst}
 use mathlib.Core.Bool.{Bool, true, false, _&&_}
+use mathlib.Core.Logic.{_⊎_, inl, inr}
 use mathlib.Core.List.{List, [], _∷_, _++_, map, map-append}
 use Prim.Native.Nat.{ℕ, zero, suc, _+_, _-_, _≤_, _<_}
 use native.Mathlib.Nat.{add-zero}
@@ -50,6 +51,11 @@ pub either-false : (s t : Bool) → either s t ≡ false → (s ≡ false) × (t
 unfolding either
 either-false true t e = true-false refl e
 either-false false t e = (refl, e)
+
+pub either-found : (s t : Bool) → either s t ≡ true → (s ≡ true) ⊎ (t ≡ true)
+unfolding either
+either-found true t e = inl refl
+either-found false t e = inr e
 
 pub either-true : (s : Bool) → either s true ≡ true
 unfolding either

@@ -1,7 +1,9 @@
-// The pool sheet in numbers (document 01, 'The pool sheet'): tags, lengths, and what stands where. Reading and writing count by these.
+// The pool sheet in numbers (document 01, 'The pool sheet', with 02's version 2): tags, lengths, and what stands where. Reading and writing count by
+// these.
 ghost use mathlib.Core.Path.{_≡_};
-ghost use Prim.Native.Nat.{_≤_, _<_};
-ghost use Rattle.pool.specs.Sheet.{pairPlace, sheetLength};
+ghost use Prim.Native.Nat.{_≤_};
+ghost use Rattle.pool.specs.Points.{knownVersion, hasPoints, pointCount};
+ghost use Rattle.pool.specs.Sheet.{firstPair, pairPlace, sheetLength};
 
 // The tags, and the lengths of the values. (That of the shuffle is 2N.)
 pub const HEAD_TAG: u64 = 1;
@@ -14,7 +16,12 @@ pub const PAIR_LENGTH: usize = 32;
 
 pub const SHUFFLE_TAG: u64 = 3;
 
-pub const VERSION: u64 = 1;
+pub const POINTS_TAG: u64 = 4;
+
+// The points of version 2, two bytes each.
+pub const POINTS: usize = 6;
+
+pub const POINTS_LENGTH: usize = 2 * POINTS;
 
 // A field's start: its tag, and the length of its value.
 pub const START_LENGTH: usize = 3;
@@ -24,9 +31,14 @@ pub const VERSION_PLACE: usize = START_LENGTH;
 
 pub const PAIRS_PLACE: usize = VERSION_PLACE + 2;
 
-// The pairs' fields stand where the head's ends, each with its start.
-pub const FIRST_PAIR: usize = START_LENGTH + HEAD_LENGTH;
+// The head with its start, and the points' field of version 2 with its start, which stands after the head.
+pub const HEAD_SIZE: usize = START_LENGTH + HEAD_LENGTH;
 
+pub const POINTS_PLACE: usize = HEAD_SIZE;
+
+pub const POINTS_SIZE: usize = START_LENGTH + POINTS_LENGTH;
+
+// A pair's field with its start.
 pub const PAIR_SIZE: usize = START_LENGTH + PAIR_LENGTH;
 
 // How far into a pair's field each of its numbers stands.
@@ -46,18 +58,50 @@ pub const PATIENT_ANTIGENS_AT: usize = DONOR_ANTIGENS_AT + 8;
 
 pub const PATIENT_ANTIBODIES_AT: usize = PATIENT_ANTIGENS_AT + 8;
 
-// Where the field of pair i stands, and of the shuffle where i is N. It must fit a word.
-pub fn pair_place(i: usize) -> usize
-    requires { ⌜ pairPlace i < 18446744073709551616 ⌝ }
-    ensures { λ r. ⌜ r ≡ pairPlace i ⌝ }
+// Is this version 1 or 2?
+pub fn known(version: u16) -> bool
+    ensures { λ r. ⌜ r ≡ knownVersion version ⌝ }
 {
-    FIRST_PAIR + PAIR_SIZE * i
+    version == 1 || version == 2
+}
+
+// Has this version points of its own?
+pub fn has_points(version: u16) -> bool
+    ensures { λ r. ⌜ r ≡ hasPoints version ⌝ }
+{
+    version == 2
+}
+
+// How many: six in version 2.
+pub fn point_count(version: u16) -> usize
+    ensures { λ r. ⌜ r ≡ pointCount version ⌝ }
+{
+    if has_points(version) { POINTS } else { 0 }
+}
+
+// Where the field of pair 0 stands: after the head, and in version 2 after the points.
+pub fn first_pair(version: u16) -> usize
+    ensures { λ r. ⌜ (r ≡ firstPair version) × (r ≤ 22) ⌝ }
+{
+    if has_points(version) {
+        HEAD_SIZE + POINTS_SIZE
+    } else {
+        HEAD_SIZE
+    }
+}
+
+// Where the field of pair i stands, and of the shuffle where i is N.
+pub fn pair_place(version: u16, i: usize) -> usize
+    requires { ⌜ i ≤ 200 ⌝ }
+    ensures { λ r. ⌜ (r ≡ pairPlace version i) × (r ≤ 7022) ⌝ }
+{
+    first_pair(version) + PAIR_SIZE * i
 }
 
 // The bytes of a sheet of n pairs.
-pub fn sheet_length(n: usize) -> usize
+pub fn sheet_length(version: u16, n: usize) -> usize
     requires { ⌜ n ≤ 200 ⌝ }
-    ensures { λ r. ⌜ r ≡ sheetLength n ⌝ }
+    ensures { λ r. ⌜ (r ≡ sheetLength version n) × (r ≤ 7425) ⌝ }
 {
-    pair_place(n) + START_LENGTH + 2 * n
+    pair_place(version, n) + START_LENGTH + 2 * n
 }

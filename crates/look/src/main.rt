@@ -1,4 +1,4 @@
-// Reads a pool sheet from standard input and says what it found: the pairs and the shuffle, or the refusal's number and place.
+// Reads a pool sheet from standard input and says what it found: the points of version 2, the pairs and the shuffle, or the refusal's number and place.
 use reader::Reading;
 ghost use Prim.Native.Nat.{_≤_};
 
@@ -87,9 +87,24 @@ fn print_pairs(
     }
 }
 
-fn print_place(pair: u16) {
+// A number of a list, after a blank.
+fn print_entry(entry: u16) {
     print(b" ");
-    print_number(pair as u64);
+    print_number(entry as u64);
+}
+
+// The six points in the sheet's order. Version 1 has none.
+fn print_points(version: u16, points: &[u16; 6]) {
+    if !layout::has_points(version) {
+        return;
+    }
+    print(b"points");
+    let mut k: usize = 0;
+    while k < 6 {
+        print_entry(points[k]);
+        k += 1;
+    }
+    print(b"\n");
 }
 
 fn print_shuffle(n: usize, shuffle: &[u16; 200])
@@ -98,16 +113,17 @@ fn print_shuffle(n: usize, shuffle: &[u16; 200])
     print(b"shuffle");
     let mut i: usize = 0;
     while i < n {
-        print_place(shuffle[i]);
+        print_entry(shuffle[i]);
         i += 1;
     }
     print(b"\n");
 }
 
 fn main() {
-    // The longest sheet has 7,410 bytes; one more shows that bytes are left over.
-    let mut input = [0u8; 7411];
+    // The longest sheet has 7,425 bytes; one more shows that bytes are left over.
+    let mut input = [0u8; 7426];
     let size = io::read_full(0, &mut input);
+    let mut points = [0u16; 6];
     let mut ids = [0u32; 200];
     let mut donor_blood = [0u8; 200];
     let mut patient_blood = [0u8; 200];
@@ -119,6 +135,7 @@ fn main() {
     let mut shuffle = [0u16; 200];
     match reader::read(
         &input[..size],
+        &mut points,
         &mut ids,
         &mut donor_blood,
         &mut patient_blood,
@@ -136,9 +153,10 @@ fn main() {
             print_number(place as u64);
             print(b"\n");
         }
-        Reading::Pairs(n) => {
+        Reading::Pairs(version, n) => {
             print_number(n as u64);
             print(b" pairs\n");
+            print_points(version, &points);
             print_pairs(
                 n,
                 &ids,

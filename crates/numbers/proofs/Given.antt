@@ -25,13 +25,14 @@ use Rattle.printout.specs.declared.Printing.the-variants as Printing
 use Rattle.numbers.specs.Numbers.{readNumbers, writeNumbers, joinNumbers, buildNumbers, planNumbers, printNumbers}
 
 pub read-refused : (r : Reading) (why : Refusal) (o : ℕ) → r ≡ Reading.Refused why o → (k : ℕ) → k ≡ numberOf why
-    → record { refusal = k; place = o; pairs = 0 } ≡ readNumbers (Reader.answerOf r)
+    → record { refusal = k; version = 0; place = o; pairs = 0 } ≡ readNumbers (Reader.answerOf r)
 unfolding readNumbers Reader.answerOf
 read-refused r why o e k f = rw (e, f)
 
-pub read-finished : (r : Reading) (n : ℕ) → r ≡ Reading.Pairs n → record { refusal = 0; place = 0; pairs = n } ≡ readNumbers (Reader.answerOf r)
+pub read-finished : (r : Reading) (v n : ℕ) → r ≡ Reading.Pairs v n
+    → record { refusal = 0; version = v; place = 0; pairs = n } ≡ readNumbers (Reader.answerOf r)
 unfolding readNumbers Reader.answerOf
-read-finished r n e = rw e
+read-finished r v n e = rw e
 
 pub write-refused : (r : Writing) (why : Refusal) → r ≡ Writing.Refused why → (k : ℕ) → k ≡ numberOf why
     → record { refusal = k; length = 0 } ≡ writeNumbers (Writer.answerOf r)

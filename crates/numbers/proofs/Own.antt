@@ -5,8 +5,9 @@ use native.Mathlib.Omega.{arith}
 use Rattle.refusal.specs.Answer.{Answer, finished, refused}
 use Rattle.refusal.specs.Number.{numberOf}
 use Rattle.refusal.specs.declared.Refusal.{Refusal}
-use Rattle.refusal.specs.declared.Refusal.the-variants.{CutOff, WrongField, WrongVersion, TooManyPairs, LeftOver, OutOfRange, RepeatedId, NotAShuffle, TooShort, NotCompatibility, SharedId, TooManyTogether, FloorTooHigh}
+use Rattle.refusal.specs.declared.Refusal.the-variants.{CutOff, WrongField, WrongVersion, TooManyPairs, LeftOver, OutOfRange, RepeatedId, NotAShuffle, TooShort, NotCompatibility, SharedId, TooManyTogether, FloorTooHigh, WrongPoints, DifferentPoints}
 use Rattle.greedy.specs.Tally.{tally}
+use Rattle.pool.specs.Calls.{head}
 use Rattle.exchange.specs.Planning.{Plan, plan}
 use Rattle.reader.specs.Answers as Reader
 use Rattle.reader.specs.declared.Reading.{Reading}
@@ -46,6 +47,8 @@ from-one NotCompatibility = omega arith
 from-one SharedId = omega arith
 from-one TooManyTogether = omega arith
 from-one FloorTooHigh = omega arith
+from-one WrongPoints = omega arith
+from-one DifferentPoints = omega arith
 
 at-0 : {Result : Type 0} (why : Refusal) → NumberedAt0 {Result = Result} (refused (numberOf why) 0)
 at-0 why k o e = let f : k ≡ numberOf why = cc in let g : o ≡ 0 = cc in (rw f (from-one why), g)
@@ -58,7 +61,7 @@ of-refused why place k o e = let f : k ≡ numberOf why = cc in rw f (from-one w
 
 pub read-numbered : (r : Reading) → Numbered (Reader.answerOf r)
 unfolding Reader.answerOf
-read-numbered (Reading.Pairs n) k o e = of-finished n k o e .0
+read-numbered (Reading.Pairs v n) k o e = of-finished (head v n) k o e .0
 read-numbered (Reading.Refused why place) k o e = of-refused why place k o e
 
 pub write-numbered : (r : Writing) → NumberedAt0 (Writer.answerOf r)
@@ -93,7 +96,7 @@ not-0 h e = absurd (omega arith)
 
 own-read : Own Numbered readNumbers
 unfolding readNumbers
-own-read (finished m) (finished n) p q e = ap (λ x. finished (x .pairs)) e
+own-read (finished m) (finished n) p q e = ap (λ x. finished (head (x .version) (x .pairs))) e
 own-read (finished m) (refused k o) p q e = not-0 (q k o refl) (ap (λ x. x .refusal) e)
 own-read (refused k o) (finished n) p q e = not-0 (p k o refl) (sym (ap (λ x. x .refusal) e))
 own-read (refused k o) (refused l u) p q e = ap (λ x. refused (x .refusal) (x .place)) e

@@ -2,6 +2,7 @@
 -- not say is 0. Assumes nothing.
 use Prim.Native.Nat.{ℕ}
 use Rattle.refusal.specs.Answer.{Answer, finished, refused}
+use Rattle.pool.specs.Calls.{Head}
 use Rattle.exchange.specs.Planning.{Plan}
 use Rattle.numbers.specs.declared.ReadAnswer.{ReadAnswer}
 use Rattle.numbers.specs.declared.WriteAnswer.{WriteAnswer}
@@ -10,10 +11,10 @@ use Rattle.numbers.specs.declared.BuildAnswer.{BuildAnswer}
 use Rattle.numbers.specs.declared.PlanAnswer.{PlanAnswer}
 use Rattle.numbers.specs.declared.PrintAnswer.{PrintAnswer}
 
--- N, or "the number and the offset of the field"
-unfoldable pub readNumbers : Answer ℕ → ReadAnswer
-readNumbers (finished n) = record { refusal = 0; place = 0; pairs = n }
-readNumbers (refused k o) = record { refusal = k; place = o; pairs = 0 }
+-- the version and N, or "the number and the offset of the field"
+unfoldable pub readNumbers : Answer Head → ReadAnswer
+readNumbers (finished h) = record { refusal = 0; version = h .version; place = 0; pairs = h .pairs }
+readNumbers (refused k o) = record { refusal = k; version = 0; place = o; pairs = 0 }
 
 -- the sheet's length, or the number
 unfoldable pub writeNumbers : Answer ℕ → WriteAnswer

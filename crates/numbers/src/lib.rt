@@ -17,10 +17,11 @@ ghost use Rattle.planner.specs.Answers.{answerOf as Planner·answerOf};
 ghost use Rattle.printout.specs.Answers.{answerOf as Printout·answerOf};
 ghost use Rattle.numbers.specs.Numbers.{readNumbers, writeNumbers, joinNumbers, buildNumbers, planNumbers, printNumbers};
 
-// N of the sheet, or the refusal's place.
+// The sheet's version and N, or the refusal's place.
 #[repr(C)]
 pub struct ReadAnswer {
     pub refusal: u32,
+    pub version: u16,
     pub place: usize,
     pub pairs: usize,
 }
@@ -76,11 +77,13 @@ pub fn read_numbers(answer: Reading) -> ReadAnswer
     match answer {
         Reading::Refused(why, place) => ReadAnswer {
             refusal: number_of(why),
+            version: 0,
             place: place,
             pairs: 0,
         },
-        Reading::Pairs(n) => ReadAnswer {
+        Reading::Pairs(version, n) => ReadAnswer {
             refusal: 0,
+            version: version,
             place: 0,
             pairs: n,
         },

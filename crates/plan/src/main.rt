@@ -1,4 +1,4 @@
-// Reads a pool sheet from standard input and prints the plan of its pool, or the refusal. The longest sheet has 7,410 bytes: one more shows that bytes
+// Reads a pool sheet from standard input and prints the plan of its pool, or the refusal. The longest sheet has 7,425 bytes: one more shows that bytes
 // are left over. Where a read fails nothing is planned; that, and output that is lost, is said on standard error.
 
 ghost use Prim.Native.Nat.{_≤_};
@@ -34,7 +34,7 @@ fn read_sheet(sheet: &mut [u8]) -> Input
 }
 
 fn main() {
-    let mut sheet = [0u8; 7411];
+    let mut sheet = [0u8; 7426];
     let input = read_sheet(&mut sheet);
     if !input.whole {
         io::write_all(

@@ -6,18 +6,20 @@ use native.Mathlib.Nat.{add-zero}
 use native.Mathlib.Omega.{arith}
 use lib.ListN.{length, getD, length-append}
 use Rattle.laws.specs.Below.{table, Once}
-use Rattle.laws.proofs.Below.{below-add, length-table, length-tables, getD-first, getD-second, table-getD, map-table, once-below}
+use Rattle.laws.proofs.Below.{below-add, length-table, length-tables, getD-first, getD-second, table-getD, table-cong, map-table, once-below}
 use Rattle.laws.proofs.Digits.{bigEndian-lt}
 use Rattle.pool.specs.Pool.{Pair, Pool}
-use Rattle.pool.specs.Sheet.{sheetOf, sheetLength, pairsIn, pairAt, shuffleAt, poolOf}
+use Rattle.pool.specs.Points.{pointCount}
+use Rattle.pool.specs.Sheet.{sheetOf, sheetLength, numberAt, versionIn, pairsIn, pointAt, pairAt, shuffleAt, poolOf}
 use Rattle.pool.specs.Joining.{joinedPool, joinedSheet}
 use Rattle.pool.specs.Faultless.{InRange, Unlike, EachOnce, Faultless, FaultlessSheet}
-use Rattle.pool.specs.Joinable.{NoSharedId, Joinable, Contains, Joined, pairsTogether, JoinedInAnyGrouping}
+use Rattle.pool.specs.Joinable.{SamePoints, NoSharedId, Joinable, Contains, Joined, pairsTogether, lengthTogether, JoinedInAnyGrouping}
 use Rattle.pool.specs.Promises.{EntriesBelow}
 use Rattle.pool.proofs.Lengths.{length-sheetOf}
+use Rattle.pool.proofs.Points.{second-count, counted-second}
 use Rattle.pool.proofs.Reading.{sheet-pool}
 use Rattle.pool.proofs.Read.{sheet-back}
-use Rattle.pool.proofs.Written.{Fits, written, sheet-written, says-pairs, says-pair, says-number, says-pool, written-faultless}
+use Rattle.pool.proofs.Written.{Fits, pooled, written, sheet-written, says-version, says-pairs, says-point, says-pair, says-number, says-pool, written-faultless}
 
 -- ## Numbers that are first those of s, then those of t raised by n
 
@@ -52,6 +54,22 @@ module _ (n m : ℕ) (s t u : ℕ → ℕ) (low : (i : ℕ) → i < n → u i �
   each-joined f g =
       below-add {P = Once (n + m) u} n m (λ v k. once-low v k (f v k)) (λ v k. once-high (once-below n s f) v (g v k))
 
+-- ## Sheets of the same points
+
+pub same-through : {a b c : List ℕ} → SamePoints a b → SamePoints b c → SamePoints a c
+same-through s t =
+    record { version = s .version ∙ t .version; points = λ e k l. s .points e k l ∙ t .points (sym (s .version) ∙ e) k l }
+
+same-back : {a b : List ℕ} → SamePoints a b → SamePoints b a
+same-back s = record { version = sym (s .version); points = λ e k l. sym (s .points (s .version ∙ e) k l) }
+
+-- their own points, as lists
+same-lists : (a b : List ℕ) → SamePoints a b → table (pointCount (versionIn a)) (pointAt a) ≡ table (pointCount (versionIn b)) (pointAt b)
+same-lists a b s =
+    rw (← s .version)
+    (table-cong (pointCount (versionIn a)) (pointAt a) (pointAt b)
+    (λ k l. let e : versionIn a ≡ 2 = counted-second (versionIn a) k l in s .points e k (rw (second-count (versionIn a) e) at l)))
+
 -- ## The pool of two sheets, entry by entry
 
 same-id : {p q x y : Pair} → p ≡ x → p .id ≡ q .id → q ≡ y → x .id ≡ y .id
@@ -59,20 +77,24 @@ same-id e h f = sym (ap (λ (q : Pair). q .id) e) ∙ h ∙ ap (λ (q : Pair). q
 
 module _ (a b : List ℕ) where
   -- its pairs and its shuffle, as lists
-  abbrev pairList : List Pair
+  abbrev pub pairList : List Pair
   pairList = table (pairsIn a) (pairAt a) ++ table (pairsIn b) (pairAt b)
 
-  abbrev numberList : List ℕ
+  abbrev pub numberList : List ℕ
   numberList = table (pairsIn a) (shuffleAt a (pairsIn a)) ++ table (pairsIn b) (λ j. shuffleAt b (pairsIn b) j + pairsIn a)
 
-  pub joined-lists : joinedPool (poolOf a) (poolOf b) ≡ record { pairs = pairList; shuffle = numberList }
+  -- its own points, which are the first's
+  abbrev pointList : List ℕ
+  pointList = table (pointCount (versionIn a)) (pointAt a)
+
+  pub joined-lists : joinedPool (poolOf a) (poolOf b) ≡ record { version = versionIn a; points = pointList; pairs = pairList; shuffle = numberList }
   unfolding joinedPool poolOf
   joined-lists =
       let raised : map (λ v. v + length (table (pairsIn a) (pairAt a))) (table (pairsIn b) (shuffleAt b (pairsIn b)))
       ≡ table (pairsIn b) (λ j. shuffleAt b (pairsIn b) j + pairsIn a) =
       ap (λ (k : ℕ). map (λ v. v + k) (table (pairsIn b) (shuffleAt b (pairsIn b)))) (length-table (pairsIn a) (pairAt a))
       ∙ map-table (λ v. v + pairsIn a) (pairsIn b) (shuffleAt b (pairsIn b)) in
-      λ k. record { pairs = pairList; shuffle = table (pairsIn a) (shuffleAt a (pairsIn a)) ++ raised k }
+      λ k. record { version = versionIn a; points = pointList; pairs = pairList; shuffle = table (pairsIn a) (shuffleAt a (pairsIn a)) ++ raised k }
 
   -- and as functions
   abbrev joinedPair : ℕ → Pair
@@ -93,22 +115,22 @@ module _ (a b : List ℕ) where
   second-number : (j : ℕ) → j < pairsIn b → joinedNumber (pairsIn a + j) ≡ shuffleAt b (pairsIn b) j + pairsIn a
   second-number = getD-second (pairsIn a) (pairsIn b) (shuffleAt a (pairsIn a)) (λ j. shuffleAt b (pairsIn b) j + pairsIn a) 0
 
-  joined-pool : joinedPool (poolOf a) (poolOf b) ≡ record { pairs = table (pairsTogether a b) joinedPair; shuffle = table (pairsTogether a b) joinedNumber }
+  joined-pool : joinedPool (poolOf a) (poolOf b) ≡ pooled (versionIn a) (pointAt a) (pairsTogether a b) joinedPair joinedNumber
   joined-pool =
       let e1 : table (pairsTogether a b) joinedPair ≡ pairList = table-getD _ pairList _ _ (length-tables _ _ _ _) (λ i l. refl) in
       let e2 : table (pairsTogether a b) joinedNumber ≡ numberList = table-getD _ numberList _ _ (length-tables _ _ _ _) (λ i l. refl) in
-      joined-lists ∙ sym (λ k. record { pairs = e1 k; shuffle = e2 k })
+      joined-lists ∙ sym (λ k. record { version = versionIn a; points = pointList; pairs = e1 k; shuffle = e2 k })
 
-  joined-written : joinedSheet a b ≡ written (pairsTogether a b) joinedPair joinedNumber
+  joined-written : joinedSheet a b ≡ written (versionIn a) (pointAt a) (pairsTogether a b) joinedPair joinedNumber
   unfolding joinedSheet
-  joined-written = ap sheetOf joined-pool ∙ sheet-written (pairsTogether a b) joinedPair joinedNumber
+  joined-written = ap sheetOf joined-pool ∙ sheet-written (versionIn a) (pointAt a) (pairsTogether a b) joinedPair joinedNumber
 
-  pub length-joined : length (joinedSheet a b) ≡ sheetLength (pairsTogether a b)
+  pub length-joined : length (joinedSheet a b) ≡ lengthTogether a b
   unfolding joinedSheet
   length-joined =
       ap (λ (p : Pool). length (sheetOf p)) joined-pool
-      ∙ length-sheetOf _ (length-table _ joinedNumber ∙ sym (length-table _ joinedPair))
-      ∙ ap sheetLength (length-table _ joinedPair)
+      ∙ length-sheetOf _ (length-table _ (pointAt a)) (length-table _ joinedNumber ∙ sym (length-table _ joinedPair))
+      ∙ ap (sheetLength (versionIn a)) (length-table _ joinedPair)
 
   -- ## It has no fault
 
@@ -128,9 +150,11 @@ module _ (a b : List ℕ) where
         (λ j m k e. w .apart j i m l (same-id (first-pair j m) e (second-pair i l)))
         (λ j m k e. sheet-pool b (w .second) .unlike i j (omega arith) l (same-id (second-pair j m) e (second-pair i l))) j (omega arith) k) i l j k
 
-    joined-faultless : Faultless (pairsTogether a b) joinedPair joinedNumber
+    joined-faultless : Faultless (versionIn a) (pointAt a) (pairsTogether a b) joinedPair joinedNumber
     joined-faultless =
         record {
+          version = w .first .head .version;
+          points = sheet-pool a (w .first) .points;
           few = w .few;
           inRange = joined-in-range;
           unlike = joined-unlike;
@@ -152,6 +176,11 @@ module _ (a b : List ℕ) where
           patientAntibodies = bigEndian-lt c _ 8 h;
         }
 
+    -- the first's points are of two bytes
+    joined-own : (k : ℕ) → k < pointCount (versionIn a) → pointAt a k < 256 ^ 2
+    unfolding numberAt
+    joined-own k l = bigEndian-lt a _ 2 ha
+
     joined-fits : (i : ℕ) → i < pairsTogether a b → Fits (joinedPair i)
     joined-fits =
         below-add {P = λ i. Fits (joinedPair i)} (pairsIn a) (pairsIn b)
@@ -163,28 +192,46 @@ module _ (a b : List ℕ) where
     joined-small j l = omega (arith, w .few, once-below (pairsTogether a b) joinedNumber (joined-faultless w .eachOnce) j l)
 
     sheet-joined : FaultlessSheet (joinedSheet a b)
-    sheet-joined = rw joined-written (written-faultless _ joinedPair joinedNumber (joined-faultless w) joined-fits joined-small)
+    sheet-joined = rw joined-written (written-faultless _ _ _ joinedPair joinedNumber (joined-faultless w) joined-own joined-fits joined-small)
 
     pub pool-joined : poolOf (joinedSheet a b) ≡ joinedPool (poolOf a) (poolOf b)
     pool-joined =
-        ap poolOf joined-written ∙ says-pool _ joinedPair joinedNumber (joined-faultless w) joined-fits joined-small ∙ sym joined-pool
+        ap poolOf joined-written ∙ says-pool _ _ _ joinedPair joinedNumber (joined-faultless w) joined-own joined-fits joined-small ∙ sym joined-pool
 
     pub pairs-joined : pairsIn (joinedSheet a b) ≡ pairsTogether a b
-    pairs-joined = ap pairsIn joined-written ∙ says-pairs _ joinedPair joinedNumber (joined-faultless w) joined-fits joined-small
+    pairs-joined = ap pairsIn joined-written ∙ says-pairs _ _ _ joinedPair joinedNumber (joined-faultless w) joined-own joined-fits joined-small
+
+    pub version-joined : versionIn (joinedSheet a b) ≡ versionIn a
+    version-joined =
+        ap versionIn joined-written ∙ says-version _ _ _ joinedPair joinedNumber (joined-faultless w) joined-own joined-fits joined-small
+
+    point-joined : (k : ℕ) → k < pointCount (versionIn a) → pointAt (joinedSheet a b) k ≡ pointAt a k
+    point-joined k l =
+        ap (λ (c : List ℕ). pointAt c k) joined-written
+        ∙ says-point _ _ _ joinedPair joinedNumber (joined-faultless w) joined-own joined-fits joined-small k l
+
+    joined-points : SamePoints (joinedSheet a b) a
+    joined-points =
+        record {
+          version = version-joined;
+          points = λ e k l. point-joined k (rw (second-count (versionIn a) (sym version-joined ∙ e)) l);
+        }
 
     pair-joined : (i : ℕ) → i < pairsTogether a b → pairAt (joinedSheet a b) i ≡ joinedPair i
     pair-joined i l =
         ap (λ (c : List ℕ). pairAt c i) joined-written
-        ∙ says-pair _ joinedPair joinedNumber (joined-faultless w) joined-fits joined-small i l
+        ∙ says-pair _ _ _ joinedPair joinedNumber (joined-faultless w) joined-own joined-fits joined-small i l
 
     number-joined : (j : ℕ) → j < pairsTogether a b → shuffleAt (joinedSheet a b) (pairsIn (joinedSheet a b)) j ≡ joinedNumber j
     number-joined j l =
         ap₂ (λ (c : List ℕ) (n : ℕ). shuffleAt c n j) joined-written pairs-joined
-        ∙ says-number _ joinedPair joinedNumber (joined-faultless w) joined-fits joined-small j l
+        ∙ says-number _ _ _ joinedPair joinedNumber (joined-faultless w) joined-own joined-fits joined-small j l
 
     joined-contains : Contains a b (joinedSheet a b)
     joined-contains =
         record {
+          firstPoints = joined-points;
+          secondPoints = same-through joined-points (w .same);
           many = pairs-joined;
           firstPairs = λ i l. pair-joined i (omega arith) ∙ first-pair i l;
           secondPairs = λ j l. pair-joined (pairsIn a + j) (omega arith) ∙ second-pair j l;
@@ -194,37 +241,44 @@ module _ (a b : List ℕ) where
 
 -- ## With no pairs on one side it is the other sheet
 
-abbrev nobody : Pool
-nobody = record { pairs = []; shuffle = [] }
+abbrev nobody : ℕ → List ℕ → Pool
+nobody v points = record { version = v; points = points; pairs = []; shuffle = [] }
 
-empty-pool : (a : List ℕ) → pairsIn a ≡ 0 → poolOf a ≡ nobody
+empty-pool : (a : List ℕ) → pairsIn a ≡ 0 → poolOf a ≡ nobody (versionIn a) (table (pointCount (versionIn a)) (pointAt a))
 unfolding poolOf table
-empty-pool a e = rw e
+empty-pool a e =
+    let e1 : table (pairsIn a) (pairAt a) ≡ [] = rw e in
+    let e2 : table (pairsIn a) (shuffleAt a (pairsIn a)) ≡ [] = rw e in
+    λ k. record { version = versionIn a; points = table (pointCount (versionIn a)) (pointAt a); pairs = e1 k; shuffle = e2 k }
 
-nobody-first : (q : Pool) → joinedPool nobody q ≡ q
+nobody-first : (v : ℕ) (points : List ℕ) (q : Pool) → v ≡ q .version → points ≡ q .points → joinedPool (nobody v points) q ≡ q
 unfolding joinedPool
-nobody-first q =
+nobody-first v points q h g =
     let e : map (λ v. v + 0) (q .shuffle) ≡ q .shuffle =
     ap (λ (f : ℕ → ℕ). map f (q .shuffle)) (λ k v. add-zero v k) ∙ map-id (q .shuffle) in
-    λ k. record { pairs = q .pairs; shuffle = e k }
+    λ k. record { version = h k; points = g k; pairs = q .pairs; shuffle = e k }
 
-nobody-second : (p : Pool) → joinedPool p nobody ≡ p
+nobody-second : (p : Pool) (v : ℕ) (points : List ℕ) → joinedPool p (nobody v points) ≡ p
 unfolding joinedPool
-nobody-second p = λ k. record { pairs = append-nil (p .pairs) k; shuffle = append-nil (p .shuffle) k }
+nobody-second p v points =
+    λ k. record { version = p .version; points = p .points; pairs = append-nil (p .pairs) k; shuffle = append-nil (p .shuffle) k }
 
 module _ (a b : List ℕ) (ha : EntriesBelow 256 a) (hb : EntriesBelow 256 b) (w : Joinable a b) where
   pub is-joined : Joined a b (joinedSheet a b)
-  unfolding joinedSheet
+  unfolding joinedSheet poolOf
   is-joined =
       record {
         accepted = sheet-joined a b ha hb w;
         contains = joined-contains a b ha hb w;
         firstEmpty =
             λ e.
-            ap sheetOf (ap (λ (p : Pool). joinedPool p (poolOf b)) (empty-pool a e) ∙ nobody-first (poolOf b)) ∙ sheet-back b hb (w .second);
+            ap sheetOf
+            (ap (λ (p : Pool). joinedPool p (poolOf b)) (empty-pool a e)
+            ∙ nobody-first (versionIn a) _ (poolOf b) (w .same .version) (same-lists a b (w .same)))
+            ∙ sheet-back b hb (w .second);
         secondEmpty =
             λ e.
-            ap sheetOf (ap (joinedPool (poolOf a)) (empty-pool b e) ∙ nobody-second (poolOf a)) ∙ sheet-back a ha (w .first);
+            ap sheetOf (ap (joinedPool (poolOf a)) (empty-pool b e) ∙ nobody-second (poolOf a) _ _) ∙ sheet-back a ha (w .first);
       }
 
 -- ## Three sheets
@@ -242,7 +296,7 @@ joined-three p q r =
     let e : (p .shuffle ++ map (λ v. v + n) (q .shuffle)) ++ map (λ v. v + length (p .pairs ++ q .pairs)) (r .shuffle)
     ≡ p .shuffle ++ map (λ v. v + n) (q .shuffle ++ map (λ v. v + m) (r .shuffle)) =
     rw (length-append, map-append, append-assoc, raised-twice m n (r .shuffle)) refl in
-    λ k. record { pairs = append-assoc (p .pairs) (q .pairs) (r .pairs) k; shuffle = e k }
+    λ k. record { version = p .version; points = p .points; pairs = append-assoc (p .pairs) (q .pairs) (r .pairs) k; shuffle = e k }
 
 -- no pair of a joined sheet has the id of a pair of c, and none of c that of a joined sheet's
 module _ (a b c : List ℕ) (ha : EntriesBelow 256 a) (hb : EntriesBelow 256 b) (w : Joinable a b) where
@@ -272,6 +326,7 @@ joined-in-any-grouping a b c ha hb hc w v apart few =
           record {
             first = sheet-joined a b ha hb w;
             second = v .second;
+            same = same-through (joined-points a b ha hb w) (same-through (w .same) (v .same));
             apart = joined-not-shared a b c ha hb w apart (v .apart);
             few = omega (arith, pairs-joined a b ha hb w);
           };
@@ -279,6 +334,7 @@ joined-in-any-grouping a b c ha hb hc w v apart few =
           record {
             first = w .first;
             second = sheet-joined b c hb hc v;
+            same = same-through (w .same) (same-back (joined-points b c hb hc v));
             apart = not-shared-joined b c a hb hc v (w .apart) apart;
             few = omega (arith, pairs-joined b c hb hc v);
           };

@@ -1,10 +1,10 @@
 -- Joining's promise: what has none of the faults is joined, and nothing else is; a refusal names a fault that is there. Assumes nothing.
 use mathlib.Core.Path.{_≡_, sym, ap, ap₂, _∙_}
-use mathlib.Core.Bool.{Bool}
+use mathlib.Core.Bool.{Bool, not}
 use mathlib.Core.List.{List}
 use Prim.Native.Nat.{ℕ, _≤_}
 use native.Mathlib.Omega.{arith}
-use borrow.Author.Tests.{le-ltb, ltb-true, ltb-false, ne-eqb, eqb-true, eqb-false}
+use borrow.Author.Tests.{le-ltb, ltb-true, ltb-false, eq-eqb, ne-eqb, eqb-true, eqb-false, not-false}
 use lib.Dec.{eqb, ltb}
 use lib.ListN.{length, take, drop}
 use lib.Seq.{drop-at}
@@ -12,21 +12,55 @@ use Rattle.laws.specs.Below.{anyBelow}
 use Rattle.laws.specs.Lent.{filled}
 use Rattle.laws.proofs.Below.{any-none, none-any, any-found}
 use Rattle.laws.proofs.Lent.{take-filled}
-use Rattle.refusal.specs.Fault.{none, fault, refuse}
+use Rattle.refusal.specs.Fault.{none, fault, refuse, _then_}
 use Rattle.refusal.specs.Answer.{finished, refused, Outcome, outcome}
-use Rattle.refusal.proofs.Faults.{then-none, none-then, refuse-none, none-refuse, by-refuse, by-then, unless-none, unless-fault, finished-none, refused-fault}
-use Rattle.pool.specs.Sheet.{sheetLength, pairsIn, pairAt}
+use Rattle.refusal.proofs.Faults.{none-fault, then-none, none-then, refuse-none, none-refuse, by-refuse, by-then, unless-none, unless-fault, finished-none, refused-fault}
+use Rattle.pool.specs.Points.{pointCount}
+use Rattle.pool.specs.Sheet.{versionIn, pairsIn, pointAt, pairAt}
 use Rattle.pool.specs.Faults.{sheetFault}
 use Rattle.pool.specs.Tables.{filledTables}
-use Rattle.pool.specs.Joining.{joinedSheet, idInBoth, sharedFault, togetherFault, bothFault, joinFault, joining}
+use Rattle.pool.specs.Calls.{head}
+use Rattle.pool.specs.Joining.{joinedSheet, differFault, idInBoth, sharedFault, togetherFault, bothFault, joinFault, joining}
 use Rattle.pool.specs.Faultless.{FaultlessSheet}
-use Rattle.pool.specs.Joinable.{NoSharedId, pairsTogether, Joinable, JoinFault, JoinsRightly, JoinedIsRead}
+use Rattle.pool.specs.Joinable.{SamePoints, NoSharedId, pairsTogether, lengthTogether, Joinable, JoinFault, JoinsRightly, JoinedIsRead}
 use Rattle.pool.specs.Promises.{EntriesBelow}
 use Rattle.pool.proofs.Reading.{room-none, room-passed, room-fault, sheet-none, sheet-passed, sheet-fault, reading-none}
-use Rattle.pool.proofs.Joined.{length-joined, pool-joined, pairs-joined, is-joined}
+use Rattle.pool.proofs.Points.{second-count, counted-second}
+use Rattle.pool.proofs.Joined.{length-joined, pool-joined, version-joined, pairs-joined, is-joined}
 
 module _ (a b : List ℕ) where
-  -- ## 11 and 12
+  -- ## 15, 11 and 12
+
+  -- a point k that differs
+  abbrev differsAt : ℕ → Bool
+  differsAt k = not (eqb (pointAt a k) (pointAt b k))
+
+  differ-none : SamePoints a b → differFault a b ≡ none
+  unfolding differFault
+  differ-none s =
+      none-then _ _ (none-refuse 15 0 _ (ap not (eq-eqb _ _ (s .version))))
+      ∙ none-refuse 15 0 _
+      (none-any (pointCount (versionIn a)) differsAt
+      (λ k l. let e : versionIn a ≡ 2 = counted-second (versionIn a) k l in
+      ap not (eq-eqb _ _ (s .points e k (rw (second-count (versionIn a) e) at l)))))
+
+  differ-passed : differFault a b ≡ none → SamePoints a b
+  unfolding differFault
+  differ-passed e =
+      let s = then-none _ _ e in
+      record {
+        version = eqb-true _ _ (not-false _ (refuse-none _ _ _ (s .0)));
+        points =
+            λ second k l.
+            eqb-true _ _
+            (not-false _ (any-none (pointCount (versionIn a)) differsAt (refuse-none _ _ _ (s .1)) k (rw (second-count (versionIn a) second) l)));
+      }
+
+  differ-fault : (P : ℕ → ℕ → Type 0) → ((SamePoints a b → ⊥) → P 15 0) → (k o : ℕ) → differFault a b ≡ fault k o → P k o
+  unfolding differFault
+  differ-fault P fifteen k o e =
+      let p : P 15 0 = fifteen (λ s. none-fault (differ-none s) e) in
+      by-then P _ _ (by-refuse P 15 0 _ (λ _. p)) (λ _. by-refuse P 15 0 _ (λ _. p)) k o e
 
   -- a pair of the first has the id of pair j of the second
   abbrev sharedBy : ℕ → Bool
@@ -60,22 +94,25 @@ module _ (a b : List ℕ) where
         (λ f. let one : FaultlessSheet a = sheet-passed a f in
         by-then P (sheetFault b) _ (λ k o e. JoinFault.second k o one (sheet-fault b k o e))
         (λ g. let other : FaultlessSheet b = sheet-passed b g in
+        by-then P (differFault a b) _ (differ-fault P (JoinFault.differentPoints one other))
+        (λ d. let same : SamePoints a b = differ-passed d in
         by-then P (refuse 11 0 (idInBoth a b)) _
         (by-refuse P 11 0 _
         (λ e. let j = any-found (pairsIn b) sharedBy e in
         let i = any-found (pairsIn a) _ (j .2) in
-        JoinFault.sharedId one other (i .0) (j .0) (i .1) (j .1) (eqb-true _ _ (i .2))))
+        JoinFault.sharedId one other same (i .0) (j .0) (i .1) (j .1) (eqb-true _ _ (i .2))))
         (λ h. let apart : NoSharedId a b = shared-passed h in
-        by-then P (refuse 12 0 (ltb 200 (pairsTogether a b))) _ (by-refuse P 12 0 _ (λ e. JoinFault.tooManyTogether one other apart (ltb-true _ _ e)))
+        by-then P (refuse 12 0 (ltb 200 (pairsTogether a b))) _ (by-refuse P 12 0 _ (λ e. JoinFault.tooManyTogether one other same apart (ltb-true _ _ e)))
         (λ t. room-fault P space (length (joinedSheet a b))
-        (λ l. JoinFault.bufferTooShort (record { first = one; second = other; apart = apart; few = together-passed t })
-        (rw length-joined at l))))))
+        (λ l. JoinFault.bufferTooShort (record { first = one; second = other; same = same; apart = apart; few = together-passed t })
+        (rw length-joined at l)))))))
 
-    join-none : Joinable a b → sheetLength (pairsTogether a b) ≤ space → joinFault a b space ≡ none
+    join-none : Joinable a b → lengthTogether a b ≤ space → joinFault a b space ≡ none
     unfolding joinFault bothFault
     join-none w l =
         none-then _ _ (sheet-none a (w .first))
         ∙ none-then _ _ (sheet-none b (w .second))
+        ∙ none-then _ _ (differ-none (w .same))
         ∙ none-then _ _ (shared-none (w .apart))
         ∙ none-then _ _ (together-none (w .few))
         ∙ room-none space _ (rw length-joined l)
@@ -85,11 +122,13 @@ module _ (a b : List ℕ) where
     join-passed e =
         let s1 = then-none _ _ e in
         let s2 = then-none _ _ (s1 .1) in
-        let s3 = then-none _ _ (s2 .1) in
+        let s0 = then-none _ _ (s2 .1) in
+        let s3 = then-none _ _ (s0 .1) in
         let s4 = then-none _ _ (s3 .1) in (
           record {
             first = sheet-passed a (s1 .0);
             second = sheet-passed b (s2 .0);
+            same = differ-passed (s0 .0);
             apart = shared-passed (s3 .0);
             few = together-passed (s4 .0);
           },
@@ -99,13 +138,13 @@ module _ (a b : List ℕ) where
   -- ## The call
 
   module _ (out : List ℕ) where
-    joining-none : Joinable a b → sheetLength (pairsTogether a b) ≤ length out
+    joining-none : Joinable a b → lengthTogether a b ≤ length out
         → joining a b out ≡ outcome (finished (length (joinedSheet a b))) (filled (joinedSheet a b) out)
     unfolding joining
     joining-none w l = unless-none _ _ _ _ (join-none (length out) w l)
 
     joining-passed : (m : ℕ) → joining a b out .answer ≡ finished m
-        → (m ≡ sheetLength (pairsTogether a b)) × Joinable a b × (m ≤ length out)
+        → (m ≡ lengthTogether a b) × Joinable a b × (m ≤ length out)
     unfolding joining
     joining-passed m e =
         let f = finished-none _ _ _ _ e in
@@ -147,5 +186,5 @@ joined-is-read a b out m t ha hb e h =
     let w : Joinable a b = joining-passed a b out m e .1 in
     let n : pairsIn (joinedSheet a b) ≡ pairsTogether a b = pairs-joined a b ha hb w in
     rw (joining-left a b out m e .0)
-    (reading-none (joinedSheet a b) t (is-joined a b ha hb w .accepted) (rw n h)
-    ∙ ap₂ (λ (k : ℕ) p. outcome (finished k) (filledTables p t)) n (pool-joined a b ha hb w))
+    (reading-none (joinedSheet a b) t (is-joined a b ha hb w .accepted) (rw (version-joined a b ha hb w, n) h)
+    ∙ ap₂ (λ h p. outcome (finished h) (filledTables p t)) (ap₂ head (version-joined a b ha hb w) n) (pool-joined a b ha hb w))

@@ -1,18 +1,19 @@
 -- 6, 7 and 8: what has none of them, and that each is there. Assumes nothing.
-use mathlib.Core.Path.{_≡_, refl, sym, ap, _∙_}
+use mathlib.Core.Path.{_≡_, sym, ap, _∙_}
 use mathlib.Core.Bool.{false, not}
-use mathlib.Core.List.{List}
-use Prim.Native.Nat.{ℕ, _+_, _≤_, _<_}
+use Prim.Native.Nat.{ℕ, _<_}
 use native.Mathlib.Omega.{arith}
-use borrow.Author.Tests.{le-ltb, ltb-true, ltb-false, eq-eqb, ne-eqb, eqb-true, eqb-false, not-true, not-false}
+use borrow.Author.Tests.{le-ltb, ltb-true, ltb-false, ne-eqb, eqb-true, eqb-false, not-true, not-false}
 use lib.Dec.{eqb}
-use Rattle.refusal.specs.Fault.{Fault, none, fault, refuse, _then_, firstBelow}
-use Rattle.refusal.proofs.Faults.{then-none, none-then, refuse-none, none-refuse, first-none, none-first, by-refuse, by-then, by-first}
-use Rattle.laws.specs.Below.{anyBelow, countBelow, Once}
+use Rattle.refusal.specs.Fault.{none, fault, refuse, _then_}
+use Rattle.refusal.proofs.Faults.{then-none, refuse-none, none-refuse, by-refuse, by-then}
+use Rattle.laws.specs.Below.{countBelow, Once}
 use Rattle.laws.proofs.Below.{any-none, none-any, any-found, any-cong, count-cong, once-count, count-once}
 use Rattle.pool.specs.Pool.{Pair}
 use Rattle.pool.specs.Faults.{groupFault, idFault, pairFault, shuffleFault}
-use Rattle.pool.specs.Faultless.{InRange, Unlike, EachOnce, Faultless}
+use Rattle.pool.specs.Points.{pointCount}
+use Rattle.pool.specs.Faultless.{InRange, EachOnce, Faultless}
+use Rattle.pool.proofs.Points.{points-cong}
 
 -- ## 6 and 7 of pair i
 
@@ -94,7 +95,7 @@ shuffle-cong o n s t h =
     (any-cong n _ _
     (λ v l. ap (λ (c : ℕ). not (eqb c 1)) (count-cong n _ _ (λ j k. ap (λ (x : ℕ). eqb x v) (h j k)))))
 
--- ## Faultless goes by the first n pairs and numbers alone
+-- ## Faultless goes by the points that there are and the first n pairs and numbers alone
 
 once-cong : (n : ℕ) (s t : ℕ → ℕ) → ((j : ℕ) → j < n → s j ≡ t j) → (v : ℕ) → Once n s v → Once n t v
 once-cong n s t h v w =
@@ -105,10 +106,12 @@ once-cong n s t h v w =
       only = λ k l e. w .only k l (h k l ∙ e);
     }
 
-pub faultless-cong : (n : ℕ) (pair other : ℕ → Pair) (s t : ℕ → ℕ) → ((i : ℕ) → i < n → pair i ≡ other i) → ((j : ℕ) → j < n → s j ≡ t j)
-    → Faultless n pair s → Faultless n other t
-faultless-cong n pair other s t h g w =
+pub faultless-cong : (v n : ℕ) (p r : ℕ → ℕ) (pair other : ℕ → Pair) (s t : ℕ → ℕ) → ((k : ℕ) → k < pointCount v → p k ≡ r k)
+    → ((i : ℕ) → i < n → pair i ≡ other i) → ((j : ℕ) → j < n → s j ≡ t j) → Faultless v p n pair s → Faultless v r n other t
+faultless-cong v n p r pair other s t f h g w =
     record {
+      version = w .version;
+      points = rw (← points-cong v p r f) (w .points);
       few = w .few;
       inRange = λ i l. rw (← h i l) (w .inRange i l);
       unlike =

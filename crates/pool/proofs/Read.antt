@@ -1,8 +1,9 @@
 -- What was read is written back: the sheet of the pool that a faultless sheet says is that sheet. Assumes nothing.
 use mathlib.Core.Path.{_≡_, refl, sym, ap, ap₂, _∙_}
-use mathlib.Core.List.{List, _++_, append-assoc, flatMap}
-use Prim.Native.Nat.{ℕ, _+_, _*_, _≤_, _<_}
-use native.Mathlib.Nat.{add-assoc}
+use mathlib.Core.Bool.{Bool, true, false, cond}
+use mathlib.Core.List.{List, [], _++_, flatMap}
+use Prim.Native.Nat.{ℕ, _+_, _*_, _≤_}
+use native.Mathlib.Nat.{add-assoc, zero-add}
 use native.Mathlib.Omega.{arith}
 use lib.ListN.{length}
 use Rattle.laws.specs.Below.{table}
@@ -10,13 +11,14 @@ use Rattle.laws.specs.Digits.{bigEndian, bytes}
 use Rattle.laws.proofs.Below.{length-table}
 use Rattle.laws.proofs.Lists.{part, part-add, part-whole, flatMap-part, length-flatMap-table}
 use Rattle.laws.proofs.Digits.{length-bytes, bytes-bigEndian}
-use Rattle.pool.specs.Pool.{Pair, Pool}
-use Rattle.pool.specs.Sheet.{headTag, headLength, pairTag, pairLength, shuffleTag, shuffleLength, field, headField, pairField, shuffleField, sheetOf}
-use Rattle.pool.specs.Sheet.{startLength, versionPlace, pairsPlace, firstPair, pairSize, pairPlace, sheetLength, pairsIn, pairAt, shuffleAt, poolOf}
+use Rattle.pool.specs.Points.{hasPoints, pointCount}
+use Rattle.pool.specs.Sheet.{headTag, headLength, pairTag, pairLength, shuffleTag, shuffleLength, pointsTag, field, headField, numbersField, pointsField, opening, pairField, sheetOf}
+use Rattle.pool.specs.Sheet.{startLength, versionPlace, pairsPlace, headSize, pointsPlace, pointsSize, firstPair, pairSize, numberAt, versionIn, pairsIn, pointAt, pairAt, poolOf}
 use Rattle.pool.specs.Sheet.{idAt, donorBloodAt, patientBloodAt, donorAgeAt, patientAgeAt, donorAntigensAt, patientAntigensAt, patientAntibodiesAt}
-use Rattle.pool.specs.Faultless.{Field, PairField, FaultlessSheet}
+use Rattle.pool.specs.Faultless.{Field, PairField, pairDue, shuffleDue, FaultlessSheet}
 use Rattle.pool.specs.Promises.{EntriesBelow}
-use Rattle.pool.proofs.Lengths.{length-pairField, length-numbers}
+use Rattle.pool.proofs.Points.{has-second}
+use Rattle.pool.proofs.Lengths.{length-pairField}
 
 module _ (b : List ℕ) (h : EntriesBelow 256 b) where
   -- a number, then what follows it
@@ -36,10 +38,18 @@ module _ (b : List ℕ) (h : EntriesBelow 256 b) where
       ∙ sym (part-add b o 1 (2 + len))
       ∙ ap (λ (i : ℕ). part b o i) (omega arith)
 
-  pair-back : (i : ℕ) → PairField b i → pairField (pairAt b i) ≡ part b (pairPlace i) pairSize
+  -- a field of k numbers of two bytes
+  numbers-back : (o tag k : ℕ) → Field b o tag (2 * k) → numbersField tag (table k (numberAt b o)) ≡ part b o (startLength + 2 * k)
+  unfolding numbersField numberAt
+  numbers-back o tag k f =
+      field-back o tag (2 * k) _ f (length-flatMap-table (bytes 2) 2 (length-bytes 2) k (numberAt b o))
+      (flatMap-part (bytes 2) 2 (length-bytes 2) b (o + startLength) k (numberAt b o)
+      (λ j l. bytes-bigEndian 2 b (o + startLength + 2 * j) h (omega (arith, f .whole))))
+
+  pair-back : (i : ℕ) → PairField b i → pairField (pairAt b i) ≡ part b (pairDue b i) pairSize
   unfolding pairField pairAt bytes
   pair-back i f =
-      let o = pairPlace i in
+      let o = pairDue b i in
       let l : o + pairSize ≤ length b = omega (arith, f .whole) in
       field-back o pairTag pairLength _ f refl
       (number-back o idAt 4 28 _ (omega arith)
@@ -50,35 +60,40 @@ module _ (b : List ℕ) (h : EntriesBelow 256 b) where
       (number-back o donorAntigensAt 8 16 _ (omega arith) (number-back o patientAntigensAt 8 8 _ (omega arith) (bytes-bigEndian 8 b (o + patientAntibodiesAt) h (omega arith)))))))))
 
   module _ (s : FaultlessSheet b) where
-    head-back : headField (pairsIn b) ≡ part b 0 firstPair
-    unfolding headField pairsIn bytes
+    head-back : headField (versionIn b) (pairsIn b) ≡ part b 0 headSize
+    unfolding headField versionIn pairsIn bytes
     head-back =
-        let l : firstPair ≤ length b = omega (arith, s .head .field .whole) in
+        let l : headSize ≤ length b = omega (arith, s .head .field .whole) in
         field-back 0 headTag headLength _ (s .head .field) refl
-        (ap (λ (x : ℕ). bytes 2 x ++ bytes 2 (bigEndian 2 b pairsPlace)) (sym (s .head .version))
-        ∙ number-back 0 versionPlace 2 2 _ (omega arith) (bytes-bigEndian 2 b pairsPlace h (omega arith)))
+        (number-back 0 versionPlace 2 2 _ (omega arith) (bytes-bigEndian 2 b pairsPlace h (omega arith)))
 
-    pub pairs-back : flatMap pairField (table (pairsIn b) (pairAt b)) ≡ part b firstPair (pairSize * pairsIn b)
-    pairs-back = flatMap-part pairField pairSize length-pairField b firstPair (pairsIn b) (pairAt b) (λ i l. pair-back i (s .pair i l .field))
+    -- the points, which are there in version 2
+    pub points-back : pointsField (versionIn b) (table (pointCount (versionIn b)) (pointAt b)) ≡ part b pointsPlace (pointsSize (versionIn b))
+    unfolding pointsField pointCount pointsSize part
+    points-back = go (hasPoints (versionIn b)) (has-second (versionIn b))
+      where
+        go : (t : Bool) → (t ≡ true → versionIn b ≡ 2)
+            → cond t (numbersField pointsTag (table (cond t 6 0) (pointAt b))) [] ≡ part b pointsPlace (cond t 15 0)
+        go true e = numbers-back pointsPlace pointsTag 6 (s .points (e refl) .field)
+        go false e = refl
 
-    numbers-back : flatMap (bytes 2) (table (pairsIn b) (shuffleAt b (pairsIn b))) ≡ part b (pairPlace (pairsIn b) + startLength) (2 * pairsIn b)
-    unfolding shuffleAt
-    numbers-back =
-        flatMap-part (bytes 2) 2 (length-bytes 2) b (pairPlace (pairsIn b) + startLength) (pairsIn b) (shuffleAt b (pairsIn b))
-        (λ j l. bytes-bigEndian 2 b (pairPlace (pairsIn b) + startLength + 2 * j) h (omega (arith, s .nothingAfter)))
+    opening-back : opening (versionIn b) (pairsIn b) (table (pointCount (versionIn b)) (pointAt b)) ≡ part b 0 (firstPair (versionIn b))
+    unfolding opening
+    opening-back = ap₂ (λ (x y : List ℕ). x ++ y) head-back points-back ∙ sym (part-add b 0 headSize (pointsSize (versionIn b)))
 
-    shuffle-back : shuffleField (table (pairsIn b) (shuffleAt b (pairsIn b))) ≡ part b (pairPlace (pairsIn b)) (startLength + shuffleLength (pairsIn b))
-    unfolding shuffleField
-    shuffle-back =
-        field-back (pairPlace (pairsIn b)) shuffleTag (shuffleLength (pairsIn b)) _ (s .shuffle .field)
-        (length-flatMap-table (bytes 2) 2 (length-bytes 2) (pairsIn b) (shuffleAt b (pairsIn b))) numbers-back
+    pub pairs-back : flatMap pairField (table (pairsIn b) (pairAt b)) ≡ part b (firstPair (versionIn b)) (pairSize * pairsIn b)
+    pairs-back =
+        flatMap-part pairField pairSize length-pairField b (firstPair (versionIn b)) (pairsIn b) (pairAt b) (λ i l. pair-back i (s .pair i l .field))
 
     pub sheet-back : sheetOf (poolOf b) ≡ b
     unfolding sheetOf poolOf
     sheet-back =
         let n = pairsIn b in
+        let o = firstPair (versionIn b) in
         rw length-table
-        (ap₂ (λ (x y : List ℕ). x ++ y) head-back
-        (ap₂ (λ (x y : List ℕ). x ++ y) pairs-back shuffle-back ∙ sym (part-add b firstPair (pairSize * n) (startLength + shuffleLength n)))
-        ∙ sym (part-add b 0 firstPair (pairSize * n + (startLength + shuffleLength n)))
-        ∙ part-whole b (firstPair + (pairSize * n + (startLength + shuffleLength n))) (omega (arith, s .nothingAfter)))
+        (ap₂ (λ (x y : List ℕ). x ++ y) opening-back
+        (ap₂ (λ (x y : List ℕ). x ++ y) pairs-back (numbers-back (shuffleDue b) shuffleTag n (s .shuffle .field))
+        ∙ sym (part-add b o (pairSize * n) (startLength + shuffleLength n)))
+        ∙ ap (λ (i : ℕ). part b 0 o ++ part b i (pairSize * n + (startLength + shuffleLength n))) (sym (zero-add o))
+        ∙ sym (part-add b 0 o (pairSize * n + (startLength + shuffleLength n)))
+        ∙ part-whole b (o + (pairSize * n + (startLength + shuffleLength n))) (omega (arith, s .nothingAfter)))

@@ -1,8 +1,11 @@
 -- The shortest of the lent tables, and tables that can hold n pairs. Assumes nothing.
-use Prim.Native.Nat.{ℕ, _≤_, min}
+use Prim.Native.Nat.{ℕ, _≤_}
 use native.Mathlib.Nat.{le-trans, min-le-left, min-le-right, le-min}
+use lib.ListN.{length}
+use Rattle.pool.specs.Points.{pointCount}
 use Rattle.pool.specs.Tables.{Fields, Tables, fieldRoom, room}
 use Rattle.pool.specs.Faultless.{FieldsHold, TablesHold}
+use Rattle.pool.proofs.Points.{hold-count, count-hold}
 
 pub fieldRoom-hold : (n : ℕ) (f : Fields) → n ≤ fieldRoom f → FieldsHold n f
 unfolding fieldRoom
@@ -33,10 +36,15 @@ hold-fieldRoom n f h =
     (le-min (h .donorAge)
     (le-min (h .patientAge) (le-min (h .donorAntigens) (le-min (h .patientAntigens) (h .patientAntibodies)))))))
 
-pub room-hold : (n : ℕ) (t : Tables) → n ≤ room t → TablesHold n t
+pub room-hold : (v n : ℕ) (t : Tables) → n ≤ room t → pointCount v ≤ length (t .points) → TablesHold v n t
 unfolding room
-room-hold n t h = record { fields = fieldRoom-hold n (t .fields) (le-trans h (min-le-left _ _)); shuffle = le-trans h (min-le-right _ _) }
+room-hold v n t h k =
+    record {
+      points = count-hold v (t .points) k;
+      fields = fieldRoom-hold n (t .fields) (le-trans h (min-le-left _ _));
+      shuffle = le-trans h (min-le-right _ _);
+    }
 
-pub hold-room : (n : ℕ) (t : Tables) → TablesHold n t → n ≤ room t
+pub hold-room : (v n : ℕ) (t : Tables) → TablesHold v n t → (n ≤ room t) × (pointCount v ≤ length (t .points))
 unfolding room
-hold-room n t h = le-min (hold-fieldRoom n (t .fields) (h .fields)) (h .shuffle)
+hold-room v n t h = (le-min (hold-fieldRoom n (t .fields) (h .fields)) (h .shuffle), hold-count v (t .points) (h .points))

@@ -2,12 +2,33 @@
 use Prim.Native.Nat.{ℕ, _+_, _≤_, _<_}
 use mathlib.Core.Path.{_≡_}
 use mathlib.Core.List.{List}
-use lib.ListN.{length, getD}
+use lib.ListN.{length}
 use Rattle.laws.specs.Below.{Once}
 use Rattle.laws.specs.Digits.{bigEndian}
 use Rattle.pool.specs.Pool.{Pair}
-use Rattle.pool.specs.Sheet.{headTag, headLength, pairTag, pairLength, shuffleTag, shuffleLength, sheetVersion, startLength, versionPlace, pairPlace, sheetLength, pairsIn, pairAt, shuffleAt}
-use Rattle.pool.specs.Tables.{Fields, Tables, pairIn}
+use Rattle.pool.specs.Points.{Points, pointsBy, pointsOf}
+use Rattle.pool.specs.Sheet.{headTag, headLength, pairTag, pairLength, shuffleTag, shuffleLength, pointsTag, pointsLength, startLength, pointsPlace, pairPlace, sheetLength}
+use Rattle.pool.specs.Sheet.{versionIn, pairsIn, pointAt, pairAt, shuffleAt}
+use Rattle.pool.specs.Tables.{Fields, Tables, entry, pairIn}
+
+-- ## Version and points
+
+-- version 1 or 2
+pub record KnownVersion (v : ℕ) : Type 0 where
+  pub least : 1 ≤ v
+  pub most : v ≤ 2
+
+-- what a mismatch step adds to the base fits 16 bits with either age step
+pub record StepFits (q : Points) (step : ℕ) : Type 0 where
+  pub equalAges : q .base + step + q .equalAges ≤ 65535
+  pub youngToSenior : q .base + step + q .youngToSenior ≤ 65535
+
+-- a base above 0, and each of the three steps, with no word of the largest
+pub record SoundPoints (q : Points) : Type 0 where
+  pub base : 0 < q .base
+  pub noMismatch : StepFits q (q .noMismatch)
+  pub fewMismatches : StepFits q (q .fewMismatches)
+  pub someMismatches : StepFits q (q .someMismatches)
 
 -- ## Pairs and shuffle
 
@@ -26,8 +47,10 @@ Unlike n pair = (i j : ℕ) → j < i → i < n → pair j .id ≡ pair i .id �
 abbrev pub EachOnce : ℕ → (ℕ → ℕ) → Type 0
 EachOnce n s = (v : ℕ) → v < n → Once n s v
 
--- n pairs and their shuffle
-pub record Faultless (n : ℕ) (pair : ℕ → Pair) (s : ℕ → ℕ) : Type 0 where
+-- a pool of version v: its own points, n pairs and their shuffle
+pub record Faultless (v : ℕ) (p : ℕ → ℕ) (n : ℕ) (pair : ℕ → Pair) (s : ℕ → ℕ) : Type 0 where
+  pub version : KnownVersion v
+  pub points : SoundPoints (pointsOf v p)
   pub few : n ≤ 200
   pub inRange : (i : ℕ) → i < n → InRange (pair i)
   pub unlike : Unlike n pair
@@ -45,17 +68,35 @@ pub record Field (b : List ℕ) (o tag len : ℕ) : Type 0 where
 abbrev pub HeadField : List ℕ → Type 0
 HeadField b = Field b 0 headTag headLength
 
+abbrev pub PointsField : List ℕ → Type 0
+PointsField b = Field b pointsPlace pointsTag pointsLength
+
+-- where pair i's field is due, and the shuffle's
+abbrev pub pairDue : List ℕ → ℕ → ℕ
+pairDue b i = pairPlace (versionIn b) i
+
+abbrev pub shuffleDue : List ℕ → ℕ
+shuffleDue b = pairDue b (pairsIn b)
+
 abbrev pub PairField : List ℕ → ℕ → Type 0
-PairField b i = Field b (pairPlace i) pairTag pairLength
+PairField b i = Field b (pairDue b i) pairTag pairLength
 
 abbrev pub ShuffleField : List ℕ → Type 0
-ShuffleField b = Field b (pairPlace (pairsIn b)) shuffleTag (shuffleLength (pairsIn b))
+ShuffleField b = Field b (shuffleDue b) shuffleTag (shuffleLength (pairsIn b))
 
--- the head is whole, of version 1, and says at most 200 pairs
+-- the head is whole, of version 1 or 2, and says at most 200 pairs
 pub record FaultlessHead (b : List ℕ) : Type 0 where
   pub field : HeadField b
-  pub version : bigEndian 2 b versionPlace ≡ sheetVersion
+  pub version : KnownVersion (versionIn b)
   pub few : pairsIn b ≤ 200
+
+-- the points' field is whole, and they are sound; of version 1 nothing is asked
+pub record FaultlessPoints (b : List ℕ) : Type 0 where
+  pub field : PointsField b
+  pub sound : SoundPoints (pointsBy (pointAt b))
+
+abbrev pub PointsWhereDue : List ℕ → Type 0
+PointsWhereDue b = versionIn b ≡ 2 → FaultlessPoints b
 
 -- pair i's field is whole, its groups are in range, and its id is no earlier pair's
 pub record FaultlessPair (b : List ℕ) (i : ℕ) : Type 0 where
@@ -71,21 +112,24 @@ pub record FaultlessShuffle (b : List ℕ) : Type 0 where
 -- all of them, and nothing after
 pub record FaultlessSheet (b : List ℕ) : Type 0 where
   pub head : FaultlessHead b
+  pub points : PointsWhereDue b
   pub pair : (i : ℕ) → i < pairsIn b → FaultlessPair b i
   pub shuffle : FaultlessShuffle b
-  pub nothingAfter : length b ≡ sheetLength (pairsIn b)
+  pub nothingAfter : length b ≡ sheetLength (versionIn b) (pairsIn b)
 
 -- a field that is due at a place, with its tag and length
 pub data Due (b : List ℕ) : ℕ → ℕ → ℕ → Type 0 where
   head : Due b 0 headTag headLength
-  pair : (i : ℕ) → i < pairsIn b → Due b (pairPlace i) pairTag pairLength
-  shuffle : Due b (pairPlace (pairsIn b)) shuffleTag (shuffleLength (pairsIn b))
+  points : versionIn b ≡ 2 → Due b pointsPlace pointsTag pointsLength
+  pair : (i : ℕ) → i < pairsIn b → Due b (pairDue b i) pairTag pairLength
+  shuffle : Due b (shuffleDue b) shuffleTag (shuffleLength (pairsIn b))
 
 -- what is looked at before a field that is due has no fault: "reading goes forward, field by field"
 pub data Forward (b : List ℕ) : ℕ → Type 0 where
   head : Forward b 0
-  pair : (i : ℕ) → i < pairsIn b → FaultlessHead b → ((j : ℕ) → j < i → FaultlessPair b j) → Forward b (pairPlace i)
-  shuffle : FaultlessHead b → ((j : ℕ) → j < pairsIn b → FaultlessPair b j) → Forward b (pairPlace (pairsIn b))
+  points : versionIn b ≡ 2 → FaultlessHead b → Forward b pointsPlace
+  pair : (i : ℕ) → i < pairsIn b → FaultlessHead b → PointsWhereDue b → ((j : ℕ) → j < i → FaultlessPair b j) → Forward b (pairDue b i)
+  shuffle : FaultlessHead b → PointsWhereDue b → ((j : ℕ) → j < pairsIn b → FaultlessPair b j) → Forward b (shuffleDue b)
 
 -- fault k of a sheet, at place o: it is there, and none that is looked for before it
 pub data SheetFault (b : List ℕ) : ℕ → ℕ → Type 0 where
@@ -107,28 +151,29 @@ pub data SheetFault (b : List ℕ) : ℕ → ℕ → Type 0 where
       → bigEndian 2 b (o + 1) ≡ len
       → length b < o + startLength + len
       → SheetFault b 1 o
-  wrongVersion : HeadField b → (bigEndian 2 b versionPlace ≡ sheetVersion → ⊥) → SheetFault b 3 0
-  tooManyPairs : HeadField b → bigEndian 2 b versionPlace ≡ sheetVersion → 200 < pairsIn b → SheetFault b 4 0
-  outOfRange : (i : ℕ) → i < pairsIn b → Forward b (pairPlace i) → PairField b i → (InRange (pairAt b i) → ⊥) → SheetFault b 6 (pairPlace i)
+  wrongVersion : HeadField b → (KnownVersion (versionIn b) → ⊥) → SheetFault b 3 0
+  tooManyPairs : HeadField b → KnownVersion (versionIn b) → 200 < pairsIn b → SheetFault b 4 0
+  wrongPoints : versionIn b ≡ 2 → FaultlessHead b → PointsField b → (SoundPoints (pointsBy (pointAt b)) → ⊥) → SheetFault b 14 pointsPlace
+  outOfRange : (i : ℕ) → i < pairsIn b → Forward b (pairDue b i) → PairField b i → (InRange (pairAt b i) → ⊥) → SheetFault b 6 (pairDue b i)
   repeatedId :
       (i j : ℕ)
       → j < i
       → i < pairsIn b
-      → Forward b (pairPlace i)
+      → Forward b (pairDue b i)
       → PairField b i
       → InRange (pairAt b i)
       → pairAt b j .id ≡ pairAt b i .id
-      → SheetFault b 7 (pairPlace i)
+      → SheetFault b 7 (pairDue b i)
   notAShuffle :
-      Forward b (pairPlace (pairsIn b))
+      Forward b (shuffleDue b)
       → ShuffleField b
       → (EachOnce (pairsIn b) (shuffleAt b (pairsIn b)) → ⊥)
-      → SheetFault b 8 (pairPlace (pairsIn b))
+      → SheetFault b 8 (shuffleDue b)
   leftOver :
-      Forward b (pairPlace (pairsIn b))
+      Forward b (shuffleDue b)
       → FaultlessShuffle b
-      → sheetLength (pairsIn b) < length b
-      → SheetFault b 5 (sheetLength (pairsIn b))
+      → sheetLength (versionIn b) (pairsIn b) < length b
+      → SheetFault b 5 (sheetLength (versionIn b) (pairsIn b))
 
 -- ## Lent tables
 
@@ -143,42 +188,58 @@ pub record FieldsHold (n : ℕ) (f : Fields) : Type 0 where
   pub patientAntigens : n ≤ length (f .patientAntigens)
   pub patientAntibodies : n ≤ length (f .patientAntibodies)
 
-pub record TablesHold (n : ℕ) (t : Tables) : Type 0 where
+-- of version 2 that of the points is not shorter than six; of version 1 it may have any length
+abbrev pub PointsHold : ℕ → List ℕ → Type 0
+PointsHold v l = v ≡ 2 → 6 ≤ length l
+
+pub record TablesHold (v n : ℕ) (t : Tables) : Type 0 where
+  pub points : PointsHold v (t .points)
   pub fields : FieldsHold n (t .fields)
   pub shuffle : n ≤ length (t .shuffle)
 
--- a pool in the first n entries of lent tables
-pub record FaultlessPool (n : ℕ) (t : Tables) : Type 0 where
-  pub hold : TablesHold n t
-  pub pool : Faultless n (pairIn (t .fields)) (λ j. getD (t .shuffle) j 0)
+-- a pool of version v in the first n entries of lent tables
+pub record FaultlessPool (v n : ℕ) (t : Tables) : Type 0 where
+  pub hold : TablesHold v n t
+  pub pool : Faultless v (entry (t .points)) n (pairIn (t .fields)) (entry (t .shuffle))
 
 -- the pairs before the i-th have none of 6 and 7
 abbrev pub NoneBefore : ℕ → (ℕ → Pair) → Type 0
 NoneBefore i at = (j : ℕ) → j < i → InRange (at j) × ((h : ℕ) → h < j → at h .id ≡ at j .id → ⊥)
 
--- 4, 9, 6 or 7 of n pairs in tables that `Hold` them: fault k is there, and none that is looked for before it
-pub data PairsFault (n : ℕ) (Hold : Type 0) (pair : ℕ → Pair) : ℕ → Type 0 where
-  tooManyPairs : 200 < n → PairsFault n Hold pair 4
-  tableTooShort : n ≤ 200 → (Hold → ⊥) → PairsFault n Hold pair 9
-  outOfRange : (i : ℕ) → i < n → n ≤ 200 → Hold → NoneBefore i pair → (InRange (pair i) → ⊥) → PairsFault n Hold pair 6
+-- what is looked at before the pairs has no fault: the version, N, tables that `Hold` the pool, and the points that it is weighed by
+pub record Ready (v n : ℕ) (Hold : Type 0) (q : Points) : Type 0 where
+  pub version : KnownVersion v
+  pub few : n ≤ 200
+  pub hold : Hold
+  pub points : SoundPoints q
+
+-- 3, 4, 9, 14, 6 or 7 of n pairs: fault k is there, and none that is looked for before it
+pub data PairsFault (v n : ℕ) (Hold : Type 0) (q : Points) (pair : ℕ → Pair) : ℕ → Type 0 where
+  wrongVersion : (KnownVersion v → ⊥) → PairsFault v n Hold q pair 3
+  tooManyPairs : KnownVersion v → 200 < n → PairsFault v n Hold q pair 4
+  tableTooShort : KnownVersion v → n ≤ 200 → (Hold → ⊥) → PairsFault v n Hold q pair 9
+  wrongPoints : KnownVersion v → n ≤ 200 → Hold → (SoundPoints q → ⊥) → PairsFault v n Hold q pair 14
+  outOfRange : (i : ℕ) → i < n → Ready v n Hold q → NoneBefore i pair → (InRange (pair i) → ⊥) → PairsFault v n Hold q pair 6
   repeatedId :
       (i j : ℕ)
       → j < i
       → i < n
-      → n ≤ 200
-      → Hold
+      → Ready v n Hold q
       → NoneBefore i pair
       → InRange (pair i)
       → pair j .id ≡ pair i .id
-      → PairsFault n Hold pair 7
+      → PairsFault v n Hold q pair 7
+
+-- what a pool in lent tables is weighed by
+abbrev pub pointsOfTable : ℕ → List ℕ → Points
+pointsOfTable v l = pointsOf v (entry l)
 
 -- fault k of writing a pool into a buffer of so many bytes: one of its pairs, or one that is looked for after them
-pub data PoolFault (n : ℕ) (t : Tables) (space : ℕ) : ℕ → Type 0 where
-  pairs : (k : ℕ) → PairsFault n (TablesHold n t) (pairIn (t .fields)) k → PoolFault n t space k
+pub data PoolFault (v n : ℕ) (t : Tables) (space : ℕ) : ℕ → Type 0 where
+  pairs : (k : ℕ) → PairsFault v n (TablesHold v n t) (pointsOfTable v (t .points)) (pairIn (t .fields)) k → PoolFault v n t space k
   notAShuffle :
-      n ≤ 200
-      → TablesHold n t
+      Ready v n (TablesHold v n t) (pointsOfTable v (t .points))
       → NoneBefore n (pairIn (t .fields))
-      → (EachOnce n (λ j. getD (t .shuffle) j 0) → ⊥)
-      → PoolFault n t space 8
-  bufferTooShort : FaultlessPool n t → space < sheetLength n → PoolFault n t space 9
+      → (EachOnce n (entry (t .shuffle)) → ⊥)
+      → PoolFault v n t space 8
+  bufferTooShort : FaultlessPool v n t → space < sheetLength v n → PoolFault v n t space 9

@@ -2,14 +2,16 @@
 use Prim.Native.Nat.{ℕ, _+_}
 use mathlib.Core.Bool.{not}
 use mathlib.Core.List.{List}
-use lib.ListN.{length, getD}
+use lib.ListN.{length}
 use lib.Dec.{eqb, ltb}
-use Rattle.laws.specs.Below.{anyBelow, countBelow}
+use Rattle.laws.specs.Below.{either, anyBelow, countBelow}
 use Rattle.laws.specs.Digits.{bigEndian}
-use Rattle.refusal.specs.Fault.{Fault, refuse, _then_, firstBelow}
+use Rattle.refusal.specs.Fault.{Fault, refuse, only, _then_, firstBelow}
 use Rattle.pool.specs.Pool.{Pair}
-use Rattle.pool.specs.Sheet.{headTag, headLength, pairTag, pairLength, shuffleTag, shuffleLength, sheetVersion, startLength, versionPlace, pairPlace, sheetLength, pairsIn, pairAt, shuffleAt}
-use Rattle.pool.specs.Tables.{Tables, room, pairIn}
+use Rattle.pool.specs.Points.{Points, pointsBy, knownVersion, hasPoints, pointCount, pointsOf, heaviest}
+use Rattle.pool.specs.Sheet.{headTag, headLength, pairTag, pairLength, shuffleTag, shuffleLength, pointsTag, pointsLength, startLength, pointsPlace, pairPlace, sheetLength}
+use Rattle.pool.specs.Sheet.{versionIn, pairsIn, pointAt, pairAt, shuffleAt}
+use Rattle.pool.specs.Tables.{Tables, entry, room, pairIn}
 
 -- ## The hospital's, and whoever drew the shuffle's: in a sheet, and in lent tables
 
@@ -34,7 +36,17 @@ pairFault o pair i =
 unfoldable pub shuffleFault : ℕ → ℕ → (ℕ → ℕ) → Fault
 shuffleFault o n s = refuse 8 o (anyBelow n (λ v. not (eqb (countBelow n (λ j. eqb (s j) v)) 1)))
 
--- ## The sender's: "reading goes forward, field by field"
+-- ## The sender's, in a sheet and in lent tables
+
+-- "3 version": neither 1 nor 2
+unfoldable pub versionFault : ℕ → ℕ → Fault
+versionFault o v = refuse 3 o (not (knownVersion v))
+
+-- "14 where the base is 0 or base, largest mismatch step and larger age step together exceed 65,535". Document 01's points pass
+unfoldable pub pointsFault : ℕ → Points → Fault
+pointsFault o q = refuse 14 o (either (eqb (q .base) 0) (ltb 65535 (heaviest q)))
+
+-- ## A sheet's: "reading goes forward, field by field"
 
 -- "1 a field's three-byte start or value is cut off or missing; 2 tag or length not the one due": start 1, tag and length 2, value 1
 unfoldable pub fieldFault : List ℕ → ℕ → ℕ → ℕ → Fault
@@ -48,23 +60,36 @@ fieldFault b o tag len =
 unfoldable pub headFault : List ℕ → Fault
 headFault b =
     fieldFault b 0 headTag headLength
-    then refuse 3 0 (not (eqb (bigEndian 2 b versionPlace) sheetVersion))
+    then versionFault 0 (versionIn b)
     then refuse 4 0 (ltb 200 (pairsIn b))
+
+-- version 2's, "directly after that field's value"
+unfoldable pub pointsFieldFault : List ℕ → Fault
+pointsFieldFault b =
+    only (hasPoints (versionIn b)) (fieldFault b pointsPlace pointsTag pointsLength then pointsFault pointsPlace (pointsBy (pointAt b)))
 
 -- "or 6 and 7"
 unfoldable pub pairFieldFault : List ℕ → ℕ → Fault
-pairFieldFault b i = fieldFault b (pairPlace i) pairTag pairLength then pairFault (pairPlace i) (pairAt b) i
+pairFieldFault b i =
+    fieldFault b (pairPlace (versionIn b) i) pairTag pairLength then pairFault (pairPlace (versionIn b) i) (pairAt b) i
 
 -- "or 8", on a sheet of n pairs
 unfoldable pub shuffleFieldFault : List ℕ → ℕ → Fault
-shuffleFieldFault b n = fieldFault b (pairPlace n) shuffleTag (shuffleLength n) then shuffleFault (pairPlace n) n (shuffleAt b n)
+shuffleFieldFault b n =
+    fieldFault b (pairPlace (versionIn b) n) shuffleTag (shuffleLength n)
+    then shuffleFault (pairPlace (versionIn b) n) n (shuffleAt b n)
 
 -- "at the end 5": bytes left over, with the place of the first byte too many
 unfoldable pub endFault : List ℕ → ℕ → Fault
-endFault b n = refuse 5 (sheetLength n) (ltb (sheetLength n) (length b))
+endFault b n = refuse 5 (sheetLength (versionIn b) n) (ltb (sheetLength (versionIn b) n) (length b))
 
 unfoldable pub sheetFault : List ℕ → Fault
-sheetFault b = headFault b then firstBelow (pairsIn b) (pairFieldFault b) then shuffleFieldFault b (pairsIn b) then endFault b (pairsIn b)
+sheetFault b =
+    headFault b
+    then pointsFieldFault b
+    then firstBelow (pairsIn b) (pairFieldFault b)
+    then shuffleFieldFault b (pairsIn b)
+    then endFault b (pairsIn b)
 
 -- ## The calling program's
 
@@ -72,11 +97,23 @@ sheetFault b = headFault b then firstBelow (pairsIn b) (pairFieldFault b) then s
 unfoldable pub roomFault : ℕ → ℕ → Fault
 roomFault space n = refuse 9 0 (ltb space n)
 
--- n pairs in lent tables, the shortest of which has `space` entries: "4", "9 directly after 4, where a table of the fields is shorter than N",
+-- n pairs and their points in lent tables, those of the pairs with `space` entries in the shortest: "9 where a table of the fields is shorter than N";
+-- "For version 2 a points table shorter than six counts for 9 as a table of the fields"
+unfoldable pub tablesFault : ℕ → ℕ → ℕ → List ℕ → Fault
+tablesFault v n space points = roomFault space n then roomFault (length points) (pointCount v)
+
+-- "In writing and building, 3 comes first and 14 directly before 6": 3, 4, 9, 14
+unfoldable pub beforeFault : ℕ → ℕ → ℕ → List ℕ → Fault
+beforeFault v n space points =
+    versionFault 0 v
+    then refuse 4 0 (ltb 200 n)
+    then tablesFault v n space points
+    then pointsFault 0 (pointsOf v (entry points))
+
 -- "then 6 and 7 pair by pair", all with place 0
-unfoldable pub pairsFault : ℕ → ℕ → (ℕ → Pair) → Fault
-pairsFault n space pair = refuse 4 0 (ltb 200 n) then roomFault space n then firstBelow n (pairFault 0 pair)
+unfoldable pub pairsFault : ℕ → ℕ → ℕ → List ℕ → (ℕ → Pair) → Fault
+pairsFault v n space points pair = beforeFault v n space points then firstBelow n (pairFault 0 pair)
 
 -- with their shuffle: "then 8"
-unfoldable pub poolFault : ℕ → Tables → Fault
-poolFault n t = pairsFault n (room t) (pairIn (t .fields)) then shuffleFault 0 n (λ j. getD (t .shuffle) j 0)
+unfoldable pub poolFault : ℕ → ℕ → Tables → Fault
+poolFault v n t = pairsFault v n (room t) (t .points) (pairIn (t .fields)) then shuffleFault 0 n (entry (t .shuffle))

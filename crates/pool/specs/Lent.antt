@@ -12,12 +12,12 @@ Ref = RefT (List ℕ)
 abbrev pub Slice : Type 0
 Slice = Both Ref Ref
 
--- the eight tables of the fields, and all nine, at one moment
+-- the eight tables of the fields, and all ten, at one moment
 abbrev pub fieldsNow : Ref → Ref → Ref → Ref → Ref → Ref → Ref → Ref → Fields
 fieldsNow a b c d e f g h = fields (now a) (now b) (now c) (now d) (now e) (now f) (now g) (now h)
 
-abbrev pub tablesNow : Ref → Ref → Ref → Ref → Ref → Ref → Ref → Ref → Ref → Tables
-tablesNow a b c d e f g h s = tables (fieldsNow a b c d e f g h) (now s)
+abbrev pub tablesNow : Ref → Ref → Ref → Ref → Ref → Ref → Ref → Ref → Ref → Ref → Tables
+tablesNow p a b c d e f g h s = tables (now p) (fieldsNow a b c d e f g h) (now s)
 
 -- at entry and exit
 abbrev pub lentFields : Slice → Slice → Slice → Slice → Slice → Slice → Slice → Slice → Both Fields Fields
@@ -27,9 +27,9 @@ lentFields a b c d e f g h =
       exit = fieldsNow (a .exit) (b .exit) (c .exit) (d .exit) (e .exit) (f .exit) (g .exit) (h .exit);
     }
 
-abbrev pub lentTables : Slice → Slice → Slice → Slice → Slice → Slice → Slice → Slice → Slice → Both Tables Tables
-lentTables a b c d e f g h s =
+abbrev pub lentTables : Slice → Slice → Slice → Slice → Slice → Slice → Slice → Slice → Slice → Slice → Both Tables Tables
+lentTables p a b c d e f g h s =
     record {
-      entry = tablesNow (a .entry) (b .entry) (c .entry) (d .entry) (e .entry) (f .entry) (g .entry) (h .entry) (s .entry);
-      exit = tablesNow (a .exit) (b .exit) (c .exit) (d .exit) (e .exit) (f .exit) (g .exit) (h .exit) (s .exit);
+      entry = tablesNow (p .entry) (a .entry) (b .entry) (c .entry) (d .entry) (e .entry) (f .entry) (g .entry) (h .entry) (s .entry);
+      exit = tablesNow (p .exit) (a .exit) (b .exit) (c .exit) (d .exit) (e .exit) (f .exit) (g .exit) (h .exit) (s .exit);
     }

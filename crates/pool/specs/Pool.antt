@@ -1,4 +1,4 @@
--- A pool: its pairs in order, and the shuffle. Assumes nothing.
+-- A pool: its version, its own points, its pairs in order, and the shuffle. Assumes nothing.
 use Prim.Native.Nat.{ℕ}
 use mathlib.Core.List.{List}
 
@@ -14,6 +14,9 @@ pub record Pair : Type 0 where
   pub patientAntigens : ℕ
   pub patientAntibodies : ℕ
 
+-- "A version 1 pool has no points": an empty list; in version 2 they are six
 pub record Pool : Type 0 where
+  pub version : ℕ
+  pub points : List ℕ
   pub pairs : List Pair
   pub shuffle : List ℕ

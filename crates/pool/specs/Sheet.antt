@@ -1,10 +1,12 @@
--- "The pool sheet": how a pool is written, and what stands where on a sheet. Assumes nothing.
+-- "The pool sheet", and document 02's version 2: how a pool is written, and what stands where on a sheet. Assumes nothing.
 use Prim.Native.Nat.{ℕ, _+_, _*_}
-use mathlib.Core.List.{List, _++_, flatMap}
+use mathlib.Core.Bool.{cond}
+use mathlib.Core.List.{List, [], _++_, flatMap}
 use lib.ListN.{length}
 use Rattle.laws.specs.Below.{table}
 use Rattle.laws.specs.Digits.{bigEndian, bytes}
 use Rattle.pool.specs.Pool.{Pair, Pool}
+use Rattle.pool.specs.Points.{ownPoints, hasPoints, pointCount}
 
 -- ## Tags, and lengths of the values
 
@@ -29,9 +31,12 @@ shuffleTag = 3
 abbrev pub shuffleLength : ℕ → ℕ
 shuffleLength n = 2 * n
 
--- "version (2 bytes, is 1)"
-abbrev pub sheetVersion : ℕ
-sheetVersion = 1
+-- W-205: "a tag 4 field of length 12"
+abbrev pub pointsTag : ℕ
+pointsTag = 4
+
+abbrev pub pointsLength : ℕ
+pointsLength = 2 * ownPoints
 
 -- ## Written
 
@@ -39,9 +44,21 @@ sheetVersion = 1
 unfoldable pub field : ℕ → List ℕ → List ℕ
 field tag value = bytes 1 tag ++ (bytes 2 (length value) ++ value)
 
--- "Tag 1, length 4: version (2 bytes, is 1), N (2 bytes, 0 to 200)."
-unfoldable pub headField : ℕ → List ℕ
-headField n = field headTag (bytes 2 sheetVersion ++ bytes 2 n)
+-- "Tag 1, length 4: version (2 bytes, is 1), N (2 bytes, 0 to 200)." Since W-205 the version is 1 or 2
+unfoldable pub headField : ℕ → ℕ → List ℕ
+headField v n = field headTag (bytes 2 v ++ bytes 2 n)
+
+-- a field of two-byte numbers
+unfoldable pub numbersField : ℕ → List ℕ → List ℕ
+numbersField tag s = field tag (flatMap (bytes 2) s)
+
+-- "Sheet version 2 has a tag 4 field of length 12 after the head: base, three mismatch steps, two age steps, [..] two bytes each"
+unfoldable pub pointsField : ℕ → List ℕ → List ℕ
+pointsField v points = cond (hasPoints v) (numbersField pointsTag points) []
+
+-- what stands before the pairs
+unfoldable pub opening : ℕ → ℕ → List ℕ → List ℕ
+opening v n points = headField v n ++ pointsField v points
 
 -- "Tag 2, length 32, N times: id (4 bytes), donor blood, patient blood, donor age group, patient age group (1 byte each), donor antigens,
 -- patient antigens, patient antibodies (8 bytes each)."
@@ -55,12 +72,12 @@ pairField q =
     ++ (bytes 1 (q .patientAge) ++ (bytes 8 (q .donorAntigens) ++ (bytes 8 (q .patientAntigens) ++ bytes 8 (q .patientAntibodies))))))))
 
 -- "Tag 3, length 2N: the shuffle, N two-byte numbers."
-unfoldable pub shuffleField : List ℕ → List ℕ
-shuffleField s = field shuffleTag (flatMap (bytes 2) s)
+abbrev pub shuffleField : List ℕ → List ℕ
+shuffleField s = numbersField shuffleTag s
 
 -- "In this order, with nothing after."
 unfoldable pub sheetOf : Pool → List ℕ
-sheetOf p = headField (length (p .pairs)) ++ (flatMap pairField (p .pairs) ++ shuffleField (p .shuffle))
+sheetOf p = opening (p .version) (length (p .pairs)) (p .points) ++ (flatMap pairField (p .pairs) ++ shuffleField (p .shuffle))
 
 -- ## Where it stands
 
@@ -75,16 +92,26 @@ versionPlace = startLength
 abbrev pub pairsPlace : ℕ
 pairsPlace = versionPlace + 2
 
--- the pairs' fields stand where the head's ends, each with its start
-abbrev pub firstPair : ℕ
-firstPair = startLength + headLength
+abbrev pub headSize : ℕ
+headSize = startLength + headLength
+
+-- "after the head": the points of version 2, which take no room in version 1
+abbrev pub pointsPlace : ℕ
+pointsPlace = headSize
+
+unfoldable pub pointsSize : ℕ → ℕ
+pointsSize v = cond (hasPoints v) (startLength + pointsLength) 0
+
+-- then the pairs' fields, each with its start
+abbrev pub firstPair : ℕ → ℕ
+firstPair v = headSize + pointsSize v
 
 abbrev pub pairSize : ℕ
 pairSize = startLength + pairLength
 
 -- "Pair i is the i-th tag 2 field, from 0." The shuffle's field stands where a pair N would
-abbrev pub pairPlace : ℕ → ℕ
-pairPlace i = firstPair + pairSize * i
+abbrev pub pairPlace : ℕ → ℕ → ℕ
+pairPlace v i = firstPair v + pairSize * i
 
 -- how far into a pair's field each of its numbers stands
 abbrev pub idAt : ℕ
@@ -111,31 +138,48 @@ patientAntigensAt = donorAntigensAt + 8
 abbrev pub patientAntibodiesAt : ℕ
 patientAntibodiesAt = patientAntigensAt + 8
 
--- the bytes of a sheet of n pairs. "The longest sheet has 7,410 bytes"
-abbrev pub sheetLength : ℕ → ℕ
-sheetLength n = pairPlace n + startLength + shuffleLength n
+-- the bytes of a sheet of version v with n pairs. "The longest sheet has 7,410 bytes", and in version 2 7,425
+abbrev pub sheetLength : ℕ → ℕ → ℕ
+sheetLength v n = pairPlace v n + startLength + shuffleLength n
 
--- N
+-- number j of a field of two-byte numbers that stands at o
+unfoldable pub numberAt : List ℕ → ℕ → ℕ → ℕ
+numberAt b o j = bigEndian 2 b (o + startLength + 2 * j)
+
+-- the version, and N
+unfoldable pub versionIn : List ℕ → ℕ
+versionIn b = bigEndian 2 b versionPlace
+
 unfoldable pub pairsIn : List ℕ → ℕ
 pairsIn b = bigEndian 2 b pairsPlace
 
 unfoldable pub pairAt : List ℕ → ℕ → Pair
 pairAt b i =
     record {
-      id = bigEndian 4 b (pairPlace i + idAt);
-      donorBlood = bigEndian 1 b (pairPlace i + donorBloodAt);
-      patientBlood = bigEndian 1 b (pairPlace i + patientBloodAt);
-      donorAge = bigEndian 1 b (pairPlace i + donorAgeAt);
-      patientAge = bigEndian 1 b (pairPlace i + patientAgeAt);
-      donorAntigens = bigEndian 8 b (pairPlace i + donorAntigensAt);
-      patientAntigens = bigEndian 8 b (pairPlace i + patientAntigensAt);
-      patientAntibodies = bigEndian 8 b (pairPlace i + patientAntibodiesAt);
+      id = bigEndian 4 b (pairPlace (versionIn b) i + idAt);
+      donorBlood = bigEndian 1 b (pairPlace (versionIn b) i + donorBloodAt);
+      patientBlood = bigEndian 1 b (pairPlace (versionIn b) i + patientBloodAt);
+      donorAge = bigEndian 1 b (pairPlace (versionIn b) i + donorAgeAt);
+      patientAge = bigEndian 1 b (pairPlace (versionIn b) i + patientAgeAt);
+      donorAntigens = bigEndian 8 b (pairPlace (versionIn b) i + donorAntigensAt);
+      patientAntigens = bigEndian 8 b (pairPlace (versionIn b) i + patientAntigensAt);
+      patientAntibodies = bigEndian 8 b (pairPlace (versionIn b) i + patientAntibodiesAt);
     }
 
+-- the points' number k; "In this order": the base is number 0
+abbrev pub pointAt : List ℕ → ℕ → ℕ
+pointAt b k = numberAt b pointsPlace k
+
 -- the shuffle's number j on a sheet of n pairs
-unfoldable pub shuffleAt : List ℕ → ℕ → ℕ → ℕ
-shuffleAt b n j = bigEndian 2 b (pairPlace n + startLength + 2 * j)
+abbrev pub shuffleAt : List ℕ → ℕ → ℕ → ℕ
+shuffleAt b n j = numberAt b (pairPlace (versionIn b) n) j
 
 -- the pool that a sheet says
 unfoldable pub poolOf : List ℕ → Pool
-poolOf b = record { pairs = table (pairsIn b) (pairAt b); shuffle = table (pairsIn b) (shuffleAt b (pairsIn b)) }
+poolOf b =
+    record {
+      version = versionIn b;
+      points = table (pointCount (versionIn b)) (pointAt b);
+      pairs = table (pairsIn b) (pairAt b);
+      shuffle = table (pairsIn b) (shuffleAt b (pairsIn b));
+    }

@@ -5,6 +5,7 @@ use lib.ListN.{length, getD}
 use Rattle.laws.specs.Below.{table}
 use Rattle.laws.specs.Lent.{filled}
 use Rattle.pool.specs.Pool.{Pair, Pool}
+use Rattle.pool.specs.Points.{pointCount}
 
 -- a table for each field of a pair
 pub record Fields : Type 0 where
@@ -30,15 +31,20 @@ fields a b c d e f g h =
       patientAntibodies = h;
     }
 
--- all nine: those and the shuffle
+-- all ten: those, the shuffle, and the points
 pub record Tables : Type 0 where
+  pub points : List ℕ
   pub fields : Fields
   pub shuffle : List ℕ
 
-abbrev pub tables : Fields → List ℕ → Tables
-tables f s = record { fields = f; shuffle = s }
+abbrev pub tables : List ℕ → Fields → List ℕ → Tables
+tables p f s = record { points = p; fields = f; shuffle = s }
 
--- how many pairs the shortest of the eight can hold, and the shortest of the nine
+-- number k of a table
+abbrev pub entry : List ℕ → ℕ → ℕ
+entry t k = getD t k 0
+
+-- how many pairs the shortest of the eight can hold, and the shortest of the eight and the shuffle
 unfoldable pub fieldRoom : Fields → ℕ
 fieldRoom f =
     min (length (f .ids))
@@ -51,7 +57,7 @@ fieldRoom f =
 unfoldable pub room : Tables → ℕ
 room t = min (fieldRoom (t .fields)) (length (t .shuffle))
 
--- ## The pool in the first n entries
+-- ## The pool of version v in the first n entries
 
 unfoldable pub pairIn : Fields → ℕ → Pair
 pairIn f i =
@@ -66,10 +72,16 @@ pairIn f i =
       patientAntibodies = getD (f .patientAntibodies) i 0;
     }
 
-unfoldable pub poolIn : ℕ → Tables → Pool
-poolIn n t = record { pairs = table n (pairIn (t .fields)); shuffle = table n (λ j. getD (t .shuffle) j 0) }
+unfoldable pub poolIn : ℕ → ℕ → Tables → Pool
+poolIn v n t =
+    record {
+      version = v;
+      points = table (pointCount v) (entry (t .points));
+      pairs = table n (pairIn (t .fields));
+      shuffle = table n (entry (t .shuffle));
+    }
 
--- ## Filled: "the first N entries of each"; "what lies past them is unchanged"
+-- ## Filled: "the first N entries of each"; "what lies past them is unchanged". Of version 1 the points' table is wholly unchanged
 
 unfoldable pub filledFields : List Pair → Fields → Fields
 filledFields ps f =
@@ -85,4 +97,4 @@ filledFields ps f =
     }
 
 unfoldable pub filledTables : Pool → Tables → Tables
-filledTables p t = tables (filledFields (p .pairs) (t .fields)) (filled (p .shuffle) (t .shuffle))
+filledTables p t = tables (filled (p .points) (t .points)) (filledFields (p .pairs) (t .fields)) (filled (p .shuffle) (t .shuffle))

@@ -1,13 +1,13 @@
 -- What follows where there is no fault, and where there is one. Assumes nothing.
 use mathlib.Core.Path.{_≡_, refl, sym, ap, _∙_, subst₂}
-use mathlib.Core.Bool.{Bool, true, false}
+use mathlib.Core.Bool.{Bool, true, false, false≢true}
 use mathlib.Core.Logic.{_⊎_, inl, inr, ⊎-elim}
 use Prim.Native.Nat.{ℕ, zero, suc, _+_, _<_}
 use native.Mathlib.Numerals.{add-one}
 use native.Mathlib.Omega.{arith}
 use native.Mathlib.Decide.{decLt}
 use Rattle.laws.proofs.Below.{below-suc}
-use Rattle.refusal.specs.Fault.{Fault, none, fault, refuse, _then_, firstBelow}
+use Rattle.refusal.specs.Fault.{Fault, none, fault, refuse, only, _then_, firstBelow}
 use Rattle.refusal.specs.Answer.{Answer, finished, refused, Outcome, outcome, unless}
 use Rattle.refusal.specs.Number.{numberOf, faultAt}
 use Rattle.refusal.specs.declared.Refusal.{Refusal}
@@ -40,6 +40,23 @@ pub fault-refuse : (k o : ℕ) (t : Bool) → t ≡ true → refuse k o t ≡ fa
 unfolding refuse
 fault-refuse k o t e = rw e
 
+-- ## only
+
+pub none-only : (t : Bool) (f : Fault) → (t ≡ true → f ≡ none) → only t f ≡ none
+unfolding only
+none-only true f h = h refl
+none-only false f h = refl
+
+pub only-none : (t : Bool) (f : Fault) → only t f ≡ none → t ≡ true → f ≡ none
+unfolding only
+only-none true f e h = e
+only-none false f e h = absurd (false≢true h)
+
+pub only-fault : (t : Bool) (f : Fault) {k o : ℕ} → only t f ≡ fault k o → (t ≡ true) × (f ≡ fault k o)
+unfolding only
+only-fault true f e = (refl, e)
+only-fault false f e = none-fault refl e
+
 -- ## then
 
 pub then-none : (f g : Fault) → (f then g) ≡ none → (f ≡ none) × (g ≡ none)
@@ -50,6 +67,11 @@ then-none (fault k o) g e = none-fault e refl
 pub none-then : (f g : Fault) → f ≡ none → (f then g) ≡ g
 unfolding _then_
 none-then f g e = rw e
+
+pub then-nothing : (f : Fault) → (f then none) ≡ f
+unfolding _then_
+then-nothing none = refl
+then-nothing (fault k o) = refl
 
 pub fault-then : (f g : Fault) {k o : ℕ} → f ≡ fault k o → (f then g) ≡ fault k o
 unfolding _then_
@@ -114,6 +136,11 @@ module _ (P : ℕ → ℕ → Type 0) where
   by-refuse k o t h j p e =
       let r = refuse-fault k o t e in
       subst₂ P (r .1) (r .2) (h (r .0))
+
+  pub by-only : (t : Bool) (f : Fault) → (t ≡ true → (j p : ℕ) → f ≡ fault j p → P j p) → (j p : ℕ) → only t f ≡ fault j p → P j p
+  by-only t f h j p e =
+      let r = only-fault t f e in
+      h (r .0) j p (r .1)
 
   pub by-then : (f g : Fault) → ((j p : ℕ) → f ≡ fault j p → P j p) → (f ≡ none → (j p : ℕ) → g ≡ fault j p → P j p)
       → (j p : ℕ) → (f then g) ≡ fault j p → P j p

@@ -6,7 +6,8 @@ use lib.ListN.{getD}
 use Rattle.refusal.specs.Number.{numberOf}
 use Rattle.refusal.specs.Promises.{OwnNumbers}
 use Rattle.refusal.specs.declared.Refusal.{Refusal}
-use Rattle.refusal.specs.declared.Refusal.the-variants.{CutOff, WrongField, WrongVersion, TooManyPairs, LeftOver, OutOfRange, RepeatedId, NotAShuffle, TooShort, NotCompatibility, SharedId, TooManyTogether, FloorTooHigh}
+use Rattle.refusal.specs.declared.Refusal.the-variants.{CutOff, WrongField, WrongVersion, TooManyPairs, LeftOver, OutOfRange, RepeatedId, NotAShuffle, TooShort, NotCompatibility}
+use Rattle.refusal.specs.declared.Refusal.the-variants.{SharedId, TooManyTogether, FloorTooHigh, WrongPoints, DifferentPoints}
 
 abbrev named : ℕ → Refusal
 named k =
@@ -25,6 +26,8 @@ named k =
     ∷ SharedId
     ∷ TooManyTogether
     ∷ FloorTooHigh
+    ∷ WrongPoints
+    ∷ DifferentPoints
     ∷ []) k CutOff
 
 named-number : (a : Refusal) → named (numberOf a) ≡ a
@@ -41,6 +44,8 @@ named-number NotCompatibility = refl
 named-number SharedId = refl
 named-number TooManyTogether = refl
 named-number FloorTooHigh = refl
+named-number WrongPoints = refl
+named-number DifferentPoints = refl
 
 pub own-numbers : OwnNumbers
 own-numbers a b e = sym (named-number a) ∙ ap named e ∙ named-number b

@@ -12,6 +12,11 @@ unfoldable pub refuse : ℕ → ℕ → Bool → Fault
 refuse k o true = fault k o
 refuse k o false = none
 
+-- a fault that is looked for only where the test holds
+unfoldable pub only : Bool → Fault → Fault
+only true f = f
+only false f = none
+
 -- the first fault of two
 unfoldable pub _then_ : Fault → Fault → Fault
 none then g = g

@@ -2,7 +2,8 @@
 use Prim.Native.Nat.{ℕ}
 use Rattle.refusal.specs.Fault.{Fault, none, fault}
 use Rattle.refusal.specs.declared.Refusal.{Refusal}
-use Rattle.refusal.specs.declared.Refusal.the-variants.{CutOff, WrongField, WrongVersion, TooManyPairs, LeftOver, OutOfRange, RepeatedId, NotAShuffle, TooShort, NotCompatibility, SharedId, TooManyTogether, FloorTooHigh}
+use Rattle.refusal.specs.declared.Refusal.the-variants.{CutOff, WrongField, WrongVersion, TooManyPairs, LeftOver, OutOfRange, RepeatedId, NotAShuffle, TooShort, NotCompatibility}
+use Rattle.refusal.specs.declared.Refusal.the-variants.{SharedId, TooManyTogether, FloorTooHigh, WrongPoints, DifferentPoints}
 use Rattle.refusal.specs.declared.Verdict.{Verdict}
 use Rattle.refusal.specs.declared.Verdict.the-variants.{Sound, Faulty}
 
@@ -21,6 +22,8 @@ numberOf NotCompatibility = 10
 numberOf SharedId = 11
 numberOf TooManyTogether = 12
 numberOf FloorTooHigh = 13
+numberOf WrongPoints = 14
+numberOf DifferentPoints = 15
 
 -- what a check found, as a fault with a place
 unfoldable pub faultAt : ℕ → Verdict → Fault

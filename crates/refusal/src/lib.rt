@@ -28,6 +28,10 @@ pub enum Refusal {
     TooManyTogether,
     // The calling program again: the floor is above 200,000.
     FloorTooHigh,
+    // The sender again: the base is 0, or base, largest mismatch step and larger age step together exceed 65,535.
+    WrongPoints,
+    // The versions or the points of two sheets that are joined differ.
+    DifferentPoints,
 }
 
 // What a check of one thing finds.
@@ -54,5 +58,7 @@ pub fn number(why: Refusal) -> u8
         Refusal::SharedId => 11,
         Refusal::TooManyTogether => 12,
         Refusal::FloorTooHigh => 13,
+        Refusal::WrongPoints => 14,
+        Refusal::DifferentPoints => 15,
     }
 }

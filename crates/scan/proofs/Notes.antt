@@ -8,7 +8,8 @@ use lib.ListN.{length, getD, set, length-set}
 use lib.Seq.{getD-set-same, getD-set-other}
 use Rattle.laws.proofs.Below.{below-suc}
 use Rattle.laws.proofs.Digits.{bigEndian-one}
-use Rattle.pool.specs.Sheet.{pairPlace, donorBloodAt, patientBloodAt, donorAgeAt, patientAgeAt, pairAt}
+use Rattle.pool.specs.Sheet.{donorBloodAt, patientBloodAt, donorAgeAt, patientAgeAt, pairAt}
+use Rattle.pool.specs.Faultless.{pairDue}
 use Rattle.checks.specs.Preconditions.{PairAgrees}
 use Rattle.scan.specs.Preconditions.{Noted}
 
@@ -29,13 +30,13 @@ module _ (b : List ℕ) where
 
   -- pair i, by its id among those noted and by the bytes of its groups
   pub agree-at : (i : ℕ) (ids : List ℕ) → Noted b (i + 1) ids
-      → PairAgrees (pairAt b) i ids (getD b (pairPlace i + donorBloodAt) 0) (getD b (pairPlace i + patientBloodAt) 0) (getD b (pairPlace i + donorAgeAt) 0) (getD b (pairPlace i + patientAgeAt) 0)
+      → PairAgrees (pairAt b) i ids (getD b (pairDue b i + donorBloodAt) 0) (getD b (pairDue b i + patientBloodAt) 0) (getD b (pairDue b i + donorAgeAt) 0) (getD b (pairDue b i + patientAgeAt) 0)
   unfolding pairAt
   agree-at i ids w =
       record {
         id = λ j l. sym (w .noted j (omega arith));
-        hasDonorBlood = bigEndian-one b (pairPlace i + donorBloodAt);
-        hasPatientBlood = bigEndian-one b (pairPlace i + patientBloodAt);
-        hasDonorAge = bigEndian-one b (pairPlace i + donorAgeAt);
-        hasPatientAge = bigEndian-one b (pairPlace i + patientAgeAt);
+        hasDonorBlood = bigEndian-one b (pairDue b i + donorBloodAt);
+        hasPatientBlood = bigEndian-one b (pairDue b i + patientBloodAt);
+        hasDonorAge = bigEndian-one b (pairDue b i + donorAgeAt);
+        hasPatientAge = bigEndian-one b (pairDue b i + patientAgeAt);
       }

@@ -6,8 +6,9 @@ ghost use Prim.Native.Nat.{_+_, _≤_, _<_};
 ghost use lib.ListN.{length};
 ghost use Rattle.refusal.specs.Fault.{firstBelow};
 ghost use Rattle.refusal.specs.Number.{faultAt};
-ghost use Rattle.pool.specs.Sheet.{pairSize, pairPlace, pairAt};
-ghost use Rattle.pool.specs.Faults.{pairFault, pairFieldFault, shuffleFieldFault, sheetFault};
+ghost use Rattle.pool.specs.Sheet.{pointsPlace, pairSize, pairPlace, versionIn, pairAt};
+ghost use Rattle.pool.specs.Faults.{pairFault, pointsFieldFault, pairFieldFault, shuffleFieldFault, sheetFault};
+ghost use Rattle.pool.specs.Faultless.{pairDue};
 ghost use Rattle.scan.specs.Answers.{foundFault};
 ghost use Rattle.scan.specs.Preconditions.{Noted};
 
@@ -17,12 +18,38 @@ pub enum Found {
     Fault(Refusal, usize),
 }
 
-// 6 and 7 of pair i, whose field is whole and whose id stands at i of `ids`, after those of the earlier pairs.
-fn pair_value(b: &[u8], i: usize, ids: &[u32]) -> Verdict
-    requires { ⌜ (i < 200) × (pairPlace i + pairSize ≤ length (now b)) × Noted (now b) (i + 1) (now ids) ⌝ }
-    ensures { λ r. ⌜ faultAt (pairPlace i) r ≡ pairFault (pairPlace i) (pairAt (now (b .entry))) i ⌝ }
+// Version 2's points: their field, then 14. Version 1 has none.
+fn points_field(b: &[u8], version: u16) -> Verdict
+    requires { ⌜ version ≡ versionIn (now b) ⌝ }
+    ensures { λ r. ⌜ faultAt pointsPlace r ≡ pointsFieldFault (now (b .entry)) ⌝ }
 {
-    let o = layout::pair_place(i);
+    if !layout::has_points(version) {
+        return Verdict::Sound;
+    }
+    match framing::field(
+        b,
+        layout::POINTS_PLACE,
+        layout::POINTS_TAG,
+        layout::POINTS_LENGTH,
+    ) {
+        Verdict::Faulty(why) => {
+            return Verdict::Faulty(why);
+        }
+        Verdict::Sound => {}
+    }
+    let mut table = [0u16; 6];
+    columns::fill_numbers(b, layout::POINTS_PLACE, layout::POINTS, &mut table);
+    points::judge(points::own(&table))
+}
+
+// 6 and 7 of pair i, whose field is whole and whose id stands at i of `ids`, after those of the earlier pairs.
+fn pair_value(b: &[u8], version: u16, i: usize, ids: &[u32]) -> Verdict
+    requires { ⌜ (i < 200) × (version ≡ versionIn (now b)) × (pairPlace version i + pairSize ≤ length (now b)) × Noted (now b) (i + 1) (now ids) ⌝ }
+    ensures { λ r.
+        let o = pairDue (now (b .entry)) i in
+        ⌜ faultAt o r ≡ pairFault o (pairAt (now (b .entry))) i ⌝ }
+{
+    let o = layout::pair_place(version, i);
     checks::pair(
         i,
         ids,
@@ -34,14 +61,14 @@ fn pair_value(b: &[u8], i: usize, ids: &[u32]) -> Verdict
 }
 
 // The fields of the pairs, one after another. The ids passed are noted, each to be held to the earlier ones.
-fn pairs(b: &[u8], n: usize) -> Found
-    requires { ⌜ n ≤ 200 ⌝ }
+fn pairs(b: &[u8], version: u16, n: usize) -> Found
+    requires { ⌜ (n ≤ 200) × (version ≡ versionIn (now b)) ⌝ }
     ensures { λ r. ⌜ foundFault r ≡ firstBelow n (pairFieldFault (now (b .entry))) ⌝ }
 {
     let mut ids = [0u32; 200];
     let mut i: usize = 0;
     while i < n {
-        let place = layout::pair_place(i);
+        let place = layout::pair_place(version, i);
         match framing::field(b, place, layout::PAIR_TAG, layout::PAIR_LENGTH) {
             Verdict::Faulty(why) => {
                 return Found::Fault(why, place);
@@ -49,7 +76,7 @@ fn pairs(b: &[u8], n: usize) -> Found
             Verdict::Sound => {}
         }
         ids[i] = framing::number(b, place + layout::ID_AT, 4) as u32;
-        match pair_value(b, i, &ids) {
+        match pair_value(b, version, i, &ids) {
             Verdict::Faulty(why) => {
                 return Found::Fault(why, place);
             }
@@ -61,18 +88,19 @@ fn pairs(b: &[u8], n: usize) -> Found
 }
 
 // The shuffle's field, then 8.
-fn shuffle_field(b: &[u8], n: usize) -> Verdict
-    requires { ⌜ n ≤ 200 ⌝ }
-    ensures { λ r. ⌜ faultAt (pairPlace n) r ≡ shuffleFieldFault (now (b .entry)) n ⌝ }
+fn shuffle_field(b: &[u8], version: u16, n: usize) -> Verdict
+    requires { ⌜ (n ≤ 200) × (version ≡ versionIn (now b)) ⌝ }
+    ensures { λ r. ⌜ faultAt (pairDue (now (b .entry)) n) r ≡ shuffleFieldFault (now (b .entry)) n ⌝ }
 {
-    match framing::field(b, layout::pair_place(n), layout::SHUFFLE_TAG, 2 * n) {
+    let o = layout::pair_place(version, n);
+    match framing::field(b, o, layout::SHUFFLE_TAG, 2 * n) {
         Verdict::Faulty(why) => {
             return Verdict::Faulty(why);
         }
         Verdict::Sound => {}
     }
     let mut drawn = [0u16; 200];
-    columns::fill_shuffle(b, n, &mut drawn);
+    columns::fill_numbers(b, o, n, &mut drawn);
     checks::shuffle(&drawn, n)
 }
 
@@ -86,21 +114,28 @@ pub fn check(b: &[u8]) -> Found
         }
         Verdict::Sound => {}
     }
+    let version = framing::version_in(b);
+    match points_field(b, version) {
+        Verdict::Faulty(why) => {
+            return Found::Fault(why, layout::POINTS_PLACE);
+        }
+        Verdict::Sound => {}
+    }
     let n = framing::pairs_in(b);
-    match pairs(b, n) {
+    match pairs(b, version, n) {
         Found::Fault(why, place) => {
             return Found::Fault(why, place);
         }
         Found::Nothing => {}
     }
-    let o = layout::pair_place(n);
-    match shuffle_field(b, n) {
+    let o = layout::pair_place(version, n);
+    match shuffle_field(b, version, n) {
         Verdict::Faulty(why) => {
             return Found::Fault(why, o);
         }
         Verdict::Sound => {}
     }
-    let end = layout::sheet_length(n);
+    let end = layout::sheet_length(version, n);
     if end < b.len() {
         return Found::Fault(Refusal::LeftOver, end);
     }

@@ -1,6 +1,6 @@
 // Pairs to try, and the tables that building makes of them: the documents' edge examples, antigens that both or only the patient has, every two blood
-// groups, antigens and antibodies at both ends of the laboratory's list, the limits, and each refusal. What it prints is held to the file 'stdout'.
-// Every lent entry holds 99 before a call, and the first one past the filled part is printed too.
+// groups, antigens and antibodies at both ends of the laboratory's list, two registries' own points, the limits, and each refusal. What it prints is held
+// to the file 'stdout'. Every lent entry holds 99 before a call, and the first one past the filled part is printed too.
 use refusal::Refusal;
 use weighing::Building;
 ghost use Prim.Native.Nat.{_≤_};
@@ -81,8 +81,16 @@ fn of_tissue(donor_antigens: u64, patient_antigens: u64, patient_antibodies: u64
     }
 }
 
-// Builds the tables of n pairs, n up to 2, of which the second has this id.
-fn build_two(n: usize, second_id: u32, edge: Edge, m: &mut [u8], w: &mut [u16]) -> Building {
+// Builds the tables of n pairs, n up to 2, of which the second has this id, by the points of this version.
+fn build_two(
+    version: u16,
+    n: usize,
+    points: &[u16],
+    second_id: u32,
+    edge: Edge,
+    m: &mut [u8],
+    w: &mut [u16],
+) -> Building {
     let ids = [1, second_id];
     let donor_blood = [edge.donor_blood, 0];
     let patient_blood = [0, edge.patient_blood];
@@ -92,7 +100,9 @@ fn build_two(n: usize, second_id: u32, edge: Edge, m: &mut [u8], w: &mut [u16]) 
     let patient_antigens = [0, edge.patient_antigens];
     let patient_antibodies = [0, edge.patient_antibodies];
     weighing::build(
+        version,
         n,
+        points,
         &ids,
         &donor_blood,
         &patient_blood,
@@ -108,7 +118,9 @@ fn build_two(n: usize, second_id: u32, edge: Edge, m: &mut [u8], w: &mut [u16]) 
 
 // The same in the first entries of two tables.
 fn build_within(
+    version: u16,
     n: usize,
+    points: &[u16],
     second_id: u32,
     edge: Edge,
     m: &mut [u8],
@@ -118,7 +130,15 @@ fn build_within(
 ) -> Building
     requires { ⌜ («m_space» ≤ length (now m)) × («w_space» ≤ length (now w)) ⌝ }
 {
-    build_two(n, second_id, edge, &mut m[..m_space], &mut w[..w_space])
+    build_two(
+        version,
+        n,
+        points,
+        second_id,
+        edge,
+        &mut m[..m_space],
+        &mut w[..w_space],
+    )
 }
 
 // M's four entries and the one past them, then W's.
@@ -141,18 +161,50 @@ fn print_tables(m: [u8; 5], w: [u16; 5]) {
 }
 
 // What building answers and leaves where M has space for `m_space` entries and W for `w_space`.
-fn try_pairs(name: &[u8], n: usize, second_id: u32, edge: Edge, m_space: usize, w_space: usize)
+fn try_building(
+    name: &[u8],
+    version: u16,
+    n: usize,
+    points: &[u16],
+    second_id: u32,
+    edge: Edge,
+    m_space: usize,
+    w_space: usize,
+)
     requires { ⌜ («m_space» ≤ 5) × («w_space» ≤ 5) ⌝ }
 {
     let mut m = [99u8; 5];
     let mut w = [99u16; 5];
     print(name);
-    print_answer(build_within(n, second_id, edge, &mut m, m_space, &mut w, w_space));
+    print_answer(build_within(
+        version,
+        n,
+        points,
+        second_id,
+        edge,
+        &mut m,
+        m_space,
+        &mut w,
+        w_space,
+    ));
     print_tables(m, w);
+}
+
+// In version 1, with no table of points.
+fn try_pairs(name: &[u8], n: usize, second_id: u32, edge: Edge, m_space: usize, w_space: usize)
+    requires { ⌜ («m_space» ≤ 5) × («w_space» ≤ 5) ⌝ }
+{
+    let none = [0u16; 0];
+    try_building(name, 1, n, &none, second_id, edge, m_space, w_space);
 }
 
 fn try_edge(name: &[u8], edge: Edge) {
     try_pairs(name, 2, 2, edge, 5, 5);
+}
+
+// Two pairs by these points.
+fn try_points(name: &[u8], version: u16, points: &[u16], edge: Edge) {
+    try_building(name, version, 2, points, 2, edge, 5, 5);
 }
 
 // "0 mismatches, equal ages 1,450; 2 give 1,300; 3, young to senior 1,130; 4, the same 1,130; 5, senior to young 1,000", "read with the mismatches all
@@ -288,6 +340,145 @@ fn try_refusals() {
     );
 }
 
+// A registry's points, on every step.
+fn try_registry(points: &[u16]) {
+    try_points(
+        b"  0 mismatches, equal ages:",
+        2,
+        points,
+        weighed(1, 1, 7, 7),
+    );
+    try_points(
+        b"  0 mismatches, young to senior:",
+        2,
+        points,
+        weighed(0, 1, 7, 7),
+    );
+    try_points(
+        b"  0 mismatches, senior to young:",
+        2,
+        points,
+        weighed(1, 0, 7, 7),
+    );
+    try_points(
+        b"  1 mismatch, senior to young:",
+        2,
+        points,
+        weighed(1, 0, 1, 0),
+    );
+    try_points(
+        b"  2 mismatches, equal ages:",
+        2,
+        points,
+        weighed(0, 0, 3, 0),
+    );
+    try_points(
+        b"  3 mismatches, young to senior:",
+        2,
+        points,
+        weighed(0, 1, 7, 0),
+    );
+    try_points(
+        b"  4 mismatches, senior to young:",
+        2,
+        points,
+        weighed(1, 0, 15, 0),
+    );
+    try_points(
+        b"  5 mismatches, equal ages:",
+        2,
+        points,
+        weighed(1, 1, 31, 0),
+    );
+    try_points(
+        b"  5 mismatches, senior to young:",
+        2,
+        points,
+        weighed(1, 0, 31, 0),
+    );
+}
+
+// One registry whose steps rise, and one whose heaviest edge is as heavy as may be; then the first's points lent to version 1.
+fn try_registries() {
+    let rising = [2000u16, 0, 7, 300, 5, 90];
+    let heavy = [1u16, 60000, 40000, 20000, 5534, 5000, 99];
+    print(b"points 2,000 0 7 300 5 90\n");
+    try_registry(&rising);
+    print(b"points 1 60,000 40,000 20,000 5,534 5,000\n");
+    try_registry(&heavy);
+    print(b"version 1, where points are lent\n");
+    try_points(b"  six:", 1, &rising, weighed(0, 1, 7, 0));
+    try_points(b"  seven:", 1, &heavy, weighed(0, 1, 7, 0));
+    try_points(b"  five, all 0:", 1, &[0u16; 5], weighed(0, 1, 7, 0));
+}
+
+// What 14 lets pass, and what it refuses.
+fn try_limits_of_points() {
+    let edge = weighed(0, 0, 0, 0);
+    try_points(b"base 65,535 alone:", 2, &[65535u16, 0, 0, 0, 0, 0], edge);
+    try_points(b"base 0:", 2, &[0u16, 400, 250, 100, 50, 30], edge);
+    try_points(
+        b"65,535 by the third step:",
+        2,
+        &[1u16, 0, 0, 65534, 0, 0],
+        edge,
+    );
+    try_points(
+        b"65,536 by the third step:",
+        2,
+        &[2u16, 0, 0, 65534, 0, 0],
+        edge,
+    );
+    try_points(
+        b"65,535 by the last:",
+        2,
+        &[5u16, 7, 65000, 0, 0, 530],
+        edge,
+    );
+    try_points(
+        b"65,536 by the last:",
+        2,
+        &[5u16, 7, 65000, 0, 0, 531],
+        edge,
+    );
+}
+
+// What comes first of two: 3, 4, 9, 14, 6; and five points or a base of 0 with no pair.
+fn try_order() {
+    let sound = [1000u16, 400, 250, 100, 50, 30];
+    let zero = [0u16; 6];
+    let five = [0u16; 5];
+    let edge = of_blood(4, 0);
+    try_building(b"version 0 and 201 pairs:", 0, 201, &sound, 2, edge, 5, 5);
+    try_building(b"version 3:", 3, 2, &sound, 2, of_blood(0, 0), 5, 5);
+    try_building(b"201 pairs and five points:", 2, 201, &five, 2, edge, 5, 5);
+    try_building(
+        b"fields of two for three and base 0:",
+        2,
+        3,
+        &zero,
+        2,
+        edge,
+        5,
+        5,
+    );
+    try_building(b"five points and base 0:", 2, 2, &five, 2, edge, 5, 5);
+    try_building(b"five points and no pair:", 2, 0, &five, 2, edge, 5, 5);
+    try_building(b"base 0 and blood 4:", 2, 2, &zero, 2, edge, 5, 5);
+    try_building(b"base 0 and no pair:", 2, 0, &zero, 2, edge, 5, 5);
+    try_building(b"version 2 and blood 4:", 2, 2, &sound, 2, edge, 0, 0);
+    try_building(
+        b"version 2, M with space for three:",
+        2,
+        2,
+        &sound,
+        2,
+        of_blood(0, 0),
+        3,
+        4,
+    );
+}
+
 // Two hundred different ids.
 fn many_ids() -> [u32; 200] {
     let mut ids = [0u32; 200];
@@ -305,11 +496,14 @@ fn try_most() {
     let bloods = [3u8; 200];
     let ages = [1u8; 200];
     let none = [0u64; 200];
+    let points = [0u16; 0];
     let mut m = [99u8; 40001];
     let mut w = [99u16; 40001];
     print(b"200 pairs:");
     print_answer(weighing::build(
+        1,
         200,
+        &points,
         &ids,
         &bloods,
         &bloods,
@@ -346,5 +540,8 @@ fn main() {
     try_bloods();
     try_antibodies();
     try_refusals();
+    try_registries();
+    try_limits_of_points();
+    try_order();
     try_most();
 }

@@ -1,5 +1,6 @@
-// Sheets to try, and what joining them says (document 02, W-201): document 01's example with an addendum of one pair and of two, no pairs on either
-// side, the limits, and each refusal in its order. What it prints is held to the file 'stdout'. Every lent byte holds 99 before a call.
+// Sheets to try, and what joining them says (document 02, W-201 and W-205): document 01's example with an addendum of one pair and of two, no pairs on
+// either side, the same in version 2, the limits, versions and points that differ, and each refusal in its order. What it prints is held to the file
+// 'stdout'. Every lent byte holds 99 before a call.
 use joining::Joining;
 use refusal::Refusal;
 ghost use Prim.Native.Nat.{_+_, _≤_};
@@ -33,32 +34,68 @@ fn set(sheet: &mut [u8], at: usize, to: usize) {
     }
 }
 
-// The field of pair i, with this id, and its number in the shuffle of n; all else is 0.
-fn set_pair(sheet: &mut [u8], n: usize, i: usize, id: usize, drawn: usize)
-    requires { ⌜ (n ≤ 201) × (i ≤ 201) ⌝ }
+// Sets a number of two bytes.
+fn set_number(sheet: &mut [u8], at: usize, to: usize)
+    requires { ⌜ at ≤ 20 ⌝ }
 {
-    let at = 7 + 35 * i;
+    set(sheet, at, to / 256);
+    set(sheet, at + 1, to);
+}
+
+// Where the pairs begin in a sheet that says this version.
+fn start(version: usize) -> usize
+    ensures { λ r. ⌜ r ≤ 22 ⌝ }
+{
+    if version == 2 { 22 } else { 7 }
+}
+
+// Document 01's points, in the field of version 2.
+fn set_points(sheet: &mut [u8]) {
+    set(sheet, 7, 4);
+    set(sheet, 9, 12);
+    set_number(sheet, 10, 1000);
+    set_number(sheet, 12, 400);
+    set_number(sheet, 14, 250);
+    set_number(sheet, 16, 100);
+    set_number(sheet, 18, 50);
+    set_number(sheet, 20, 30);
+}
+
+// The head, and in version 2 the points.
+fn set_head(sheet: &mut [u8], version: usize, n: usize) {
+    set(sheet, 0, 1);
+    set(sheet, 2, 4);
+    set(sheet, 4, version);
+    set(sheet, 6, n);
+    if version == 2 {
+        set_points(sheet);
+    }
+}
+
+// The field of pair i, with this id, and its number in the shuffle of n; all else is 0.
+fn set_pair(sheet: &mut [u8], from: usize, n: usize, i: usize, id: usize, drawn: usize)
+    requires { ⌜ (from ≤ 22) × (n ≤ 201) × (i ≤ 201) ⌝ }
+{
+    let at = from + 35 * i;
     set(sheet, at, 2);
     set(sheet, at + 2, 32);
     set(sheet, at + 6, id);
-    set(sheet, 7 + 35 * n + 4 + 2 * i, drawn);
+    set(sheet, from + 35 * n + 4 + 2 * i, drawn);
 }
 
 // A sheet of n pairs with ids from `id` on, in zeros. The shuffle goes up from 0, or, where `turned`, down to it.
-fn fill(sheet: &mut [u8], n: usize, id: usize, turned: bool)
+fn fill(sheet: &mut [u8], version: usize, n: usize, id: usize, turned: bool)
     requires { ⌜ (n ≤ 201) × (id + n ≤ 256) ⌝ }
 {
-    set(sheet, 0, 1);
-    set(sheet, 2, 4);
-    set(sheet, 4, 1);
-    set(sheet, 6, n);
+    set_head(sheet, version, n);
+    let from = start(version);
     let mut i: usize = 0;
     while i < n {
         let drawn = if turned { n - 1 - i } else { i };
-        set_pair(sheet, n, i, id + i, drawn);
+        set_pair(sheet, from, n, i, id + i, drawn);
         i += 1;
     }
-    let last = 7 + 35 * n;
+    let last = from + 35 * n;
     set(sheet, last, 3);
     set(sheet, last + 1, 2 * n / 256);
     set(sheet, last + 2, 2 * n);
@@ -67,7 +104,7 @@ fn fill(sheet: &mut [u8], n: usize, id: usize, turned: bool)
 // Document 01's example: ids 11 and 12, A to B and B to A.
 fn example() -> [u8; 84] {
     let mut sheet = [0u8; 84];
-    fill(&mut sheet, 2, 11, false);
+    fill(&mut sheet, 1, 2, 11, false);
     set(&mut sheet, 14, 1);
     set(&mut sheet, 15, 2);
     set(&mut sheet, 49, 2);
@@ -75,14 +112,14 @@ fn example() -> [u8; 84] {
     sheet
 }
 
-// Where the last byte of pair i's id stands, or that of its number in the shuffle of n.
-fn place(n: usize, i: usize, shuffle: bool) -> usize
-    requires { ⌜ (n ≤ 255) × (i ≤ 255) ⌝ }
+// Where the last byte of pair i's id stands, or that of its number in the shuffle of n, in a sheet whose pairs begin at `from`.
+fn place(from: usize, n: usize, i: usize, shuffle: bool) -> usize
+    requires { ⌜ (from ≤ 22) × (n ≤ 255) × (i ≤ 255) ⌝ }
 {
     if shuffle {
-        11 + 35 * n + 2 * i
+        from + 4 + 35 * n + 2 * i
     } else {
-        13 + 35 * i
+        from + 6 + 35 * i
     }
 }
 
@@ -91,21 +128,23 @@ fn print_row(sheet: &[u8], n: usize, shuffle: bool)
     requires { ⌜ n ≤ 255 ⌝ }
 {
     print(b" |");
+    let from = start(byte(sheet, 4));
     let mut i: usize = 0;
     while i < n {
         if n < 6 || i == 0 || i + 1 == n {
-            print_number(byte(sheet, place(n, i, shuffle)));
+            print_number(byte(sheet, place(from, n, i, shuffle)));
         }
         i += 1;
     }
 }
 
-// What is in the buffer: N, the ids, the shuffle, and what stands past the sheet.
+// What is in the buffer: N and the version, the ids, the shuffle, and what stands past the sheet.
 fn print_sheet(out: &[u8], length: usize) {
     let n = byte(out, 6);
     print(b" |");
     print_number(n);
-    print(b" pairs");
+    print(b" pairs of version");
+    print_number(byte(out, 4));
     print_row(out, n, false);
     print_row(out, n, true);
     if length < out.len() {
@@ -160,9 +199,9 @@ fn try_same(name: &[u8], first: &[u8], second: &[u8], due: &[u8]) {
 fn try_addenda() {
     let sheet = example();
     let mut one = [0u8; 47];
-    fill(&mut one, 1, 13, false);
+    fill(&mut one, 1, 1, 13, false);
     let mut two = [0u8; 84];
-    fill(&mut two, 2, 13, true);
+    fill(&mut two, 1, 2, 13, true);
     let mut out = [99u8; 122];
     try_joining(b"an addendum of one pair:", &sheet, &one, &mut out);
     let mut more = [99u8; 159];
@@ -178,7 +217,7 @@ fn try_addenda() {
 fn try_empty() {
     let sheet = example();
     let mut none = [0u8; 10];
-    fill(&mut none, 0, 0, false);
+    fill(&mut none, 1, 0, 0, false);
     try_same(b"no pairs in the addendum:", &sheet, &none, &sheet);
     try_same(b"no pairs in the first:", &none, &sheet, &sheet);
     try_same(b"no pairs in either:", &none, &none, &none);
@@ -188,7 +227,7 @@ fn try_empty() {
 fn try_buffers() {
     let sheet = example();
     let mut one = [0u8; 47];
-    fill(&mut one, 1, 13, false);
+    fill(&mut one, 1, 1, 13, false);
     let mut out = [99u8; 121];
     try_joining(b"a buffer just long enough:", &sheet, &one, &mut out);
     let mut short = [99u8; 120];
@@ -197,29 +236,38 @@ fn try_buffers() {
     try_joining(b"no buffer:", &sheet, &one, &mut nothing);
 }
 
-// 200 pairs together.
-fn try_200() {
-    let mut first = [0u8; 3710];
-    fill(&mut first, 100, 0, true);
-    let mut second = [0u8; 3710];
-    fill(&mut second, 100, 100, false);
-    let mut out = [99u8; 7411];
-    try_joining(b"100 and 100 pairs:", &first, &second, &mut out);
+// 200 pairs together, in two sheets of so many bytes, into a buffer a byte longer than need be and into none.
+fn try_200(name: &[u8], version: usize, size: usize)
+    requires { ⌜ size ≤ 3725 ⌝ }
+{
+    let mut first = [0u8; 3725];
+    fill(&mut first, version, 100, 0, true);
+    let mut second = [0u8; 3725];
+    fill(&mut second, version, 100, 100, false);
+    let mut out = [99u8; 7426];
+    try_joining(name, &first[..size], &second[..size], &mut out);
     let mut nothing = [99u8; 0];
-    try_joining(b"  no buffer:", &first, &second, &mut nothing);
+    try_joining(
+        b"  no buffer:",
+        &first[..size],
+        &second[..size],
+        &mut nothing,
+    );
 }
 
-// 201 pairs together, the last of the second with this id, into a buffer that would hold them and into none.
-fn try_201(name: &[u8], id: usize) {
+// 201 pairs together, the second's of this version, in so many bytes, with this id in its last pair, into a buffer that would hold them and into none.
+fn try_201(name: &[u8], version: usize, size: usize, id: usize)
+    requires { ⌜ size ≤ 3762 ⌝ }
+{
     let mut first = [0u8; 3710];
-    fill(&mut first, 100, 0, true);
-    let mut second = [0u8; 3747];
-    fill(&mut second, 101, 100, false);
-    set(&mut second, 13 + 35 * 100, id);
+    fill(&mut first, 1, 100, 0, true);
+    let mut second = [0u8; 3762];
+    fill(&mut second, version, 101, 100, false);
+    set(&mut second, start(version) + 6 + 35 * 100, id);
     let mut out = [99u8; 7447];
-    try_joining(name, &first, &second, &mut out);
+    try_joining(name, &first, &second[..size], &mut out);
     let mut nothing = [99u8; 0];
-    try_joining(b"  no buffer:", &first, &second, &mut nothing);
+    try_joining(b"  no buffer:", &first, &second[..size], &mut nothing);
 }
 
 // A fault of the first sheet, of the second, and of both. The buffer is too short as well.
@@ -228,7 +276,7 @@ fn try_own_faults() {
     let mut wrong = example();
     set(&mut wrong, 49, 4);
     let mut long = [0u8; 48];
-    fill(&mut long, 1, 13, false);
+    fill(&mut long, 1, 1, 13, false);
     let mut out = [99u8; 9];
     try_joining(b"blood 4 in the first:", &wrong, &sheet, &mut out);
     try_joining(b"a byte too many in the second:", &sheet, &long, &mut out);
@@ -240,9 +288,9 @@ fn try_own_faults() {
 fn try_shared() {
     let sheet = example();
     let mut one = [0u8; 47];
-    fill(&mut one, 1, 12, false);
+    fill(&mut one, 1, 1, 12, false);
     let mut long = [0u8; 48];
-    fill(&mut long, 1, 12, false);
+    fill(&mut long, 1, 1, 12, false);
     let mut out = [99u8; 122];
     try_joining(
         b"an id in both, and a byte too many:",
@@ -254,13 +302,155 @@ fn try_shared() {
     try_joining(b"a sheet with itself:", &sheet, &sheet, &mut out);
 }
 
+// Version 2: an addendum, and no pairs on either side.
+fn try_second() {
+    let mut sheet = [0u8; 99];
+    fill(&mut sheet, 2, 2, 11, true);
+    let mut one = [0u8; 62];
+    fill(&mut one, 2, 1, 13, false);
+    let mut none = [0u8; 25];
+    fill(&mut none, 2, 0, 0, false);
+    let mut out = [99u8; 137];
+    try_joining(
+        b"version 2, an addendum of one pair:",
+        &sheet,
+        &one,
+        &mut out,
+    );
+    let mut short = [99u8; 135];
+    try_joining(
+        b"version 2, a buffer a byte too short:",
+        &sheet,
+        &one,
+        &mut short,
+    );
+    try_same(
+        b"version 2, no pairs in the addendum:",
+        &sheet,
+        &none,
+        &sheet,
+    );
+    try_same(b"version 2, no pairs in the first:", &none, &sheet, &sheet);
+}
+
+// "A joined sheet needs equal versions and points, with N = 0 too": version 1 beside version 2 with document 01's points.
+fn try_versions() {
+    let sheet = example();
+    let mut one = [0u8; 62];
+    fill(&mut one, 2, 1, 13, false);
+    let mut none = [0u8; 10];
+    fill(&mut none, 1, 0, 0, false);
+    let mut no_more = [0u8; 25];
+    fill(&mut no_more, 2, 0, 0, false);
+    let mut out = [99u8; 200];
+    try_joining(b"versions 1 and 2:", &sheet, &one, &mut out);
+    try_joining(b"versions 2 and 1:", &one, &sheet, &mut out);
+    try_joining(
+        b"versions 1 and 2, no pairs in the second:",
+        &sheet,
+        &no_more,
+        &mut out,
+    );
+    try_joining(
+        b"versions 1 and 2, no pairs in the first:",
+        &none,
+        &one,
+        &mut out,
+    );
+    try_joining(
+        b"versions 1 and 2, no pairs in either:",
+        &none,
+        &no_more,
+        &mut out,
+    );
+}
+
+// Points of which one is one more, with pairs and with none.
+fn try_point(k: usize)
+    requires { ⌜ k ≤ 6 ⌝ }
+{
+    let mut sheet = [0u8; 62];
+    fill(&mut sheet, 2, 1, 13, false);
+    let mut other = [0u8; 62];
+    fill(&mut other, 2, 1, 14, false);
+    set(&mut other, 11 + 2 * k, byte(&sheet, 11 + 2 * k) + 1);
+    let mut none = [0u8; 25];
+    fill(&mut none, 2, 0, 0, false);
+    let mut out = [99u8; 100];
+    print(b"point");
+    print_number(k);
+    try_joining(b" one more:", &sheet, &other, &mut out);
+    try_joining(b"  with no pairs:", &none, &other, &mut out);
+}
+
+// 15 beside an id in both; the buffer is too short as well.
+fn try_before_eleven() {
+    let mut sheet = [0u8; 62];
+    fill(&mut sheet, 2, 1, 12, false);
+    let mut other = [0u8; 62];
+    fill(&mut other, 2, 1, 12, false);
+    set(&mut other, 21, 31);
+    let mut out = [99u8; 9];
+    try_joining(b"an id in both:", &sheet, &sheet, &mut out);
+    try_joining(
+        b"an id in both, and another point:",
+        &sheet,
+        &other,
+        &mut out,
+    );
+    try_joining(
+        b"an id in both, and another version:",
+        &example(),
+        &sheet,
+        &mut out,
+    );
+}
+
+// 15 beside a sheet's own fault.
+fn try_after_fourteen() {
+    let sheet = example();
+    let mut other = [0u8; 62];
+    fill(&mut other, 2, 1, 12, false);
+    set_number(&mut other, 10, 0);
+    let mut out = [99u8; 9];
+    try_joining(
+        b"base 0 in the second, and another version:",
+        &sheet,
+        &other,
+        &mut out,
+    );
+    try_joining(
+        b"base 0 in the first, and another version:",
+        &other,
+        &sheet,
+        &mut out,
+    );
+}
+
 fn main() {
     try_addenda();
     try_empty();
     try_buffers();
-    try_200();
-    try_201(b"100 and 101 pairs:", 200);
-    try_201(b"100 and 101 pairs, an id in both:", 99);
+    try_200(b"100 and 100 pairs:", 1, 3710);
+    try_200(b"100 and 100 pairs of version 2:", 2, 3725);
+    try_201(b"100 and 101 pairs:", 1, 3747, 200);
+    try_201(b"100 and 101 pairs, an id in both:", 1, 3747, 99);
+    try_201(
+        b"100 and 101 pairs, an id in both, and another version:",
+        2,
+        3762,
+        99,
+    );
     try_own_faults();
     try_shared();
+    try_second();
+    try_versions();
+    try_point(0);
+    try_point(1);
+    try_point(2);
+    try_point(3);
+    try_point(4);
+    try_point(5);
+    try_before_eleven();
+    try_after_fourteen();
 }

@@ -28,13 +28,13 @@ pub kept : {Given Result Left : Type 0} (numbers : Answer Result → Given) (Are
     → Ensures numbers Are Promised r left due
 kept numbers Are Promised e are w p = rw (← w) ((e, are), (refl, p))
 
-pub kept-built : {n : ℕ} {f : Fields} {old new : Graph} {a : Answer (Unit {0})} {r : BuildAnswer} {due : Outcome (Unit {0}) Graph}
+pub kept-built : {v n : ℕ} {l : List ℕ} {f : Fields} {old new : Graph} {a : Answer (Unit {0})} {r : BuildAnswer} {due : Outcome (Unit {0}) Graph}
     → r ≡ buildNumbers a
     → NumberedAt0 a
     → outcome a new ≡ due
-    → BuildsRightly n f old (outcome a new)
-    → Ensures buildNumbers NumberedAt0 (BuildsRightly n f old) r new due
-kept-built {n} {f} {old} = kept buildNumbers NumberedAt0 (BuildsRightly n f old)
+    → BuildsRightly v n l f old (outcome a new)
+    → Ensures buildNumbers NumberedAt0 (BuildsRightly v n l f old) r new due
+kept-built {v} {n} {l} {f} {old} = kept buildNumbers NumberedAt0 (BuildsRightly v n l f old)
 
 pub kept-plan : {q : Request} {t left : Lent} {a : Answer Plan} {r : PlanAnswer}
     → r ≡ planNumbers a

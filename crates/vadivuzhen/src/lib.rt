@@ -12,7 +12,6 @@ ghost use Rattle.pool.specs.Calls.{reading, writing};
 ghost use Rattle.pool.specs.Promises.{ReadsRightly, WritesRightly};
 ghost use Rattle.pool.specs.Joining.{joining};
 ghost use Rattle.pool.specs.Joinable.{JoinsRightly};
-ghost use Rattle.donation.specs.Weight.{documentPoints};
 ghost use Rattle.graph.specs.Lent.{lentGraph};
 ghost use Rattle.weighing.specs.Building.{building};
 ghost use Rattle.weighing.specs.Promises.{BuildsRightly};
@@ -29,10 +28,11 @@ ghost use Rattle.numbers.specs.Promises.{Numbered, NumberedAt0};
 // Each contract says: the numbers are those of the answer that is due, and of no other; all that was lent is left as is due; and the call's promise holds
 // of that answer.
 
-// Reads a sheet into the lent tables.
+// Reads a sheet into the lent tables. Of version 1 that of the points is left as it is.
 #[no_mangle]
 pub extern "C" fn vadivuzhen_read(
     sheet: &[u8],
+    points: &mut [u16],
     ids: &mut [u32],
     donor_blood: &mut [u8],
     patient_blood: &mut [u8],
@@ -44,7 +44,7 @@ pub extern "C" fn vadivuzhen_read(
     shuffle: &mut [u16],
 ) -> ReadAnswer
     ensures { λ r.
-        let t = lentTables ids «donor_blood» «patient_blood» «donor_age» «patient_age»
+        let t = lentTables points ids «donor_blood» «patient_blood» «donor_age» «patient_age»
         «donor_antigens» «patient_antigens» «patient_antibodies» shuffle in
         let due = reading (now (sheet .entry)) (t .entry) in
         ⌜ (r ≡ readNumbers (due .answer)) × Numbered (due .answer) ⌝
@@ -53,6 +53,7 @@ pub extern "C" fn vadivuzhen_read(
 {
     let answer = reader::read(
         sheet,
+        points,
         ids,
         donor_blood,
         patient_blood,
@@ -66,10 +67,12 @@ pub extern "C" fn vadivuzhen_read(
     numbers::read_numbers(answer)
 }
 
-// Writes the pool in the first n entries of the tables as a sheet into the lent buffer.
+// Writes the pool of this version in the first n entries of the tables as a sheet into the lent buffer. Of version 1 the points are not looked at.
 #[no_mangle]
 pub extern "C" fn vadivuzhen_write(
+    version: u16,
     n: usize,
+    points: &[u16],
     ids: &[u32],
     donor_blood: &[u8],
     patient_blood: &[u8],
@@ -82,15 +85,17 @@ pub extern "C" fn vadivuzhen_write(
     out: &mut [u8],
 ) -> WriteAnswer
     ensures { λ r.
-        let t = lentTables ids «donor_blood» «patient_blood» «donor_age» «patient_age»
+        let t = lentTables points ids «donor_blood» «patient_blood» «donor_age» «patient_age»
         «donor_antigens» «patient_antigens» «patient_antibodies» shuffle in
-        let due = writing n (t .entry) (now (out .entry)) in
+        let due = writing version n (t .entry) (now (out .entry)) in
         ⌜ (r ≡ writeNumbers (due .answer)) × NumberedAt0 (due .answer) ⌝
         ∗ ⌜ now (out .exit) ≡ due .lent ⌝
-        ∗ ⌜ WritesRightly n (t .entry) (now (out .entry)) due ⌝ }
+        ∗ ⌜ WritesRightly version n (t .entry) (now (out .entry)) due ⌝ }
 {
     let answer = writer::write(
+        version,
         n,
+        points,
         ids,
         donor_blood,
         patient_blood,
@@ -117,10 +122,12 @@ pub extern "C" fn vadivuzhen_join(first: &[u8], second: &[u8], out: &mut [u8]) -
     numbers::join_numbers(joining::join(first, second, out))
 }
 
-// Builds the tables M and W from the first n entries of a pool's fields.
+// Builds the tables M and W from the first n entries of a pool's fields, by its own points in version 2 and by document 01's in version 1.
 #[no_mangle]
 pub extern "C" fn vadivuzhen_build(
+    version: u16,
     n: usize,
+    points: &[u16],
     ids: &[u32],
     donor_blood: &[u8],
     patient_blood: &[u8],
@@ -136,13 +143,15 @@ pub extern "C" fn vadivuzhen_build(
         let f = lentFields ids «donor_blood» «patient_blood» «donor_age» «patient_age»
         «donor_antigens» «patient_antigens» «patient_antibodies» in
         let g = lentGraph compatibilities weights in
-        let due = building documentPoints n (f .entry) (g .entry) in
+        let due = building version n (now (points .entry)) (f .entry) (g .entry) in
         ⌜ (r ≡ buildNumbers (due .answer)) × NumberedAt0 (due .answer) ⌝
         ∗ ⌜ g .exit ≡ due .lent ⌝
-        ∗ ⌜ BuildsRightly n (f .entry) (g .entry) due ⌝ }
+        ∗ ⌜ BuildsRightly version n (now (points .entry)) (f .entry) (g .entry) due ⌝ }
 {
     let answer = weighing::build(
+        version,
         n,
+        points,
         ids,
         donor_blood,
         patient_blood,

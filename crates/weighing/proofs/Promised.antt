@@ -1,6 +1,6 @@
 -- What is built, and the promise of the call. Assumes nothing.
 use mathlib.Core.Path.{_≡_, refl, sym, ap, subst, _∙_}
-use mathlib.Core.List.{[]}
+use mathlib.Core.List.{List, []}
 use Prim.Native.Nat.{ℕ, _≤_, _<_}
 use native.Mathlib.Omega.{arith}
 use lib.ListN.{length}
@@ -10,80 +10,97 @@ use Rattle.refusal.specs.declared.Refusal.{Refusal}
 use Rattle.refusal.specs.declared.Verdict.{Verdict}
 use Rattle.refusal.specs.declared.Verdict.the-variants.{Sound, Faulty}
 use Rattle.refusal.proofs.Faults.{sound-none, faulty-fault, unless-none, unless-fault, finished-none, refused-fault}
+use Rattle.pool.specs.Points.{Points}
 use Rattle.pool.specs.Tables.{Fields, fields, pairIn}
+use Rattle.pool.specs.Faultless.{SoundPoints, pointsOfTable}
+use Rattle.pool.proofs.Points.{sound-heaviest}
 use Rattle.donation.specs.Compatibility.{compatibility}
-use Rattle.donation.specs.Weight.{documentPoints, weight}
+use Rattle.donation.specs.Weight.{weight}
 use Rattle.graph.specs.Graph.{Graph, filledGraph}
 use Rattle.weighing.specs.Building.{buildFault, building}
 use Rattle.weighing.specs.Answers.{answerOf}
 use Rattle.graph.specs.Preconditions.{Buildable}
 use Rattle.weighing.specs.declared.Building.the-variants.{Built, Refused}
-use Rattle.weighing.specs.Promises.{entryAt, Entries, DonorsSide, Plannable, BuildsRightly}
+use Rattle.weighing.specs.Promises.{FaultlessFields, Fit, entryAt, Entries, DonorsSide, Plannable, BuildsRightly}
 use Rattle.donation.proofs.Compatible.{compatibility-most, compatibility-same}
-use Rattle.donation.proofs.Points.{weight-same, weight-alike, weight-counted, document-least, document-most, document-some}
+use Rattle.donation.proofs.Points.{weight-same, weight-least, weight-most, weight-alike, weight-counted}
 use Rattle.graph.proofs.Rows.{rows-entry}
-use Rattle.weighing.proofs.Faults.{build-none, build-passed, build-fault}
+use Rattle.weighing.proofs.Faults.{build-none, build-passed, build-fault, first-weighed, first-fault}
 
--- ## What is built
+-- ## What is built, by points q
 
-module _ (n : ℕ) (f : Fields) (old : Graph) where
-  filled-entries : Entries n f (filledGraph documentPoints n (pairIn f) old)
+module _ (q : Points) (n : ℕ) (f : Fields) where
+  filled-entries : (old : Graph) → Entries q n f (filledGraph q n (pairIn f) old)
   unfolding filledGraph
-  filled-entries = record { compatibilities = rows-entry n (compatibility (pairIn f)) _; weights = rows-entry n (weight documentPoints (pairIn f)) _ }
+  filled-entries old = record { compatibilities = rows-entry n (compatibility (pairIn f)) _; weights = rows-entry n (weight q (pairIn f)) _ }
 
-  entries-donorsSide : (g : Graph) → Entries n f g → DonorsSide n f g
+  entries-donorsSide : (g : Graph) → Entries q n f g → DonorsSide q n f g
   entries-donorsSide g e =
       let p = pairIn f in
       let W = e .weights in
       record {
-        counted = λ count c i j l m h. W i j l m ∙ weight-counted documentPoints p i count c j h;
-        alike = λ i j k l m q a b s t. W i j l m ∙ weight-alike documentPoints p i j k a b s t ∙ sym (W i k l q);
+        counted = λ count c i j l m h. W i j l m ∙ weight-counted q p i count c j h;
+        alike = λ i j k l m o a b s t. W i j l m ∙ weight-alike q p i j k a b s t ∙ sym (W i k l o);
       }
 
-  entries-plannable : (g : Graph) → Entries n f g → Plannable n g
-  entries-plannable g e =
+  entries-plannable : SoundPoints q → (g : Graph) → Entries q n f g → Plannable q n g
+  entries-plannable sound g e =
       let p = pairIn f in
       let M = e .compatibilities in
       let W = e .weights in
-      let least : (i j : ℕ) → i < n → j < n → (i ≡ j → ⊥) → documentPoints .base ≤ entryAt (g .weights) n i j =
-      λ i j l m h. rw (W i j l m) (document-least p i j h) in
+      let least : (i j : ℕ) → i < n → j < n → (i ≡ j → ⊥) → q .base ≤ entryAt (g .weights) n i j =
+      λ i j l m h. rw (W i j l m) (weight-least q p i j h) in
       record {
         zeroOrOne = λ i j l m. rw (M i j l m) (compatibility-most p i j);
         ownCompatibility = λ i l. M i i l l ∙ compatibility-same p i i refl;
-        ownWeight = λ i l. W i i l l ∙ weight-same documentPoints p i i refl;
+        ownWeight = λ i l. W i i l l ∙ weight-same q p i i refl;
         least = least;
-        most = λ i j l m h. rw (W i j l m) (document-most p i j h);
+        most = λ i j l m h. rw (W i j l m) (weight-most q p i j h);
+        fits = sound-heaviest q sound;
         noneWeightless =
             λ i j l m h.
-            omega (arith, document-some, least i j l m (λ e. omega (arith, sym (M i j l m) ∙ h, compatibility-same p i j e)));
+            omega (arith, sound .base, least i j l m (λ e. omega (arith, sym (M i j l m) ∙ h, compatibility-same p i j e)));
       }
 
+-- ## The promise
+
+module _ (v n : ℕ) (l : List ℕ) (f : Fields) (old : Graph) where
+  abbrev weighed : Points
+  weighed = pointsOfTable v l
+
   -- built, the tables are filled
-  built-lent : building documentPoints n f old .answer ≡ finished tt → building documentPoints n f old .lent ≡ filledGraph documentPoints n (pairIn f) old
+  built-lent : building v n l f old .answer ≡ finished tt → building v n l f old .lent ≡ filledGraph weighed n (pairIn f) old
   unfolding building
   built-lent e = ap (λ (o : Outcome (Unit {0}) Graph). o .lent) (unless-none _ _ _ _ (finished-none _ _ _ _ e .0))
 
-  builds-rightly : BuildsRightly n f old (building documentPoints n f old)
+  building-unread : v ≡ 1 → (other : List ℕ) → building v n l f old ≡ building v n other f old
+  unfolding building
+  building-unread e other = rw (first-fault v n l other e f (length (old .compatibilities)) (length (old .weights)), first-weighed v n l other e)
+
+  builds-rightly : BuildsRightly v n l f old (building v n l f old)
   unfolding building
   builds-rightly =
-      let there : building documentPoints n f old .answer ≡ finished tt → Entries n f (building documentPoints n f old .lent) =
-      λ e. rw (built-lent e) filled-entries in
+      let there : building v n l f old .answer ≡ finished tt → Entries weighed n f (building v n l f old .lent) =
+      λ e. rw (built-lent e) (filled-entries weighed n f old) in
+      let passed : building v n l f old .answer ≡ finished tt → FaultlessFields v n l f × Fit n old =
+      λ e. build-passed v n l f old (finished-none _ _ _ _ e .0) in
       record {
-        accepts = λ w h. ap (λ (o : Outcome (Unit {0}) Graph). o .answer) (unless-none _ _ _ _ (build-none n f old w h));
-        accepted = λ e. build-passed n f old (finished-none _ _ _ _ e .0);
+        accepts = λ w h. ap (λ (o : Outcome (Unit {0}) Graph). o .answer) (unless-none _ _ _ _ (build-none v n l f old w h));
+        accepted = passed;
         refuses =
             λ k o e.
             let g = refused-fault _ _ _ _ e in
-            let d = build-fault n f old k o g in
+            let d = build-fault v n l f old k o g in
             (d .0, d .1, ap (λ (x : Outcome (Unit {0}) Graph). x .lent) (unless-fault _ _ _ _ k o g));
         built = there;
-        donorsSide = λ e. entries-donorsSide _ (there e);
-        plannable = λ e. entries-plannable _ (there e);
+        donorsSide = λ e. entries-donorsSide weighed n f _ (there e);
+        plannable = λ e. entries-plannable weighed n f (passed e .0 .points) _ (there e);
+        unread = building-unread;
       }
 
   -- an answer and tables that are building's have its promise
-  pub rightly : (a : Answer (Unit {0})) (new : Graph) → outcome a new ≡ building documentPoints n f old → BuildsRightly n f old (outcome a new)
-  rightly a new e = subst (λ (o : Outcome (Unit {0}) Graph). BuildsRightly n f old o) (sym e) builds-rightly
+  pub rightly : (a : Answer (Unit {0})) (new : Graph) → outcome a new ≡ building v n l f old → BuildsRightly v n l f old (outcome a new)
+  rightly a new e = subst (λ (o : Outcome (Unit {0}) Graph). BuildsRightly v n l f old o) (sym e) builds-rightly
 
 -- ## The call, by what `judge` found
 
@@ -92,41 +109,47 @@ abbrev pub idless : Fields → Fields
 idless f =
     fields [] (f .donorBlood) (f .patientBlood) (f .donorAge) (f .patientAge) (f .donorAntigens) (f .patientAntigens) (f .patientAntibodies)
 
-module _ (n : ℕ) (f : Fields) (old : Graph) (found : Verdict)
-    (e : faultAt 0 found ≡ buildFault n f (length (old .compatibilities)) (length (old .weights))) where
-  pub call-refused : (why : Refusal) → found ≡ Faulty why → outcome (answerOf (Refused why)) old ≡ building documentPoints n f old
+module _ (v n : ℕ) (l : List ℕ) (f : Fields) (old : Graph) (found : Verdict)
+    (e : faultAt 0 found ≡ buildFault v n l f (length (old .compatibilities)) (length (old .weights))) where
+  pub call-refused : (why : Refusal) → found ≡ Faulty why → outcome (answerOf (Refused why)) old ≡ building v n l f old
   unfolding building answerOf
-  call-refused why h = sym (unless-fault _ tt (filledGraph documentPoints n (pairIn f) old) old (numberOf why) 0 (faulty-fault 0 found e why h))
+  call-refused why h = sym (unless-fault _ tt (filledGraph (pointsOfTable v l) n (pairIn f) old) old (numberOf why) 0 (faulty-fault 0 found e why h))
 
   module _ (h : found ≡ Sound) where
-    pub call-buildable : Buildable n (idless f) old
-    unfolding pairIn
-    call-buildable =
-        let p = build-passed n f old (sound-none 0 found e h) in
-        let w = p .0 in
-        record {
-          few = w .few;
-          forM =
-              record {
-                inDonorBlood = w .hold .donorBlood;
-                inPatientBlood = w .hold .patientBlood;
-                inDonorAntigens = w .hold .donorAntigens;
-                inPatientAntibodies = w .hold .patientAntibodies;
-                donorGroup = λ i l. w .inRange i l .donorBlood;
-                patientGroup = λ j l. w .inRange j l .patientBlood;
-              };
-          forW =
-              record {
-                inDonorAge = w .hold .donorAge;
-                inPatientAge = w .hold .patientAge;
-                inDonorAntigens = w .hold .donorAntigens;
-                inPatientAntigens = w .hold .patientAntigens;
-              };
-          inCompatibilities = p .1 .compatibilities;
-          inWeights = p .1 .weights;
-        }
+    passed : FaultlessFields v n l f × Fit n old
+    passed = build-passed v n l f old (sound-none 0 found e h)
 
-    pub call-built : (new : Graph) → new ≡ filledGraph documentPoints n (pairIn (idless f)) old → outcome (answerOf Built) new ≡ building documentPoints n f old
-    unfolding building answerOf filledGraph compatibility weight pairIn
-    call-built new g =
-        ap (outcome (finished tt)) g ∙ sym (unless-none _ tt (filledGraph documentPoints n (pairIn f) old) old (sound-none 0 found e h))
+    -- q is what the pool is weighed by
+    module _ (q : Points) (r : q ≡ pointsOfTable v l) where
+      pub call-buildable : Buildable q n (idless f) old
+      unfolding pairIn
+      call-buildable =
+          let w = passed .0 in
+          record {
+            few = w .few;
+            forM =
+                record {
+                  inDonorBlood = w .hold .donorBlood;
+                  inPatientBlood = w .hold .patientBlood;
+                  inDonorAntigens = w .hold .donorAntigens;
+                  inPatientAntibodies = w .hold .patientAntibodies;
+                  donorGroup = λ i l. w .inRange i l .donorBlood;
+                  patientGroup = λ j l. w .inRange j l .patientBlood;
+                };
+            forW =
+                record {
+                  inDonorAge = w .hold .donorAge;
+                  inPatientAge = w .hold .patientAge;
+                  inDonorAntigens = w .hold .donorAntigens;
+                  inPatientAntigens = w .hold .patientAntigens;
+                };
+            inCompatibilities = passed .1 .compatibilities;
+            inWeights = passed .1 .weights;
+            points = subst SoundPoints (sym r) (w .points);
+          }
+
+      pub call-built : (new : Graph) → new ≡ filledGraph q n (pairIn (idless f)) old → outcome (answerOf Built) new ≡ building v n l f old
+      unfolding building answerOf filledGraph compatibility weight pairIn
+      call-built new g =
+          ap (outcome (finished tt)) (g ∙ ap (λ (p : Points). filledGraph p n (pairIn f) old) r)
+          ∙ sym (unless-none _ tt (filledGraph (pointsOfTable v l) n (pairIn f) old) old (sound-none 0 found e h))

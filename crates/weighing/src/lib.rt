@@ -1,12 +1,11 @@
-// Building (document 01, 'Compatibility and weight'): the tables M and W from a pool's fields. All is checked before anything is filled, so that
-// a refusal leaves both tables as they were.
+// Building (document 01, 'Compatibility and weight'): the tables M and W from a pool's fields, weighed by the points of its version (document 02,
+// W-205). All is checked before anything is filled, so that a refusal leaves both tables as they were.
 use refusal::Refusal;
 use refusal::Verdict;
 ghost use mathlib.Core.Path.{_≡_};
 ghost use Rattle.refusal.specs.Answer.{outcome};
 ghost use Rattle.refusal.specs.Number.{faultAt};
 ghost use Rattle.pool.specs.Lent.{lentFields};
-ghost use Rattle.donation.specs.Weight.{documentPoints};
 ghost use Rattle.graph.specs.Lent.{lentGraph};
 ghost use Rattle.weighing.specs.Building.{buildFault, building};
 ghost use Rattle.weighing.specs.Answers.{answerOf};
@@ -18,9 +17,11 @@ pub enum Building {
     Refused(Refusal),
 }
 
-// 4, 9, 6 and 7 of the fields; then 9 of the tables to be filled, by their lengths.
+// 3, 4, 9, 14, 6 and 7 of the fields and the points; then 9 of the tables to be filled, by their lengths.
 fn judge(
+    version: u16,
     n: usize,
+    points: &[u16],
     ids: &[u32],
     donor_blood: &[u8],
     patient_blood: &[u8],
@@ -34,7 +35,7 @@ fn judge(
 ) -> Verdict
     ensures { λ r.
         let f = lentFields ids «donor_blood» «patient_blood» «donor_age» «patient_age» «donor_antigens» «patient_antigens» «patient_antibodies» in
-        ⌜ faultAt 0 r ≡ buildFault n (f .entry) compatibilities weights ⌝ }
+        ⌜ faultAt 0 r ≡ buildFault version n (now (points .entry)) (f .entry) compatibilities weights ⌝ }
 {
     let space = checks::room(
         ids.len(),
@@ -47,8 +48,10 @@ fn judge(
         patient_antibodies.len(),
     );
     match checks::pairs(
+        version,
         n,
         space,
+        points,
         ids,
         donor_blood,
         patient_blood,
@@ -71,9 +74,12 @@ fn judge(
     Verdict::Sound
 }
 
-// Builds the tables M and W, N rows of N, from the first N entries of a pool's fields.
+// Builds the tables M and W, N rows of N, from the first N entries of a pool's fields. Version 2 is weighed by the six points lent, version 1 by
+// document 01's: "lent ones are neither read nor changed".
 pub fn build(
+    version: u16,
     n: usize,
+    points: &[u16],
     ids: &[u32],
     donor_blood: &[u8],
     patient_blood: &[u8],
@@ -88,11 +94,14 @@ pub fn build(
     ensures { λ r.
         let f = lentFields ids «donor_blood» «patient_blood» «donor_age» «patient_age» «donor_antigens» «patient_antigens» «patient_antibodies» in
         let g = lentGraph compatibilities weights in
-        ⌜ outcome (answerOf r) (g .exit) ≡ building documentPoints n (f .entry) (g .entry) ⌝
-        ∗ ⌜ BuildsRightly n (f .entry) (g .entry) (outcome (answerOf r) (g .exit)) ⌝ }
+        let p = now (points .entry) in
+        ⌜ outcome (answerOf r) (g .exit) ≡ building version n p (f .entry) (g .entry) ⌝
+        ∗ ⌜ BuildsRightly version n p (f .entry) (g .entry) (outcome (answerOf r) (g .exit)) ⌝ }
 {
     match judge(
+        version,
         n,
+        points,
         ids,
         donor_blood,
         patient_blood,
@@ -107,6 +116,7 @@ pub fn build(
         Verdict::Faulty(why) => Building::Refused(why),
         Verdict::Sound => {
             graph::fill(
+                donation::points_of(version, points),
                 n,
                 donor_blood,
                 patient_blood,

@@ -25,30 +25,30 @@ use Rattle.writer.specs.declared.Writing.{Writing}
 use Rattle.writer.specs.declared.Writing.the-variants.{Length, Refused}
 use Rattle.writer.specs.Answers.{answerOf}
 
-module _ (n : ℕ) (t : Tables) (out : List ℕ) (found : Verdict) (e : faultAt 0 found ≡ poolFault n t) where
-  pub answered-fault : (why : Refusal) → found ≡ Faulty why → outcome (answerOf (Refused why)) out ≡ writing n t out
+module _ (v n : ℕ) (t : Tables) (out : List ℕ) (found : Verdict) (e : faultAt 0 found ≡ poolFault v n t) where
+  pub answered-fault : (why : Refusal) → found ≡ Faulty why → outcome (answerOf (Refused why)) out ≡ writing v n t out
   unfolding answerOf writing
   answered-fault why f = sym (unless-fault _ _ _ _ (numberOf why) 0 (fault-then _ _ (faulty-fault 0 found e why f)))
 
   module _ (f : found ≡ Sound) where
-    pub answered-faultless : FaultlessPool n t
-    answered-faultless = pool-passed n t (sound-none 0 found e f)
+    pub answered-faultless : FaultlessPool v n t
+    answered-faultless = pool-passed v n t (sound-none 0 found e f)
 
-    module _ (long : ℕ) (g : long ≡ sheetLength n) where
-      pub answered-short : length out < long → outcome (answerOf (Refused TooShort)) out ≡ writing n t out
+    module _ (long : ℕ) (g : long ≡ sheetLength v n) where
+      pub answered-short : length out < long → outcome (answerOf (Refused TooShort)) out ≡ writing v n t out
       unfolding answerOf writing roomFault
       answered-short l =
           sym
           (unless-fault _ _ _ _ 9 0
-          (none-then _ _ (sound-none 0 found e f) ∙ fault-refuse 9 0 _ (lt-ltb (length out) _ (rw (length-sheetIn n t) (omega arith)))))
+          (none-then _ _ (sound-none 0 found e f) ∙ fault-refuse 9 0 _ (lt-ltb (length out) _ (rw (length-sheetIn v n t) (omega arith)))))
 
-      pub answered-written : (new : List ℕ) → long ≤ length out → new ≡ filled (sheetOf (poolIn n t)) out → outcome (answerOf (Length long)) new ≡ writing n t out
+      pub answered-written : (new : List ℕ) → long ≤ length out → new ≡ filled (sheetOf (poolIn v n t)) out → outcome (answerOf (Length long)) new ≡ writing v n t out
       unfolding answerOf
       answered-written new l h =
-          ap₂ (λ (k : ℕ) (b : List ℕ). outcome (finished k) b) (g ∙ sym (length-sheetIn n t)) h
-          ∙ sym (writing-none n t out answered-faultless (omega arith))
+          ap₂ (λ (k : ℕ) (b : List ℕ). outcome (finished k) b) (g ∙ sym (length-sheetIn v n t)) h
+          ∙ sym (writing-none v n t out answered-faultless (omega arith))
 
 -- what is answered as the definition says keeps the promise
-pub answered-rightly : (n : ℕ) (t : Tables) (out new : List ℕ) (r : Writing) → outcome (answerOf r) new ≡ writing n t out
-    → WritesRightly n t out (outcome (answerOf r) new)
-answered-rightly n t out new r e = subst (λ (o : Outcome ℕ (List ℕ)). WritesRightly n t out o) (sym e) (writes-rightly n t out)
+pub answered-rightly : (v n : ℕ) (t : Tables) (out new : List ℕ) (r : Writing) → outcome (answerOf r) new ≡ writing v n t out
+    → WritesRightly v n t out (outcome (answerOf r) new)
+answered-rightly v n t out new r e = subst (λ (o : Outcome ℕ (List ℕ)). WritesRightly v n t out o) (sym e) (writes-rightly v n t out)

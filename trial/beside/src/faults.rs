@@ -2,11 +2,15 @@
 
 use crate::lent::Answered;
 use crate::plans::Input;
-use crate::sheets::TABLES;
+use crate::sheets::{Lengths, TABLES};
 use crate::Cases;
+use reference::points::COUNT;
 use reference::pool::{MOST_AGE, MOST_BLOOD, MOST_PAIRS};
-use reference::sheet::{length, offset_of_pair, offset_of_shuffle, START};
-use reference::{Pool, MOST_FLOOR};
+use reference::random::move_points;
+use reference::sheet::{
+    length, offset_of_pair, offset_of_shuffle, offsets, points_field, OFFSET_OF_POINTS, START,
+};
+use reference::{Points, Pool, MOST_FLOOR};
 
 /// Something that makes an input faulty, unless another fault undoes it.
 pub struct Fault<T> {
@@ -65,6 +69,43 @@ pub const TOO_HIGH: [u32; 5] = [
     u32::MAX,
 ];
 
+/// Versions that are neither 1 nor 2: the nearest, such as would pass if bits
+/// were lost, and the greatest.
+const NO_VERSION: [u16; 5] = [0, 3, 256 + 1, 512 + 2, u16::MAX];
+
+/// Points that do not pass: with a base of 0; just one too much together, with
+/// the largest steps in every place; and so much that it would wrap.
+pub const WRONG_POINTS: [[u16; COUNT]; 15] = [
+    [0, 0, 0, 0, 0, 0],
+    [0, 400, 250, 100, 50, 30],
+    [2, 65_534, 0, 0, 0, 0],
+    [2, 0, 65_534, 0, 0, 0],
+    [2, 0, 0, 65_534, 0, 0],
+    [2, 0, 0, 0, 65_534, 0],
+    [2, 0, 0, 0, 0, 65_534],
+    [30_001, 20_000, 0, 0, 15_535, 0],
+    [30_001, 20_000, 0, 0, 0, 15_535],
+    [30_001, 0, 20_000, 0, 15_535, 0],
+    [30_001, 0, 20_000, 0, 0, 15_535],
+    [30_001, 0, 0, 20_000, 15_535, 0],
+    [30_001, 0, 0, 20_000, 0, 15_535],
+    [65_535, 1, 2, 3, 4, 5],
+    [65_535; COUNT],
+];
+
+/// Points that pass, just so.
+pub const LAST_POINTS: [[u16; COUNT]; 9] = [
+    [1, 0, 0, 0, 0, 0],
+    [1, 0, 0, 65_534, 0, 0],
+    [65_535, 0, 0, 0, 0, 0],
+    [30_000, 20_000, 0, 0, 15_535, 0],
+    [30_000, 20_000, 0, 0, 0, 15_535],
+    [30_000, 0, 20_000, 0, 15_535, 0],
+    [30_000, 0, 20_000, 0, 0, 15_535],
+    [30_000, 0, 0, 20_000, 15_535, 0],
+    [30_000, 0, 0, 20_000, 0, 15_535],
+];
+
 /// Shorter lengths: one less, and none.
 fn shorter(length: usize) -> Vec<usize> {
     match length {
@@ -101,15 +142,31 @@ fn put_id(from: &[u8], at: usize, to: &mut [u8], there: usize) {
     }
 }
 
-/// Where the id of pair `i` stands.
-fn offset_of_id(i: usize) -> usize {
-    offset_of_pair(i) + START
+/// Puts these points, as the field of a sheet of version 2 has them, as far as
+/// the sheet reaches.
+fn put_points(sheet: &mut [u8], points: [u16; COUNT]) {
+    let field = points_field(points);
+    for (at, &byte) in field.iter().enumerate().skip(START) {
+        put(sheet, OFFSET_OF_POINTS + at, byte);
+    }
 }
 
-/// A sheet's own faults, where it has `n` pairs.
-fn of_sheet(n: usize) -> Faults<Vec<u8>> {
+/// Makes a sheet of that version one of the other: without its points, or with
+/// document 01's.
+fn turn(version: u16, sheet: &mut Vec<u8>) {
+    move_points(version, sheet, Points::DOCUMENT);
+    put(sheet, START + 1, 3 - version as u8);
+}
+
+/// Where the id of pair `i` stands.
+fn offset_of_id(version: u16, i: usize) -> usize {
+    offset_of_pair(version, i) + START
+}
+
+/// A sheet's own faults, where it is of that version and has `n` pairs.
+fn of_sheet(version: u16, n: usize) -> Faults<Vec<u8>> {
     let mut faults = Faults(Vec::new());
-    for end in 0..length(n) {
+    for end in 0..length(version, n) {
         faults.add(format!("cut at {end}"), move |sheet: &mut Vec<u8>| {
             sheet.truncate(end)
         });
@@ -124,33 +181,48 @@ fn of_sheet(n: usize) -> Faults<Vec<u8>> {
             put(sheet, at, byte)
         });
     };
-    let fields = (0..=n).map(offset_of_pair).chain([0]);
-    for field in fields {
+    for field in offsets(version, n) {
         for at in field..field + START {
             set("start", at, 0x7F);
         }
     }
-    for (at, byte) in [(3, 1), (4, 0), (4, 2)] {
+    for (at, byte) in [(3, 1), (4, 0), (4, 1), (4, 2), (4, 3)] {
         set("version", at, byte);
     }
     for (at, byte) in [(5, 1), (6, 200), (6, 201), (6, n as u8 + 1)] {
         set("N", at, byte);
     }
     for i in 0..n {
-        let groups = offset_of_pair(i) + START + 4;
+        let groups = offset_of_pair(version, i) + START + 4;
         set("blood", groups, MOST_BLOOD + 1);
         set("blood", groups + 1, 255);
         set("age", groups + 2, MOST_AGE + 1);
         set("age", groups + 3, 255);
     }
-    let numbers = offset_of_shuffle(n) + START;
+    let numbers = offset_of_shuffle(version, n) + START;
     for i in 0..n {
         set("shuffle", numbers + 2 * i + 1, n as u8);
         set("shuffle", numbers + 2 * i, 1);
     }
+    // A field of points too many, or missing, and with it the other version:
+    // the last is no fault, and must hide none.
+    faults.add("points moved".to_string(), move |sheet| {
+        move_points(version, sheet, Points::DOCUMENT)
+    });
+    faults.add("the other version".to_string(), move |sheet| {
+        turn(version, sheet)
+    });
+    if version == 2 {
+        // The last of these are no faults, and must hide none.
+        for points in WRONG_POINTS.into_iter().chain(LAST_POINTS) {
+            faults.add(format!("points are {points:?}"), move |sheet| {
+                put_points(sheet, points)
+            });
+        }
+    }
     for i in 0..n {
         for j in i + 1..n {
-            let (from, to) = (offset_of_id(i), offset_of_id(j));
+            let (from, to) = (offset_of_id(version, i), offset_of_id(version, j));
             faults.add(format!("pair {j} has the id of {i}"), move |sheet| {
                 put_id(&sheet.clone(), from, sheet, to)
             });
@@ -171,19 +243,28 @@ pub struct Reading {
     /// The sheet.
     pub sheet: Vec<u8>,
     /// The lengths of the lent tables.
-    pub lengths: [usize; TABLES],
+    pub lengths: Lengths,
 }
 
-/// Faults of reading a sheet of `n` pairs.
-pub fn of_reading(n: usize) -> Faults<Reading> {
+/// Faults of reading a sheet of `n` pairs in that version.
+pub fn of_reading(version: u16, n: usize) -> Faults<Reading> {
     let mut faults = Faults(Vec::new());
-    faults.add_of("", |input: &mut Reading| &mut input.sheet, of_sheet(n));
+    faults.add_of(
+        "",
+        |input: &mut Reading| &mut input.sheet,
+        of_sheet(version, n),
+    );
     for table in 0..TABLES {
         for short in shorter(n) {
             faults.add(format!("table {table} has {short}"), move |input| {
-                input.lengths[table] = short
+                input.lengths.tables[table] = short
             });
         }
+    }
+    for short in shorter(COUNT) {
+        faults.add(format!("points have {short}"), move |input| {
+            input.lengths.points = short
+        });
     }
     faults
 }
@@ -199,19 +280,41 @@ pub struct Joining {
     pub room: usize,
 }
 
-/// Faults of joining a sheet of `m` pairs and one of `n`. So that there are too
-/// many together, the first gives way to `one`, or the second to `other`.
-pub fn of_joining(m: usize, n: usize, [one, other]: [Vec<u8>; 2]) -> Faults<Joining> {
+/// Faults of joining that sheet of `m` pairs and that of `n`, both of that
+/// version. So that there are too many together, the first gives way to `one`,
+/// or the second to `other`.
+pub fn of_joining(
+    version: u16,
+    [m, n]: [usize; 2],
+    sound: &Joining,
+    [one, other]: [Vec<u8>; 2],
+) -> Faults<Joining> {
     let mut faults = Faults(Vec::new());
     faults.add_of(
         "first: ",
         |input: &mut Joining| &mut input.first,
-        of_sheet(m),
+        of_sheet(version, m),
     );
-    faults.add_of("second: ", |input| &mut input.second, of_sheet(n));
+    faults.add_of("second: ", |input| &mut input.second, of_sheet(version, n));
+    // No fault, and it must hide none.
+    faults.add("both in the other version".to_string(), move |input| {
+        turn(version, &mut input.first);
+        turn(version, &mut input.second);
+        input.room = length(3 - version, m + n);
+    });
+    if version == 2 {
+        // Any point of the second becomes another, and mostly still passes.
+        for point in 0..COUNT {
+            let at = OFFSET_OF_POINTS + START + 2 * point + 1;
+            let low = sound.second[at] ^ 1;
+            faults.add(format!("second's point {point} is another"), move |input| {
+                put(&mut input.second, at, low)
+            });
+        }
+    }
     for i in 0..m {
         for j in 0..n {
-            let (from, to) = (offset_of_id(i), offset_of_id(j));
+            let (from, to) = (offset_of_id(version, i), offset_of_id(version, j));
             faults.add(
                 format!("second's pair {j} has the id of first's {i}"),
                 move |input| put_id(&input.first, from, &mut input.second, to),
@@ -219,7 +322,7 @@ pub fn of_joining(m: usize, n: usize, [one, other]: [Vec<u8>; 2]) -> Faults<Join
         }
     }
     // The buffer would hold all their pairs.
-    let room = length(2 * MOST_PAIRS);
+    let room = length(version, 2 * MOST_PAIRS);
     faults.add("first has many pairs".to_string(), move |input| {
         input.first = one.clone();
         input.room = room;
@@ -228,7 +331,7 @@ pub fn of_joining(m: usize, n: usize, [one, other]: [Vec<u8>; 2]) -> Faults<Join
         input.second = other.clone();
         input.room = room;
     });
-    for short in shorter(length(m + n)) {
+    for short in shorter(length(version, m + n)) {
         faults.add(format!("room is {short}"), move |input| input.room = short);
     }
     faults
@@ -239,7 +342,7 @@ pub fn of_joining(m: usize, n: usize, [one, other]: [Vec<u8>; 2]) -> Faults<Join
 pub struct Fields {
     /// The number of pairs.
     pub n: usize,
-    /// The lent fields, whatever their lengths.
+    /// The version, and the lent points and fields, whatever their lengths.
     pub pool: Pool,
     /// The lengths of what is to be filled: the sheet, or M and W.
     pub room: [usize; 2],
@@ -254,6 +357,25 @@ pub fn of_fields(n: usize, room: [usize; 2]) -> Faults<Fields> {
     for many in TOO_MANY {
         faults.add(format!("{many} pairs"), move |input: &mut Fields| {
             input.n = many
+        });
+    }
+    // The other of the two versions is no fault if what it needs is there.
+    for version in NO_VERSION.into_iter().chain([1, 2]) {
+        faults.add(format!("version {version}"), move |input| {
+            input.pool.version = version
+        });
+    }
+    for short in shorter(COUNT) {
+        faults.add(format!("points have {short}"), move |input| {
+            input.pool.points.truncate(short)
+        });
+    }
+    // The last of these are no faults, and must hide none.
+    for points in WRONG_POINTS.into_iter().chain(LAST_POINTS) {
+        faults.add(format!("points are {points:?}"), move |input| {
+            for (point, entry) in points.into_iter().enumerate() {
+                put(&mut input.pool.points, point, entry);
+            }
         });
     }
     for short in shorter(n) {

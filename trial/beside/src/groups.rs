@@ -3,17 +3,26 @@
 //! through all of them.
 
 use crate::faults::{
-    of_fields, of_joining, of_planning, of_reading, Fields, Joining, Reading, TOO_HIGH,
+    of_fields, of_joining, of_planning, of_reading, Fields, Joining, Reading, LAST_POINTS,
+    TOO_HIGH, WRONG_POINTS,
 };
 use crate::lent::{same, Answered, Outcome};
 use crate::plans::{made, plans, prints, prints_refusal, weights, Input};
-use crate::sheets::{builds, enough, joins, more, reads, there_and_back, writes, TABLES};
+use crate::sheets::{
+    builds, enough, joins, lend, more, reads, there_and_back, writes, Lengths, TABLES,
+};
 use crate::Cases;
+use reference::points::COUNT;
 use reference::pool::MOST_PAIRS;
 use reference::printout::{self, Printed};
-use reference::random::{damaged, floor, pool, pools_apart, tables, PoolKind, Random, TableKind};
+use reference::random::{
+    damaged, floor, plain_pool, points, pool, pools_apart, registry, tables, wrong_points,
+    PoolKind, Random, TableKind,
+};
 use reference::sheet::{self, length};
-use reference::{best, best_above, build, Plan, Pool, Reason, Room, Tables, Tally, MOST_FLOOR};
+use reference::{
+    best, best_above, build_pool, Plan, Points, Pool, Reason, Room, Tables, Tally, MOST_FLOOR,
+};
 
 /// Trials of one sort.
 pub struct Group {
@@ -28,7 +37,7 @@ pub struct Group {
 }
 
 /// All groups.
-pub const ALL: [Group; 17] = [
+pub const ALL: [Group; 18] = [
     Group {
         name: "plans",
         trials: SIZES * KINDS * 3,
@@ -88,39 +97,45 @@ pub const ALL: [Group; 17] = [
         run: sheets,
     },
     Group {
+        name: "points",
+        trials: 5_000,
+        due: &[0, 9, 14, 15],
+        run: points_of_registries,
+    },
+    Group {
         name: "damaged-sheets",
         trials: 200_000,
-        due: &[0, 1, 2, 3, 4, 5, 6, 7, 8, 9],
+        due: &[0, 1, 2, 3, 4, 5, 6, 7, 8, 9, 14],
         run: damaged_sheets,
     },
     Group {
         name: "joins",
         trials: 201 * 50,
-        due: &[0, 1, 2, 3, 4, 5, 6, 7, 8, 9, 11, 12],
+        due: &[0, 1, 2, 3, 4, 5, 6, 7, 8, 9, 11, 12, 14, 15],
         run: joined_sheets,
     },
     Group {
         name: "faults-of-reading",
-        trials: 4,
-        due: &[0, 1, 2, 3, 4, 5, 6, 7, 8, 9],
+        trials: 4 * REGISTRIES,
+        due: &[0, 1, 2, 3, 4, 5, 6, 7, 8, 9, 14],
         run: faults_of_reading,
     },
     Group {
         name: "faults-of-writing",
-        trials: 14,
-        due: &[0, 4, 6, 7, 8, 9],
+        trials: FAULTY.len() as u64 * REGISTRIES,
+        due: &[0, 3, 4, 6, 7, 8, 9, 14],
         run: faults_of_writing,
     },
     Group {
         name: "faults-of-joining",
-        trials: FAULTY_TWO.len() as u64,
-        due: &[0, 1, 2, 3, 4, 5, 6, 7, 8, 9, 11, 12],
+        trials: FAULTY_TWO.len() as u64 * REGISTRIES,
+        due: &[0, 1, 2, 3, 4, 5, 6, 7, 8, 9, 11, 12, 14, 15],
         run: faults_of_joining,
     },
     Group {
         name: "faults-of-building",
-        trials: 14,
-        due: &[0, 4, 6, 7, 9],
+        trials: FAULTY.len() as u64 * REGISTRIES,
+        due: &[0, 3, 4, 6, 7, 9, 14],
         run: faults_of_building,
     },
     Group {
@@ -144,7 +159,7 @@ pub const ALL: [Group; 17] = [
     Group {
         name: "safe-crate",
         trials: 2_000,
-        due: &[0, 1, 2, 3, 4, 5, 6, 7, 8, 11, 12, 13],
+        due: &[0, 1, 2, 3, 4, 5, 6, 7, 8, 11, 12, 13, 14, 15],
         run: safe_crate,
     },
 ];
@@ -166,8 +181,9 @@ fn tables_of(random: &mut Random, n: usize, kind: u64) -> Result<Tables, String>
     }
     let pool = pool(random, n, PoolKind::ALL[kind - TableKind::ALL.len()]);
     let (m, w) = (n * n + more(random), n * n + more(random));
-    builds(random, n, &pool, m, w)?;
-    build(n, pool.fields(), m, w).map_err(|reason| format!("{reason:?} in a sound pool"))
+    let lent = lend(random, &pool);
+    builds(random, n, &lent, m, w)?;
+    build_pool(&pool).map_err(|reason| format!("{reason:?} in a sound pool"))
 }
 
 /// Tables of that kind and a shuffle, in tables that are often longer than
@@ -340,20 +356,20 @@ fn any_pool(random: &mut Random, n: usize) -> Pool {
 
 /// The sheet of a sound pool.
 fn sheet_of(pool: &Pool) -> Vec<u8> {
-    reference::write(pool.len(), pool.fields(), &pool.shuffle, sheet::LONGEST)
-        .expect("a sound pool is written")
+    reference::write_pool(pool, sheet::LONGEST).expect("a sound pool is written")
 }
 
 fn sheets(seed: u64, random: &mut Random, cases: &mut Cases) -> Result<(), String> {
     let n = (seed % 201) as usize;
     let pool = any_pool(random, n);
-    let lengths = enough(random, n);
+    let lengths = enough(random, &pool);
     cases.add(reads(random, &sheet_of(&pool), lengths)?);
-    let room = length(n) + more(random);
-    cases.add(writes(random, n, &pool, room)?);
+    let room = length(pool.version, n) + more(random);
+    let lent = lend(random, &pool);
+    cases.add(writes(random, n, &lent, room)?);
     // Of longer tables the first pairs are written.
     let fewer = random.between(0, n);
-    let mut first = pool.clone();
+    let mut first = lend(random, &pool);
     first.shuffle = random.shuffle(fewer);
     first.shuffle.resize(n, u16::MAX);
     cases.add(writes(random, fewer, &first, room)?);
@@ -363,29 +379,114 @@ fn sheets(seed: u64, random: &mut Random, cases: &mut Cases) -> Result<(), Strin
     Ok(())
 }
 
-/// A sheet of a few pairs, seldom of many, sound or with damages.
-fn any_sheet(random: &mut Random) -> (usize, Vec<u8>) {
+/// The sheet in version 2 of a sound pool of version 1, with these points,
+/// whether they pass or not.
+fn sheet_with(pool: &Pool, points: Points) -> Vec<u8> {
+    let mut sheet = sheet_of(&pool.clone().with_points(Points::DOCUMENT));
+    let field = sheet::points_field(points.table());
+    sheet[sheet::OFFSET_OF_POINTS..][..field.len()].copy_from_slice(&field);
+    sheet
+}
+
+/// Points that pass or do not, often at their limits.
+fn any_points(random: &mut Random) -> Points {
+    match random.below(4) {
+        0 => Points::of(&random.one_of(&WRONG_POINTS)),
+        1 => Points::of(&random.one_of(&LAST_POINTS)),
+        2 => wrong_points(random),
+        _ => points(random),
+    }
+}
+
+/// Points near to these: one of them is one more or one less, at times none.
+fn near_points(random: &mut Random, points: Points) -> Points {
+    let mut table = points.table();
+    let point = random.below(COUNT);
+    table[point] = match random.below(3) {
+        0 => table[point].saturating_add(1),
+        1 => table[point].saturating_sub(1),
+        _ => table[point],
+    };
+    Points::of(&table)
+}
+
+/// Points through every call that looks at them, from tables of every length
+/// up to six and beyond; and version 1, to which no such table makes any
+/// difference.
+fn points_of_registries(seed: u64, random: &mut Random, cases: &mut Cases) -> Result<(), String> {
+    let n = (seed % 5) as usize;
+    let kind = random.one_of(&PoolKind::ALL);
+    let [one, other] = pools_apart(random, [n, 2], kind).map(Pool::of_version_1);
+    let points = any_points(random);
+    let two = sheet_with(&one, points);
+    for length in 0..COUNT + 3 {
+        let mut lent = one.clone().with_points(points);
+        lent.points.resize_with(length, || random.bits() as u16);
+        let lengths = Lengths {
+            points: length,
+            tables: [n; TABLES],
+        };
+        cases.add(reads(random, &two, lengths)?);
+        cases.add(writes(random, n, &lent, sheet::length(2, n))?);
+        cases.add(builds(random, n, &lent, n * n, n * n)?);
+
+        lent.version = 1;
+        let answers = [
+            reads(random, &sheet_of(&one), lengths)?,
+            writes(random, n, &lent, sheet::length(1, n))?,
+            builds(random, n, &lent, n * n, n * n)?,
+        ];
+        same("version 1 with any points", answers, [0; 3])?;
+        cases.add(0);
+    }
+
+    let near = near_points(random, points);
+    let any = any_points(random);
+    for second in [
+        sheet_with(&other, points),
+        sheet_with(&other, near),
+        sheet_with(&other, any),
+        sheet_of(&other),
+    ] {
+        for (first, second) in [(&two, &second), (&second, &two)] {
+            let joined = joins(random, first, second, sheet::LONGEST)?;
+            cases.add(joined.err().map_or(0, Reason::number));
+        }
+    }
+    Ok(())
+}
+
+/// The sheet of a pool of a few pairs, seldom of many, sound or with damages;
+/// and that pool.
+fn any_sheet(random: &mut Random) -> (Pool, Vec<u8>) {
     let most = if random.chance(1, 100) { 200 } else { 12 };
     let n = random.between(0, most);
-    let sheet = sheet_of(&any_pool(random, n));
+    let pool = any_pool(random, n);
+    let sheet = sheet_of(&pool);
     if random.chance(1, 10) {
-        return (n, sheet);
+        return (pool, sheet);
     }
-    (n, damaged(random, n, &sheet))
+    let damaged = damaged(random, &pool, &sheet);
+    (pool, damaged)
 }
 
 fn damaged_sheets(_: u64, random: &mut Random, cases: &mut Cases) -> Result<(), String> {
-    let (n, sheet) = any_sheet(random);
-    let mut lengths = enough(random, n);
-    if n > 0 && random.chance(1, 8) {
-        lengths[random.below(TABLES)] = random.below(n);
+    let (pool, sheet) = any_sheet(random);
+    let n = pool.len();
+    let mut lengths = enough(random, &pool);
+    if random.chance(1, 8) {
+        match random.below(TABLES + 1) {
+            table if table < TABLES && n > 0 => lengths.tables[table] = random.below(n),
+            _ => lengths.points = random.below(COUNT),
+        }
     }
     cases.add(reads(random, &sheet, lengths)?);
     Ok(())
 }
 
 /// A sheet of `n` pairs and another, sound or with damages. Often they have
-/// just 200 pairs together, or one more; at times they share an id.
+/// just 200 pairs together, or one more; at times they share an id; at times
+/// their versions or points differ.
 fn two_sheets(random: &mut Random, n: usize) -> [Vec<u8>; 2] {
     let rest = MOST_PAIRS - n;
     let other = match random.below(4) {
@@ -399,13 +500,31 @@ fn two_sheets(random: &mut Random, n: usize) -> [Vec<u8>; 2] {
     if random.chance(1, 4) {
         share_id(random, &mut pools);
     }
+    if random.chance(1, 8) {
+        let [first, second] = pools;
+        pools = [first, of_another_registry(random, second)];
+    }
     pools.map(|pool| {
         let sheet = sheet_of(&pool);
         match random.below(6) {
-            0 => damaged(random, pool.len(), &sheet),
+            0 => damaged(random, &pool, &sheet),
             _ => sheet,
         }
     })
+}
+
+/// A sound pool's pairs with points of any sort, or with none, or with points
+/// of which one at most is another, if that passes.
+fn of_another_registry(random: &mut Random, pool: Pool) -> Pool {
+    if pool.version == 2 && random.chance(1, 2) {
+        let near = near_points(random, Points::of(&pool.points));
+        return match near.check() {
+            Ok(()) => pool.with_points(near),
+            Err(_) => pool,
+        };
+    }
+    let registry = registry(random);
+    pool.weighed_by(registry)
 }
 
 /// Gives a pair of the last pool the id of one of the first, if both have any.
@@ -425,13 +544,17 @@ fn joined_sheets(seed: u64, random: &mut Random, cases: &mut Cases) -> Result<()
     let [first, second] = two_sheets(random, n);
     let joined = joins(random, &first, &second, sheet::LONGEST)?;
     if let Ok(sheet) = &joined {
-        let lengths = [MOST_PAIRS; TABLES];
+        let lengths = Lengths {
+            points: COUNT,
+            tables: [MOST_PAIRS; TABLES],
+        };
         same("the joined sheet, read", reads(random, sheet, lengths)?, 0)?;
     }
     cases.add(joined.err().map_or(0, Reason::number));
 
     // What the joined sheet would have, if both are sound and not too long.
-    let due = (first.len() + second.len()).saturating_sub(length(0));
+    let version = first.get(4).map_or(1, |&version| version.into());
+    let due = (first.len() + second.len()).saturating_sub(length(version, 0));
     let fewer = random.below(due + 1);
     for room in [due + more(random), due, due.saturating_sub(1), fewer, 0] {
         let answer = joins(random, &first, &second, room)?;
@@ -451,6 +574,10 @@ fn regrouped(random: &mut Random) -> Answered {
         let two = random.one_of(&[(0, 2), (1, 3), (0, 3)]);
         share_id(random, &mut pools[two.0..two.1]);
     }
+    if random.chance(1, 6) {
+        let one = random.below(3);
+        pools[one] = of_another_registry(random, pools[one].clone());
+    }
     let [a, b, c] = pools.map(|pool| sheet_of(&pool));
     let mut joined = |first: &[u8], second: &[u8]| joins(random, first, second, sheet::LONGEST);
     let left = match joined(&a, &b)? {
@@ -469,13 +596,46 @@ fn regrouped(random: &mut Random) -> Answered {
     Ok(left.err().map_or(0, Reason::number))
 }
 
+/// For any two faults: version 1, version 2 with document 01's points, and
+/// version 2 with any that pass.
+const REGISTRIES: u64 = 3;
+
+/// What the registry of that number sets.
+fn registry_of(random: &mut Random, number: u64) -> Option<Points> {
+    match number % REGISTRIES {
+        0 => None,
+        1 => Some(Points::DOCUMENT),
+        _ => Some(points(random)),
+    }
+}
+
+/// A pool of that registry.
+fn pool_of(random: &mut Random, n: usize, number: u64) -> Pool {
+    let kind = random.one_of(&PoolKind::ALL);
+    let pool = plain_pool(random, n, kind);
+    let registry = registry_of(random, number);
+    pool.weighed_by(registry)
+}
+
+/// A pool of that registry, to be written or built. In version 1 the points
+/// that are lent are any six, so that another version finds them.
+fn lent_of(random: &mut Random, n: usize, number: u64) -> Pool {
+    let mut lent = pool_of(random, n, number);
+    lent.points.resize_with(COUNT, || random.bits() as u16);
+    lent
+}
+
 fn faults_of_reading(seed: u64, random: &mut Random, cases: &mut Cases) -> Result<(), String> {
     let n = (seed % 4) as usize;
+    let pool = pool_of(random, n, seed / 4);
     let sound = Reading {
-        sheet: sheet_of(&any_pool(random, n)),
-        lengths: [n; TABLES],
+        sheet: sheet_of(&pool),
+        lengths: Lengths {
+            points: COUNT,
+            tables: [n; TABLES],
+        },
     };
-    of_reading(n).any_two(&sound, cases, |input| {
+    of_reading(pool.version, n).any_two(&sound, cases, |input| {
         reads(random, &input.sheet, input.lengths)
     })
 }
@@ -489,8 +649,8 @@ fn faulty(seed: u64) -> usize {
 
 fn faults_of_writing(seed: u64, random: &mut Random, cases: &mut Cases) -> Result<(), String> {
     let n = faulty(seed);
-    let room = [length(n), 0];
-    let pool = any_pool(random, n);
+    let pool = lent_of(random, n, seed / FAULTY.len() as u64);
+    let room = [length(pool.version, n), 0];
     let sound = Fields { n, pool, room };
     of_fields(n, room).any_two(&sound, cases, |input| {
         writes(random, input.n, &input.pool, input.room[0])
@@ -512,17 +672,21 @@ const FAULTY_TWO: [[usize; 2]; 10] = [
 ];
 
 fn faults_of_joining(seed: u64, random: &mut Random, cases: &mut Cases) -> Result<(), String> {
-    let [m, n] = FAULTY_TWO[(seed % FAULTY_TWO.len() as u64) as usize];
+    let sizes = FAULTY_TWO.len() as u64;
+    let [m, n] = FAULTY_TWO[(seed % sizes) as usize];
+    let registry = registry_of(random, seed / sizes);
+    let version = if registry.is_some() { 2 } else { 1 };
     // Beside one pair 200 are too many, beside none those of another sheet.
     let sizes = [m, n, MOST_PAIRS, MOST_PAIRS];
     let kind = random.one_of(&PoolKind::ALL);
-    let [first, second, one, other] = pools_apart(random, sizes, kind).map(|pool| sheet_of(&pool));
+    let pools = pools_apart(random, sizes, kind).map(|pool| pool.weighed_by(registry));
+    let [first, second, one, other] = pools.map(|pool| sheet_of(&pool));
     let sound = Joining {
         first,
         second,
-        room: length(m + n),
+        room: length(version, m + n),
     };
-    of_joining(m, n, [one, other]).any_two(&sound, cases, |input| {
+    of_joining(version, [m, n], &sound, [one, other]).any_two(&sound, cases, |input| {
         let answer = joins(random, &input.first, &input.second, input.room)?;
         Ok(answer.err().map_or(0, Reason::number))
     })
@@ -532,7 +696,7 @@ fn faults_of_building(seed: u64, random: &mut Random, cases: &mut Cases) -> Resu
     // Of 200 pairs there would be too many tables to build.
     let n = faulty(seed).min(20);
     let room = [n * n; 2];
-    let pool = any_pool(random, n);
+    let pool = lent_of(random, n, seed / FAULTY.len() as u64);
     let sound = Fields { n, pool, room };
     of_fields(n, room).any_two(&sound, cases, |input| {
         builds(random, input.n, &input.pool, input.room[0], input.room[1])
@@ -627,9 +791,9 @@ const MANY: usize = 1 << 62;
 
 /// The refusals that there are, and other numbers.
 fn printed_refusals(seed: u64, random: &mut Random, cases: &mut Cases) -> Result<(), String> {
-    let number = match seed % 16 {
-        number @ 0..=13 => number as u32,
-        14 => u32::MAX,
+    let number = match seed % 18 {
+        number @ 0..=15 => number as u32,
+        16 => u32::MAX,
         _ => any_number(random) as u32,
     };
     let place = match random.below(4) {
@@ -695,7 +859,10 @@ fn safe_crate(_: u64, random: &mut Random, cases: &mut Cases) -> Result<(), Stri
     let printed = match vadivuzhen::Pool::read(&sheet) {
         Ok(pool) => {
             let pairs: Vec<vadivuzhen::Pair> = pool.pairs().collect();
-            let again = vadivuzhen::Pool::new(&pairs, pool.shuffle());
+            let again = match pool.points() {
+                Some(points) => vadivuzhen::Pool::with_points(points, &pairs, pool.shuffle()),
+                None => vadivuzhen::Pool::new(&pairs, pool.shuffle()),
+            };
             same("the pool, from its pairs", again.as_ref(), Ok(&pool))?;
             same("the sheet, written again", pool.write(), sheet)?;
             cases.add(safely_above(random, &pool)?);

@@ -1,15 +1,26 @@
 //! Reading, writing, joining and building beside the reference.
 
 use crate::lent::{same, Answered, Lent, Outcome};
+use reference::points::COUNT;
 use reference::random::Random;
 use reference::{sheet, Pool, Reason};
 use vadivuzhen::raw::{self, BuildAnswer, JoinAnswer, ReadAnswer, WriteAnswer};
 
-/// How many tables a sheet is read into.
+/// How many tables a sheet is read into, beside that of the points.
 pub const TABLES: usize = 9;
 
-/// The tables of a pool's fields, and its shuffle.
+/// The lengths of the tables that a sheet is read into.
+#[derive(Clone, Copy)]
+pub struct Lengths {
+    /// Of the points.
+    pub points: usize,
+    /// Of the fields, and of the shuffle.
+    pub tables: [usize; TABLES],
+}
+
+/// The tables of a pool's points and fields, and its shuffle.
 pub struct Tables {
+    points: Lent<u16>,
     ids: Lent<u32>,
     donor_blood: Lent<u8>,
     patient_blood: Lent<u8>,
@@ -23,8 +34,13 @@ pub struct Tables {
 
 impl Tables {
     /// Tables to be filled, of these lengths.
-    fn empty(random: &mut Random, lengths: [usize; TABLES]) -> Tables {
+    fn empty(random: &mut Random, lengths: Lengths) -> Tables {
+        let Lengths {
+            points,
+            tables: lengths,
+        } = lengths;
         Tables {
+            points: Lent::empty(random, points),
             ids: Lent::empty(random, lengths[0]),
             donor_blood: Lent::empty(random, lengths[1]),
             patient_blood: Lent::empty(random, lengths[2]),
@@ -40,6 +56,7 @@ impl Tables {
     /// The tables of a pool, whatever they hold.
     fn of(random: &mut Random, pool: &Pool) -> Tables {
         Tables {
+            points: Lent::of(random, &pool.points),
             ids: Lent::of(random, &pool.ids),
             donor_blood: Lent::of(random, &pool.donor_bloods),
             patient_blood: Lent::of(random, &pool.patient_bloods),
@@ -67,6 +84,7 @@ impl Tables {
 
     fn fill(&mut self) -> raw::LentPool<'_> {
         raw::LentPool {
+            points: self.points.fill(),
             ids: self.ids.fill(),
             donor_blood: self.donor_blood.fill(),
             patient_blood: self.patient_blood.fill(),
@@ -79,8 +97,10 @@ impl Tables {
         }
     }
 
-    /// The tables start with this pool's, and nothing else changed.
+    /// The tables start with this pool's, and nothing else changed. A pool of
+    /// version 1 has no points: there the table of them is as it was.
     fn filled(&mut self, pool: &Pool) -> Outcome {
+        self.points.filled("points", &pool.points)?;
         self.ids.filled("ids", &pool.ids)?;
         self.donor_blood.filled("donor_blood", &pool.donor_bloods)?;
         self.patient_blood
@@ -107,22 +127,47 @@ pub fn more(random: &mut Random) -> usize {
     random.below(5).saturating_sub(1)
 }
 
-/// Lengths that suffice for `n` pairs.
-pub fn enough(random: &mut Random, n: usize) -> [usize; TABLES] {
-    [(); TABLES].map(|()| n + more(random))
+/// The length of a table of points that suffices: in version 1 any.
+fn enough_points(random: &mut Random, version: u16) -> usize {
+    match version {
+        1 => random.below(COUNT + 3),
+        _ => COUNT + more(random),
+    }
+}
+
+/// Lengths that suffice for a pool.
+pub fn enough(random: &mut Random, pool: &Pool) -> Lengths {
+    Lengths {
+        points: enough_points(random, pool.version),
+        tables: [(); TABLES].map(|()| pool.len() + more(random)),
+    }
+}
+
+/// The pool as a caller may lend it to be written and built: its points in a
+/// table that may be longer than it need be, in version 1 any table.
+pub fn lend(random: &mut Random, pool: &Pool) -> Pool {
+    let mut lent = pool.clone();
+    let length = enough_points(random, pool.version);
+    lent.points.resize_with(length, || random.bits() as u16);
+    lent
 }
 
 /// Reads a sheet into tables of these lengths.
-pub fn reads(random: &mut Random, bytes: &[u8], lengths: [usize; TABLES]) -> Answered {
+pub fn reads(random: &mut Random, bytes: &[u8], lengths: Lengths) -> Answered {
     let mut lent = Lent::of(random, bytes);
     let mut tables = Tables::empty(random, lengths);
     let answer = raw::read(lent.read(), tables.fill());
     lent.unchanged("the sheet")?;
 
-    let fitting = |pool: Pool| sheet::fits(&pool, &lengths).map(|()| pool);
+    let Lengths {
+        points,
+        tables: nine,
+    } = lengths;
+    let fitting = |pool: Pool| sheet::fits(&pool, points, &nine).map(|()| pool);
     match reference::read(bytes).and_then(fitting) {
         Ok(pool) => {
             let expected = ReadAnswer {
+                version: pool.version,
                 pairs: pool.len(),
                 ..ReadAnswer::default()
             };
@@ -134,6 +179,7 @@ pub fn reads(random: &mut Random, bytes: &[u8], lengths: [usize; TABLES]) -> Ans
             let (number, place) = refusal.pair();
             let expected = ReadAnswer {
                 refusal: number.into(),
+                version: 0,
                 place,
                 pairs: 0,
             };
@@ -144,14 +190,24 @@ pub fn reads(random: &mut Random, bytes: &[u8], lengths: [usize; TABLES]) -> Ans
     }
 }
 
-/// Writes the first `n` pairs of these tables into a buffer of `room` bytes.
+/// Writes the first `n` pairs of these tables, in that pool's version and with
+/// its points, whatever they are, into a buffer of `room` bytes.
 pub fn writes(random: &mut Random, n: usize, pool: &Pool, room: usize) -> Answered {
+    let version = pool.version;
     let mut tables = Tables::of(random, pool);
     let mut out = Lent::empty(random, room);
-    let answer = raw::write(n, tables.read(), tables.shuffle.read(), out.fill());
+    let answer = raw::write(
+        version,
+        n,
+        tables.points.read(),
+        tables.read(),
+        tables.shuffle.read(),
+        out.fill(),
+    );
     tables.unchanged()?;
 
-    match reference::write(n, pool.fields(), &pool.shuffle, room) {
+    let (points, fields) = (&pool.points, pool.fields());
+    match reference::write(version, n, points, fields, &pool.shuffle, room) {
         Ok(bytes) => {
             let expected = WriteAnswer {
                 refusal: 0,
@@ -214,14 +270,23 @@ pub fn joins(
     }
 }
 
-/// Builds the first `n` pairs of these tables into M and W of these lengths.
+/// Builds the first `n` pairs of these tables, in that pool's version and with
+/// its points, whatever they are, into M and W of these lengths.
 pub fn builds(random: &mut Random, n: usize, pool: &Pool, m: usize, w: usize) -> Answered {
+    let version = pool.version;
     let mut tables = Tables::of(random, pool);
     let (mut lent_m, mut lent_w) = (Lent::empty(random, m), Lent::empty(random, w));
-    let answer = raw::build(n, tables.read(), lent_m.fill(), lent_w.fill());
+    let answer = raw::build(
+        version,
+        n,
+        tables.points.read(),
+        tables.read(),
+        lent_m.fill(),
+        lent_w.fill(),
+    );
     tables.unchanged()?;
 
-    match reference::build(n, pool.fields(), m, w) {
+    match reference::build(version, n, &pool.points, pool.fields(), m, w) {
         Ok(built) => {
             same("the answer", answer, BuildAnswer { refusal: 0 })?;
             lent_m.filled("M", &built.m)?;
@@ -242,24 +307,37 @@ pub fn builds(random: &mut Random, n: usize, pool: &Pool, m: usize, w: usize) ->
 /// the library alone.
 pub fn there_and_back(random: &mut Random, pool: &Pool) -> Outcome {
     let n = pool.len();
-    let bytes = reference::write(n, pool.fields(), &pool.shuffle, sheet::LONGEST)
+    let bytes = reference::write_pool(pool, sheet::LONGEST)
         .map_err(|refusal| format!("the reference refuses a sound pool: {refusal}"))?;
 
     let written = WriteAnswer {
         refusal: 0,
         length: bytes.len(),
     };
+    let write = |version, tables: &Tables, out: &mut [u8]| {
+        let (points, shuffle) = (tables.points.read(), tables.shuffle.read());
+        raw::write(version, n, points, tables.read(), shuffle, out)
+    };
     let tables = Tables::of(random, pool);
     let mut out = vec![0; bytes.len()];
-    let answer = raw::write(n, tables.read(), tables.shuffle.read(), &mut out);
+    let answer = write(pool.version, &tables, &mut out);
     same("the answer of writing", answer, written)?;
-    let mut read = Tables::empty(random, [n; TABLES]);
+    let lengths = Lengths {
+        points: enough_points(random, pool.version),
+        tables: [n; TABLES],
+    };
+    let mut read = Tables::empty(random, lengths);
     let answer = raw::read(&out, read.fill());
-    same("the refusal of reading", answer.refusal, 0)?;
+    let expected = ReadAnswer {
+        version: pool.version,
+        pairs: n,
+        ..ReadAnswer::default()
+    };
+    same("the answer of reading", answer, expected)?;
     read.filled(pool)?;
 
     let mut again = vec![0; bytes.len()];
-    let answer = raw::write(n, read.read(), read.shuffle.read(), &mut again);
+    let answer = write(answer.version, &read, &mut again);
     same("the answer of writing again", answer, written)?;
     same("the sheet that was read and written", again, bytes)
 }

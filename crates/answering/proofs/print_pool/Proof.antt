@@ -1,3 +1,4 @@
+-- `answering::print_pool` meets its contract. Assumes nothing.
 use borrow.Author.Needs.{needs}
 use Prim.Native.Nat.{_≤_}
 use mathlib.Core.Path.{sym, ap, _∙_}
@@ -15,7 +16,7 @@ use Rattle.answering.proofs.print_pool.Tie as tie
 
 abbrev pool : tie.Start → Tables
 pool s =
-    tables
+    tables (s .args .points .now)
     (fields (s .args .ids .now) (s .args .donor-blood .now) (s .args .patient-blood .now) (s .args .donor-age .now) (s .args .patient-age .now)
     (s .args .donor-antigens .now) (s .args .patient-antigens .now) (s .args .patient-antibodies .now)) (s .args .shuffle .now)
 
@@ -28,7 +29,7 @@ roomy = (lit≤ tt, lit≤ tt)
 
 -- moments, each seen from a later one
 abbrev start : tie.After-w2 → tie.Start
-start c = c .before .before .before .before .before .before .before .before .before .before .before .before .before .before
+start c = c .before .before .before .before .before .before .before .before .before .before .before .before .before .before .before
 
 abbrev after-build : tie.After-m3 → tie.After-build
 after-build c = c .before .before .before .before .before .before
@@ -51,8 +52,8 @@ print-planned-requires c κs =
     let after-w2 = after-m3 .before .before .before .before in
     let s = start after-w2 in
     let b = after-build after-m3 .build in (
-      plannable (s .args .n) (pool s) (s .pre) empty roomy (b .result) _ (b .ensures .1)
-          (omega (arith, b .kept .1 .1 .1 .1 .1 .1 .1 .1 .1 .0), omega (arith, b .kept .1 .1 .1 .1 .1 .1 .1 .1 .1 .1 .0)),
+      plannable (s .args .version) (s .args .n) (pool s) (s .pre) empty roomy (b .result) _ (b .ensures .1)
+          (omega (arith, b .kept .1 .1 .1 .1 .1 .1 .1 .1 .1 .1 .1 .0), omega (arith, b .kept .1 .1 .1 .1 .1 .1 .1 .1 .1 .1 .1 .1 .0)),
       omega (arith, length-take-le (s .args .n) (s .args .ids .now) (s .pre .faultless .hold .fields .ids)),
     )
 
@@ -63,14 +64,14 @@ returns c =
     let s = start after-w2 in
     let b = after-build after-m3 .build in
     c .print-planned .ensures ∙ ap (λ (x : PrintedPlan). putting (planText x) (s .args .out .now))
-    (plan-is (s .args .n) (pool s) (s .pre) empty roomy (b .result) _ (b .ensures .1))
+    (plan-is (s .args .version) (s .args .n) (pool s) (s .pre) empty roomy (b .result) _ (b .ensures .1))
 
 returns-2 : tie.Need-returns-2
 returns-2 c =
     let build = c .before .before .before .before in
     let s = start (c .before .before) in
     let b = build .build in
-    never-unbuilt (s .args .n) (pool s) (s .pre) empty roomy (b .result) _ (b .ensures .1) _ (c .enum-told2 .given .1)
+    never-unbuilt (s .args .version) (s .args .n) (pool s) (s .pre) empty roomy (b .result) _ (b .ensures .1) _ (c .enum-told2 .given .1)
 
 pub print-pool-spec : {M : Type 1} → statement M
 print-pool-spec =

@@ -7,15 +7,15 @@ use Rattle.laws.specs.Digits.{bytes}
 use Rattle.laws.specs.Lent.{stored}
 use Rattle.laws.proofs.Digits.{length-bytes, bigEndian-lt}
 use Rattle.laws.proofs.Lent.{Pieces, pieces-none, pieces-more, pieces-all}
-use Rattle.pool.specs.Sheet.{shuffleAt}
+use Rattle.pool.specs.Sheet.{pairPlace, numberAt, versionIn, shuffleAt}
 use Rattle.appending.proofs.put_raised.Statement.{statement}
 use Rattle.appending.proofs.put_raised.Tie as tie
 
 abbrev Inv-loop : tie.InvT-loop
-Inv-loop out₀ at sheet n more from j₀ out j = (j ≤ n) × Pieces at j (bytes 2) (λ k. shuffleAt sheet n k + more) out₀ out
+Inv-loop out₀ at sheet version n more from j₀ out j = (j ≤ n) × Pieces at j (bytes 2) (λ k. shuffleAt sheet n k + more) out₀ out
 
 abbrev μ-loop : tie.MeasureT-loop
-μ-loop out₀ at sheet n more from j₀ out j = n - j
+μ-loop out₀ at sheet version n more from j₀ out j = n - j
 
 -- moments, each seen from a later one
 abbrev after-pair-place : tie.At-loop Inv-loop μ-loop → tie.After-pair-place Inv-loop μ-loop
@@ -27,11 +27,16 @@ start c = after-pair-place c .before .before .before
 abbrev at-loop : tie.After-number Inv-loop μ-loop → tie.At-loop Inv-loop μ-loop
 at-loop c = c .before .before
 
+-- where the shuffle's field is due
+due : (c : tie.At-loop Inv-loop μ-loop)
+    → after-pair-place c .pair-place .result ≡ pairPlace (versionIn (start c .args .sheet .now)) (start c .args .n)
+due c = after-pair-place c .pair-place .ensures .0 ∙ ap (λ v. pairPlace v (start c .args .n)) (start c .pre .2)
+
 -- the number that was read
 drawn : (c : tie.After-number Inv-loop μ-loop)
     → c .number .result ≡ shuffleAt (start (at-loop c) .args .sheet .now) (start (at-loop c) .args .n) (at-loop c .loop .j)
-unfolding shuffleAt
-drawn c = rw (← after-pair-place (at-loop c) .pair-place .ensures) (c .number .ensures)
+unfolding numberAt
+drawn c = rw (← due (at-loop c)) (c .number .ensures)
 
 loop-holds : tie.Need-loop-holds Inv-loop μ-loop
 loop-holds c = (omega arith, pieces-none _ (bytes 2) _ _)

@@ -11,10 +11,10 @@ use Rattle.columns.proofs.fill_groups.Statement.{statement}
 use Rattle.columns.proofs.fill_groups.Tie as tie
 
 abbrev Inv-loop : tie.InvT-loop
-Inv-loop b n at t₀ i₀ t i = (i ≤ n) × Filling i (λ k. bigEndian 1 b (pairPlace k + at)) t₀ t
+Inv-loop b version n at t₀ i₀ t i = (i ≤ n) × Filling i (λ k. bigEndian 1 b (pairPlace version k + at)) t₀ t
 
 abbrev μ-loop : tie.MeasureT-loop
-μ-loop b n at t₀ i₀ t i = n - i
+μ-loop b version n at t₀ i₀ t i = n - i
 
 -- moments, each seen from a later one
 abbrev start : tie.At-loop Inv-loop μ-loop → tie.Start Inv-loop μ-loop
@@ -34,14 +34,14 @@ loop-again c =
     let at-loop = c .before .before .before in
     let s = start at-loop .args in
     let l = at-loop .loop in
-    let e : c .number .result ≡ bigEndian 1 (s .b .now) (pairPlace (l .i) + s .at) = rw (← c .before .pair-place .ensures) (c .number .ensures) in
-    (omega arith, filling-more (l .i) (λ k. bigEndian 1 (s .b .now) (pairPlace k + s .at)) (s .t .now) (l .t) _ (l .inv .1) e (omega arith))
+    let e : c .number .result ≡ bigEndian 1 (s .b .now) (pairPlace (s .version) (l .i) + s .at) = rw (← c .before .pair-place .ensures .0) (c .number .ensures) in
+    (omega arith, filling-more (l .i) (λ k. bigEndian 1 (s .b .now) (pairPlace (s .version) k + s .at)) (s .t .now) (l .t) _ (l .inv .1) e (omega arith))
 
 returns : tie.Need-returns Inv-loop μ-loop
 returns c =
     let s = start (c .before) .args in
     let l = c .before .loop in
-    filling-all (l .i) (s .n) (λ k. bigEndian 1 (s .b .now) (pairPlace k + s .at)) (s .t .now) (l .t) (l .inv .1) (omega arith)
+    filling-all (l .i) (s .n) (λ k. bigEndian 1 (s .b .now) (pairPlace (s .version) k + s .at)) (s .t .now) (l .t) (l .inv .1) (omega arith)
 
 pub fill-groups-spec : {M : Type 1} → statement M
 fill-groups-spec =

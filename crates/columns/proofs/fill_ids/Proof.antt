@@ -11,10 +11,10 @@ use Rattle.columns.proofs.fill_ids.Statement.{statement}
 use Rattle.columns.proofs.fill_ids.Tie as tie
 
 abbrev Inv-loop : tie.InvT-loop
-Inv-loop b n t₀ i₀ t i = (i ≤ n) × Filling i (λ k. bigEndian 4 b (pairPlace k + idAt)) t₀ t
+Inv-loop b version n t₀ i₀ t i = (i ≤ n) × Filling i (λ k. bigEndian 4 b (pairPlace version k + idAt)) t₀ t
 
 abbrev μ-loop : tie.MeasureT-loop
-μ-loop b n t₀ i₀ t i = n - i
+μ-loop b version n t₀ i₀ t i = n - i
 
 -- moments, each seen from a later one
 abbrev start : tie.At-loop Inv-loop μ-loop → tie.Start Inv-loop μ-loop
@@ -34,14 +34,14 @@ loop-again c =
     let at-loop = c .before .before .before in
     let s = start at-loop .args in
     let l = at-loop .loop in
-    let e : c .number .result ≡ bigEndian 4 (s .b .now) (pairPlace (l .i) + idAt) = rw (← c .before .pair-place .ensures) (c .number .ensures) in
-    (omega arith, filling-more (l .i) (λ k. bigEndian 4 (s .b .now) (pairPlace k + idAt)) (s .t .now) (l .t) _ (l .inv .1) e (omega arith))
+    let e : c .number .result ≡ bigEndian 4 (s .b .now) (pairPlace (s .version) (l .i) + idAt) = rw (← c .before .pair-place .ensures .0) (c .number .ensures) in
+    (omega arith, filling-more (l .i) (λ k. bigEndian 4 (s .b .now) (pairPlace (s .version) k + idAt)) (s .t .now) (l .t) _ (l .inv .1) e (omega arith))
 
 returns : tie.Need-returns Inv-loop μ-loop
 returns c =
     let s = start (c .before) .args in
     let l = c .before .loop in
-    filling-all (l .i) (s .n) (λ k. bigEndian 4 (s .b .now) (pairPlace k + idAt)) (s .t .now) (l .t) (l .inv .1) (omega arith)
+    filling-all (l .i) (s .n) (λ k. bigEndian 4 (s .b .now) (pairPlace (s .version) k + idAt)) (s .t .now) (l .t) (l .inv .1) (omega arith)
 
 pub fill-ids-spec : {M : Type 1} → statement M
 fill-ids-spec =

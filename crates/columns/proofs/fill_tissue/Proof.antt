@@ -10,10 +10,10 @@ use Rattle.columns.proofs.fill_tissue.Statement.{statement}
 use Rattle.columns.proofs.fill_tissue.Tie as tie
 
 abbrev Inv-loop : tie.InvT-loop
-Inv-loop b n at t₀ i₀ t i = (i ≤ n) × Filling i (λ k. bigEndian 8 b (pairPlace k + at)) t₀ t
+Inv-loop b version n at t₀ i₀ t i = (i ≤ n) × Filling i (λ k. bigEndian 8 b (pairPlace version k + at)) t₀ t
 
 abbrev μ-loop : tie.MeasureT-loop
-μ-loop b n at t₀ i₀ t i = n - i
+μ-loop b version n at t₀ i₀ t i = n - i
 
 loop-holds : tie.Need-loop-holds Inv-loop μ-loop
 loop-holds c = (omega arith, filling-none _ _)
@@ -24,14 +24,14 @@ loop-again c =
     let start = at-loop .before .before .before in
     let s = start .args in
     let l = at-loop .loop in
-    let e : c .number .result ≡ bigEndian 8 (s .b .now) (pairPlace (l .i) + s .at) = rw (← c .before .pair-place .ensures) (c .number .ensures) in
-    (omega arith, filling-more (l .i) (λ k. bigEndian 8 (s .b .now) (pairPlace k + s .at)) (s .t .now) (l .t) _ (l .inv .1) e (omega arith))
+    let e : c .number .result ≡ bigEndian 8 (s .b .now) (pairPlace (s .version) (l .i) + s .at) = rw (← c .before .pair-place .ensures .0) (c .number .ensures) in
+    (omega arith, filling-more (l .i) (λ k. bigEndian 8 (s .b .now) (pairPlace (s .version) k + s .at)) (s .t .now) (l .t) _ (l .inv .1) e (omega arith))
 
 returns : tie.Need-returns Inv-loop μ-loop
 returns c =
     let s = c .before .before .before .before .args in
     let l = c .before .loop in
-    filling-all (l .i) (s .n) (λ k. bigEndian 8 (s .b .now) (pairPlace k + s .at)) (s .t .now) (l .t) (l .inv .1) (omega arith)
+    filling-all (l .i) (s .n) (λ k. bigEndian 8 (s .b .now) (pairPlace (s .version) k + s .at)) (s .t .now) (l .t) (l .inv .1) (omega arith)
 
 pub fill-tissue-spec : {M : Type 1} → statement M
 fill-tissue-spec =

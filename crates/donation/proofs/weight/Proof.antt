@@ -1,27 +1,33 @@
--- `donation::weight` meets its contract. Assumes nothing.
+-- `donation::weight` meets its contract: by points that 14 lets pass, no sum exceeds 16 bits. Assumes nothing.
 use native.Mathlib.Omega.{arith}
 use borrow.Author.Needs.{needs}
 use borrow.Author.Tests.{eq-eqb, ne-eqb}
-use Rattle.donation.specs.Weight.{documentPoints}
-use Rattle.donation.proofs.Points.{documentMismatch-most, documentAge-most}
+use Rattle.points.specs.Named.{named}
+use Rattle.donation.proofs.Points.{weight-fits}
 use Rattle.donation.proofs.weight.Statement.{statement}
 use Rattle.donation.proofs.weight.Tie as tie
 
 add-result : tie.Need-add-result
-unfolding documentPoints
-add-result c = omega (arith, documentMismatch-most (c .before .mismatches .result))
+add-result c =
+    let m = c .before in
+    let d = m .before in
+    let start = d .before .before in
+    let s = start .args in
+    omega (arith, m .mismatch-points .ensures, weight-fits (named (s .points)) (start .pre) (d .mismatches .result) (s .donor-age) (s .patient-age))
 
 add-result-2 : tie.Need-add-result-2
-unfolding documentPoints
 add-result-2 c =
-    let s = c .before .before .before .before .args in
-    omega (arith, documentMismatch-most (c .before .before .mismatches .result), documentAge-most (s .donor-age) (s .patient-age))
+    let m = c .before .before in
+    let d = m .before in
+    let start = d .before .before in
+    let s = start .args in
+    omega (arith, c .age-points .ensures, m .mismatch-points .ensures, weight-fits (named (s .points)) (start .pre) (d .mismatches .result) (s .donor-age) (s .patient-age))
 
 returns : tie.Need-returns
-unfolding documentPoints
 returns c =
-    let d = c .before .before in
-    simp (ne-eqb _ _ (d .before .if1 .taken), c .age-points .ensures, c .before .mismatch-points .ensures, d .mismatches .ensures)
+    let m = c .before .before in
+    let d = m .before in
+    simp (ne-eqb _ _ (d .before .if1 .taken), c .age-points .ensures, m .mismatch-points .ensures, d .mismatches .ensures)
 
 returns-2 : tie.Need-returns-2
 returns-2 c = simp (eq-eqb _ _ (c .if1 .left))

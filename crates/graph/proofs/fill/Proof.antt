@@ -6,8 +6,9 @@ use native.Mathlib.Omega.{arith}
 use borrow.Author.Needs.{needs}
 use Rattle.laws.proofs.Lent.{Filling}
 use Rattle.pool.specs.Tables.{fields, pairIn}
+use Rattle.points.specs.Named.{named}
 use Rattle.donation.specs.Compatibility.{compatibility}
-use Rattle.donation.specs.Weight.{documentPoints, weight}
+use Rattle.donation.specs.Weight.{weight}
 use Rattle.graph.specs.Graph.{graph, filledGraph, withRow}
 use Rattle.graph.specs.Preconditions.{Buildable}
 use Rattle.graph.proofs.Rows.{cell, rows-none, rows-more, rows-all}
@@ -15,15 +16,15 @@ use Rattle.graph.proofs.fill.Statement.{statement}
 use Rattle.graph.proofs.fill.Tie as tie
 
 abbrev Inv-loop : tie.InvT-loop
-Inv-loop n donor-blood patient-blood donor-age patient-age donor-antigens patient-antigens patient-antibodies compatibilities₀ weights₀ i₀ compatibilities weights i =
+Inv-loop points n donor-blood patient-blood donor-age patient-age donor-antigens patient-antigens patient-antibodies compatibilities₀ weights₀ i₀ compatibilities weights i =
     let f = fields [] donor-blood patient-blood donor-age patient-age donor-antigens patient-antigens patient-antibodies in
     (i ≤ n)
-    × Buildable n f (graph compatibilities₀ weights₀)
+    × Buildable (named points) n f (graph compatibilities₀ weights₀)
     × Filling (i * n) (cell n (compatibility (pairIn f))) compatibilities₀ compatibilities
-    × Filling (i * n) (cell n (weight documentPoints (pairIn f))) weights₀ weights
+    × Filling (i * n) (cell n (weight (named points) (pairIn f))) weights₀ weights
 
 abbrev μ-loop : tie.MeasureT-loop
-μ-loop n donor-blood patient-blood donor-age patient-age donor-antigens patient-antigens patient-antibodies compatibilities₀ weights₀ i₀ compatibilities weights i =
+μ-loop points n donor-blood patient-blood donor-age patient-age donor-antigens patient-antigens patient-antibodies compatibilities₀ weights₀ i₀ compatibilities weights i =
     n - i
 
 loop-holds : tie.Need-loop-holds Inv-loop μ-loop
@@ -55,7 +56,7 @@ weight-row-requires : tie.Need-weight-row-requires Inv-loop μ-loop
 weight-row-requires c κs =
     let t = c .before .before .before .before .before in
     let v = t .before .loop .inv in
-    (record { inside = t .loop-test .taken; few = v .1 .few; fits = rw (v .3 .kept) (v .1 .inWeights) }, v .1 .forW)
+    (record { inside = t .loop-test .taken; few = v .1 .few; fits = rw (v .3 .kept) (v .1 .inWeights) }, (v .1 .forW, v .1 .points))
 
 same-length : tie.Need-same-length Inv-loop μ-loop
 same-length c = c .before .loop .inv .2 .kept

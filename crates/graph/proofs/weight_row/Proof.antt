@@ -4,7 +4,9 @@ use Prim.Native.Nat.{_-_, _*_, _≤_}
 use native.Mathlib.Omega.{arith}
 use borrow.Author.Needs.{needs}
 use Rattle.pool.specs.Tables.{pairIn}
-use Rattle.donation.specs.Weight.{documentPoints, weight}
+use Rattle.pool.specs.Faultless.{SoundPoints}
+use Rattle.points.specs.Named.{named}
+use Rattle.donation.specs.Weight.{weight}
 use Rattle.graph.specs.Graph.{withRow}
 use Rattle.graph.specs.Sources.{fieldsOfW}
 use Rattle.graph.specs.Preconditions.{Row, ReadableForW}
@@ -13,14 +15,15 @@ use Rattle.graph.proofs.weight_row.Statement.{statement}
 use Rattle.graph.proofs.weight_row.Tie as tie
 
 abbrev Inv-loop : tie.InvT-loop
-Inv-loop i n donor-age patient-age donor-antigens patient-antigens weights₀ age antigens start j₀ weights j =
+Inv-loop points i n donor-age patient-age donor-antigens patient-antigens weights₀ age antigens start j₀ weights j =
     (j ≤ n)
     × Row i n weights₀
     × ReadableForW n donor-age patient-age donor-antigens patient-antigens
-    × Storing (i * n) j (weight documentPoints (pairIn (fieldsOfW donor-age patient-age donor-antigens patient-antigens)) i) weights₀ weights
+    × Storing (i * n) j (weight (named points) (pairIn (fieldsOfW donor-age patient-age donor-antigens patient-antigens)) i) weights₀ weights
+    × SoundPoints (named points)
 
 abbrev μ-loop : tie.MeasureT-loop
-μ-loop i n donor-age patient-age donor-antigens patient-antigens weights₀ age antigens start j₀ weights j =
+μ-loop points i n donor-age patient-age donor-antigens patient-antigens weights₀ age antigens start j₀ weights j =
     n - j
 
 -- moments, each seen from a later one
@@ -37,7 +40,10 @@ loop-holds : tie.Need-loop-holds Inv-loop μ-loop
 loop-holds c =
     let start = c .before .before .before .before .before .before .before in
     let p = start .pre in
-    (omega arith, p .0, p .1, storing-none _ _ _)
+    (omega arith, p .0, p .1 .0, storing-none _ _ _, p .1 .1)
+
+weight-requires : tie.Need-weight-requires Inv-loop μ-loop
+weight-requires c κs = c .before .before .before .loop .inv .4
 
 add-weights : tie.Need-add-weights Inv-loop μ-loop
 add-weights c =
@@ -63,6 +69,7 @@ loop-again c =
       v .1,
       v .2,
       storing-more _ _ _ (l .j) (l .weights) _ (v .3) (c .weight .ensures) (omega (arith, row-fits (v .1 .inside), v .1 .fits)),
+      v .4,
     )
 
 same-length : tie.Need-same-length Inv-loop μ-loop
@@ -78,5 +85,5 @@ pub weight-row-spec : {M : Type 1} → statement M
 weight-row-spec =
     tie.close
     (tie.spec Inv-loop μ-loop (λ c. search needs) (λ c. search needs) (λ c. search needs) mul-start loop-holds (λ c. search needs)
-    (λ c. search needs) (λ c. search needs) (λ c κs. search needs) add-weights mul-weights slice-write-weights (λ c. search needs)
+    (λ c. search needs) (λ c. search needs) weight-requires add-weights mul-weights slice-write-weights (λ c. search needs)
     (λ c. search needs) loop-again same-length returns)

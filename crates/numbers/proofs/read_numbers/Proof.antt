@@ -10,7 +10,7 @@ returns c =
 
 returns-2 : tie.Need-returns-2
 returns-2 c =
-    read-finished _ _ (c .before .answer2 .given .1)
+    read-finished _ _ _ (c .before .answer2 .given .1)
 
 pub read-numbers-spec : {M : Type 1} → statement M
 read-numbers-spec = tie.close (tie.spec (λ c. search needs) (λ c κs. search needs) (λ c. search needs) returns returns-2)

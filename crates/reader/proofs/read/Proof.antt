@@ -1,6 +1,6 @@
 -- `reader::read` meets its contract. Assumes nothing.
 use Prim.Native.Nat.{min}
-use mathlib.Core.Path.{_≡_, sym, ap, _∙_}
+use mathlib.Core.Path.{_≡_, refl, sym, ap, _∙_}
 use borrow.Author.Needs.{needs}
 use lib.ListN.{length}
 use Rattle.pool.specs.Tables.{Tables, fields, tables, fieldRoom, room}
@@ -12,19 +12,19 @@ use Rattle.reader.proofs.read.Tie as tie
 
 -- the function's start, and what was lent there
 abbrev start : tie.After-judge → tie.Start
-start c = c .before .before .before .before .before .before .before .before .before .before .before .before .before
+start c = c .before .before .before .before .before .before .before .before .before .before .before .before .before .before
 
 abbrev lent : tie.Start → Tables
 lent s =
     let a = s .args in
-    tables
+    tables (a .points .now)
     (fields (a .ids .now) (a .donor-blood .now) (a .patient-blood .now) (a .donor-age .now) (a .patient-age .now) (a .donor-antigens .now)
     (a .patient-antigens .now) (a .patient-antibodies .now))
     (a .shuffle .now)
 
 -- moments, each seen from a later one
-abbrev after-n : tie.After-fill-arg9 → tie.After-n
-after-n c = c .before .before .before .before .before .before .before .before .before .before
+abbrev after-version : tie.After-fill-arg10 → tie.After-version
+after-version c = c .before .before .before .before .before .before .before .before .before .before .before
 
 -- what was judged is the answer
 answers : (c : tie.After-judge) → answerOf (c .judge .result) ≡ reading (start c .args .sheet .now) (lent (start c)) .answer
@@ -32,15 +32,16 @@ unfolding room fieldRoom
 answers c =
     c .judge .ensures (lent (start c))
     (sym (c .before .lesser .ensures ∙ ap (λ k. min k (length (start c .args .shuffle .now))) (c .before .before .room .ensures)))
+    refl
 
 -- the filling, seen from the end
-abbrev filling : tie.After-slice-known18 → tie.After-fill
-filling c = c .before .before .before .before .before .before .before .before .before .before .before .before .before .before .before .before .before .before
+abbrev filling : tie.After-slice-known20 → tie.After-fill
+filling c = c .before .before .before .before .before .before .before .before .before .before .before .before .before .before .before .before .before .before .before .before
 
 fill-requires : tie.Need-fill-requires
 fill-requires c κs =
-    let n = after-n c in
-    fillable _ _ _ (answers (n .before .before)) _ (n .n .given .1)
+    let v = after-version c in
+    fillable _ _ _ (answers (v .before .before)) _ _ (v .version .given .1)
 
 returns : tie.Need-returns
 returns c =
@@ -50,40 +51,43 @@ returns c =
     (w, rightly _ (lent (start j)) w)
 
 same-length : tie.Need-same-length
-same-length c = filling c .fill .kept .1 .1 .0
+same-length c = filling c .fill .kept .1 .1 .1 .0
 
 same-length-2 : tie.Need-same-length-2
-same-length-2 c = filling c .fill .kept .1 .1 .1 .0
+same-length-2 c = filling c .fill .kept .1 .1 .1 .1 .0
 
 same-length-3 : tie.Need-same-length-3
-same-length-3 c = filling c .fill .kept .1 .1 .1 .1 .0
+same-length-3 c = filling c .fill .kept .1 .1 .1 .1 .1 .0
 
 same-length-4 : tie.Need-same-length-4
-same-length-4 c = filling c .fill .kept .1 .1 .1 .1 .1 .0
+same-length-4 c = filling c .fill .kept .1 .1 .1 .1 .1 .1 .0
 
 same-length-5 : tie.Need-same-length-5
-same-length-5 c = filling c .fill .kept .1 .1 .1 .1 .1 .1 .0
+same-length-5 c = filling c .fill .kept .1 .1 .1 .1 .1 .1 .1 .0
 
 same-length-6 : tie.Need-same-length-6
-same-length-6 c = filling c .fill .kept .1 .1 .1 .1 .1 .1 .1 .0
+same-length-6 c = filling c .fill .kept .1 .1 .1 .1 .1 .1 .1 .1 .0
 
 same-length-7 : tie.Need-same-length-7
-same-length-7 c = filling c .fill .kept .1 .1 .1 .1 .1 .1 .1 .1 .0
+same-length-7 c = filling c .fill .kept .1 .1 .1 .1 .1 .1 .1 .1 .1 .0
 
 same-length-8 : tie.Need-same-length-8
-same-length-8 c = filling c .fill .kept .1 .1 .1 .1 .1 .1 .1 .1 .1 .0
+same-length-8 c = filling c .fill .kept .1 .1 .1 .1 .1 .1 .1 .1 .1 .1 .0
 
 same-length-9 : tie.Need-same-length-9
-same-length-9 c = filling c .fill .kept .1 .1 .1 .1 .1 .1 .1 .1 .1 .1 .0
+same-length-9 c = filling c .fill .kept .1 .1 .1 .1 .1 .1 .1 .1 .1 .1 .1 .0
+
+same-length-10 : tie.Need-same-length-10
+same-length-10 c = filling c .fill .kept .1 .1 .1 .1 .1 .1 .1 .1 .1 .1 .1 .1 .0
 
 returns-2 : tie.Need-returns-2
 returns-2 c =
     let f = filling c in
-    let n = after-n (f .before) in
-    let j = n .before .before in
-    let e = n .n .given .1 in (
-      rw (f .fill .ensures) (finished-leaves _ (lent (start j)) _ (answers j) _ e),
-      rightly _ (lent (start j)) (rw (f .fill .ensures) (finished-leaves _ (lent (start j)) _ (answers j) _ e)),
+    let v = after-version (f .before) in
+    let j = v .before .before in
+    let e = v .version .given .1 in (
+      rw (f .fill .ensures) (finished-leaves _ (lent (start j)) _ (answers j) _ _ e),
+      rightly _ (lent (start j)) (rw (f .fill .ensures) (finished-leaves _ (lent (start j)) _ (answers j) _ _ e)),
     )
 
 pub read-spec : {M : Type 1} → statement M
@@ -91,4 +95,4 @@ read-spec =
     tie.close
     (tie.spec (λ c κs. search needs) (λ c κs. search needs) (λ c κs. search needs) (λ c. search needs) (λ c. search needs) fill-requires
     returns same-length same-length-2 same-length-3 same-length-4 same-length-5 same-length-6 same-length-7 same-length-8 same-length-9
-    returns-2)
+    same-length-10 returns-2)

@@ -10,7 +10,7 @@ use Rattle.refusal.specs.Number.{faultAt}
 use Rattle.refusal.proofs.Faults.{sound-none, faulty-fault, sound-then, faulty-then, first-hit, first-more}
 use Rattle.pool.specs.Sheet.{pairTag, pairLength, pairPlace, idAt, pairAt}
 use Rattle.pool.specs.Faults.{fieldFault, pairFieldFault}
-use Rattle.pool.specs.Faultless.{PairField}
+use Rattle.pool.specs.Faultless.{pairDue, PairField}
 use Rattle.pool.proofs.Fields.{field-passed}
 use Rattle.scan.specs.Answers.{foundFault}
 use Rattle.scan.specs.Preconditions.{Noted}
@@ -19,10 +19,10 @@ use Rattle.scan.proofs.pairs.Statement.{statement}
 use Rattle.scan.proofs.pairs.Tie as tie
 
 abbrev Inv-loop : tie.InvT-loop
-Inv-loop b n ids₀ i₀ ids i = (i ≤ n) × (length ids ≡ 200) × Noted b i ids × (firstBelow i (pairFieldFault b) ≡ none)
+Inv-loop b version n ids₀ i₀ ids i = (i ≤ n) × (length ids ≡ 200) × Noted b i ids × (firstBelow i (pairFieldFault b) ≡ none)
 
 abbrev μ-loop : tie.MeasureT-loop
-μ-loop b n ids₀ i₀ ids i = n - i
+μ-loop b version n ids₀ i₀ ids i = n - i
 
 -- moments, each seen from a later one
 abbrev at-loop : tie.After-field Inv-loop μ-loop → tie.At-loop Inv-loop μ-loop
@@ -34,11 +34,16 @@ start c = at-loop c .before .before
 abbrev after-pair-place : tie.After-enum-told Inv-loop μ-loop → tie.After-pair-place Inv-loop μ-loop
 after-pair-place c = c .before .before .before
 
--- what was found of the field of pair i
+-- where the field of pair i is due
+due : (c : tie.After-pair-place Inv-loop μ-loop)
+    → c .pair-place .result ≡ pairDue (c .before .before .before .before .args .b .now) (c .before .before .loop .i)
+due c = c .pair-place .ensures .0 ∙ ap (λ v. pairPlace v (c .before .before .loop .i)) (c .before .before .before .before .pre .1)
+
+-- what was found of it
 found : (c : tie.After-field Inv-loop μ-loop)
-    → faultAt (pairPlace (at-loop c .loop .i)) (c .field .result)
-    ≡ fieldFault (start c .args .b .now) (pairPlace (at-loop c .loop .i)) pairTag pairLength
-found c = rw (← c .before .pair-place .ensures) (c .field .ensures)
+    → faultAt (pairDue (start c .args .b .now) (at-loop c .loop .i)) (c .field .result)
+    ≡ fieldFault (start c .args .b .now) (pairDue (start c .args .b .now) (at-loop c .loop .i)) pairTag pairLength
+found c = rw (← due (c .before)) (c .field .ensures)
 
 -- past the first match, it is whole
 whole : (c : tie.After-enum-told Inv-loop μ-loop)
@@ -54,7 +59,7 @@ unfolding pairAt
 noted c =
     let p = after-pair-place (c .before) in
     let l = p .before .before .loop in
-    noted-more _ (l .i) (l .ids) _ (l .inv .2) (omega arith) (rw (← p .pair-place .ensures) (c .number .ensures))
+    noted-more _ (l .i) (l .ids) _ (l .inv .2) (omega arith) (rw (← due p) (c .number .ensures))
 
 loop-holds : tie.Need-loop-holds Inv-loop μ-loop
 unfolding firstBelow
@@ -66,12 +71,12 @@ returns c =
     let f = c .before .before .before in
     let p = f .before in
     let l = p .before .before .loop in
-    rw (p .pair-place .ensures)
+    rw (due p)
     (sym
     (first-hit _ _ (l .i) (p .before .loop-test .taken) (l .inv .3) (sym (faulty-then _ _ _ _ (found f) _ (c .before .why .given .1)))))
 
 number-requires : tie.Need-number-requires Inv-loop μ-loop
-number-requires c κs = (search needs, omega (arith, whole c .whole, after-pair-place c .pair-place .ensures))
+number-requires c κs = (search needs, omega (arith, whole c .whole, due (after-pair-place c)))
 
 cast-ids : tie.Need-cast-ids Inv-loop μ-loop
 cast-ids c =
@@ -86,7 +91,10 @@ slice-aggregate-pair-value c =
     sym (length-set (l .ids) (l .i) (c .before .number .result) ∙ l .inv .1)
 
 pair-value-requires : tie.Need-pair-value-requires Inv-loop μ-loop
-pair-value-requires c κs = (search needs, omega (arith, whole (c .before .before) .whole), noted (c .before))
+pair-value-requires c κs =
+    let e = c .before .before in
+    let p = after-pair-place e in
+    (search needs, search needs, omega (arith, whole e .whole, due p, p .pair-place .ensures), noted (c .before))
 
 returns-2 : tie.Need-returns-2 Inv-loop μ-loop
 unfolding foundFault pairFieldFault
@@ -96,7 +104,7 @@ returns-2 c =
     let f = e .before .before in
     let p = f .before in
     let l = p .before .before .loop in
-    rw (p .pair-place .ensures)
+    rw (due p)
     (sym
     (first-hit _ _ (l .i) (p .before .loop-test .taken) (l .inv .3)
     (sym

@@ -4,11 +4,10 @@ use borrow.Author.Needs.{needs}
 use Rattle.try_sheets.proofs.try_changed.Statement.{statement}
 use Rattle.try_sheets.proofs.try_changed.Tie as tie
 
-slice-aggregate-try-reading : tie.Need-slice-aggregate-try-reading
-slice-aggregate-try-reading c = sym (length-take-le _ _ (search needs))
+slice-aggregate-try-sheet : tie.Need-slice-aggregate-try-sheet
+slice-aggregate-try-sheet c = sym (length-take-le _ _ (search needs))
 
 pub try-changed-spec : {M : Type 1} → statement M
 try-changed-spec =
     tie.close
-    (tie.spec (λ c κs. search needs) (λ c. search needs) slice-aggregate-try-reading (λ c. search needs) (λ c κs. search needs)
-    (λ c. search needs))
+    (tie.spec (λ c κs. search needs) (λ c. search needs) slice-aggregate-try-sheet (λ c κs. search needs) (λ c. search needs))

@@ -10,4 +10,4 @@ slice-aggregate-try-reading c = sym (length-take-le _ _ (search needs))
 pub try-short-spec : {M : Type 1} → statement M
 try-short-spec =
     tie.close
-    (tie.spec (λ c. search needs) slice-aggregate-try-reading (λ c. search needs) (λ c κs. search needs) (λ c. search needs))
+    (tie.spec (λ c. search needs) slice-aggregate-try-reading (λ c. search needs) (λ c. search needs) (λ c κs. search needs) (λ c. search needs))

@@ -1,15 +1,15 @@
 use Prim.Native.Nat.{_-_, _≤_}
 use mathlib.Core.Path.{_≡_}
-use borrow.Author.Needs.{needs}
 use lib.ListN.{length}
+use borrow.Author.Needs.{needs}
 use Rattle.try_sheets.proofs.write_greatest.Statement.{statement}
 use Rattle.try_sheets.proofs.write_greatest.Tie as tie
 
 abbrev Inv-loop : tie.InvT-loop
-Inv-loop out ids₀ shuffle₀ i₀ ids shuffle i = (i ≤ 200) × (length ids ≡ 200) × (length shuffle ≡ 200)
+Inv-loop version out ids₀ shuffle₀ i₀ ids shuffle i = (i ≤ 200) × (length ids ≡ 200) × (length shuffle ≡ 200)
 
 abbrev μ-loop : tie.MeasureT-loop
-μ-loop out ids₀ shuffle₀ i₀ ids shuffle i = 200 - i
+μ-loop version out ids₀ shuffle₀ i₀ ids shuffle i = 200 - i
 
 pub write-greatest-spec : {M : Type 1} → statement M
 write-greatest-spec =
@@ -17,4 +17,4 @@ write-greatest-spec =
     (tie.spec Inv-loop μ-loop (λ c. search needs) (λ c. search needs) (λ c. search needs) (λ c. search needs) (λ c. search needs)
     (λ c. search needs) (λ c. search needs) (λ c. search needs) (λ c. search needs) (λ c. search needs) (λ c. search needs)
     (λ c. search needs) (λ c. search needs) (λ c. search needs) (λ c. search needs) (λ c. search needs) (λ c. search needs)
-    (λ c. search needs) (λ c. search needs) (λ c κs. search needs) (λ c. search needs) (λ c. search needs))
+    (λ c. search needs) (λ c. search needs) (λ c. search needs) (λ c κs. search needs) (λ c. search needs) (λ c. search needs))

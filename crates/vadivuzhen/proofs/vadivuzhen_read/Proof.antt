@@ -10,7 +10,7 @@ use Rattle.vadivuzhen.proofs.vadivuzhen_read.Tie as tie
 
 returns : tie.Need-returns
 returns c =
-    let after-read = c .before .before .before .before .before .before .before .before .before .before .before .before .before .before .before .before .before .before .before in
+    let after-read = c .before .before .before .before .before .before .before .before .before .before .before .before .before .before .before .before .before .before .before .before .before in
     let w = after-read .read in
     kept readNumbers Numbered (ReadsRightly _ _) (c .read-numbers .ensures) (read-numbered (w .result)) (w .ensures .0) (w .ensures .1)
 
@@ -18,4 +18,4 @@ pub vadivuzhen-read-spec : {M : Type 1} → statement M
 vadivuzhen-read-spec =
     tie.close
     (tie.spec (λ c κs. search needs) (λ c κs. search needs) (λ c. search needs) (λ c. search needs) (λ c. search needs) (λ c. search needs)
-    (λ c. search needs) (λ c. search needs) (λ c. search needs) (λ c. search needs) (λ c. search needs) returns)
+    (λ c. search needs) (λ c. search needs) (λ c. search needs) (λ c. search needs) (λ c. search needs) (λ c. search needs) returns)

@@ -11,7 +11,7 @@ use Rattle.weighing.proofs.judge.Tie as tie
 pairs-requires : tie.Need-pairs-requires
 unfolding fieldRoom
 pairs-requires c κs =
-    let start = c .before .before .before .before .before .before .before .before .before in
+    let start = c .before .before .before .before .before .before .before .before .before .before in
     let s = start .args in
     spaced-fields _
     (fields (s .ids .now) (s .donor-blood .now) (s .patient-blood .now) (s .donor-age .now) (s .patient-age .now) (s .donor-antigens .now)
@@ -21,32 +21,32 @@ returns : tie.Need-returns
 unfolding fieldRoom
 returns c =
     let d = c .before .before .before in
-    judge-fields _ (d .before .room .result) _ _ _ (d .before .room .ensures) (d .pairs .result) (d .pairs .ensures _ _ _) _ (c .before .why .given .1)
+    judge-fields _ _ (d .before .room .result) _ _ _ _ (d .before .room .ensures) (d .pairs .result) (d .pairs .ensures _ _ _) _ (c .before .why .given .1)
 
 mul-entries : tie.Need-mul-entries
 mul-entries c =
     let p = c .before .before .pairs in
-    omega (arith, rows-few (passed-few _ _ _ (p .result) (p .ensures [] [] []) (c .enum-told .given .1)))
+    omega (arith, rows-few (passed-few _ _ _ _ _ (p .result) (p .ensures [] [] []) (c .enum-told .given .1)))
 
 returns-2 : tie.Need-returns-2
 unfolding fieldRoom
 returns-2 c =
     let d = c .before .before .before in
-    judge-compatibilities _ (d .before .room .result) _ _ _ (d .before .room .ensures) (d .pairs .result) (d .pairs .ensures _ _ _)
+    judge-compatibilities _ _ (d .before .room .result) _ _ _ _ (d .before .room .ensures) (d .pairs .result) (d .pairs .ensures _ _ _)
     (c .before .enum-told .given .1) (c .if1 .taken)
 
 returns-3 : tie.Need-returns-3
 unfolding fieldRoom
 returns-3 c =
     let d = c .before .before .before .before in
-    judge-weights _ (d .before .room .result) _ _ _ (d .before .room .ensures) (d .pairs .result) (d .pairs .ensures _ _ _)
+    judge-weights _ _ (d .before .room .result) _ _ _ _ (d .before .room .ensures) (d .pairs .result) (d .pairs .ensures _ _ _)
     (c .before .before .enum-told .given .1) (c .before .if1 .left) (c .if2 .taken)
 
 returns-4 : tie.Need-returns-4
 unfolding fieldRoom
 returns-4 c =
     let d = c .before .before .before .before in
-    judge-sound _ (d .before .room .result) _ _ _ (d .before .room .ensures) (d .pairs .result) (d .pairs .ensures _ _ _)
+    judge-sound _ _ (d .before .room .result) _ _ _ _ (d .before .room .ensures) (d .pairs .result) (d .pairs .ensures _ _ _)
     (c .before .before .enum-told .given .1) (c .before .if1 .left) (c .if2 .left)
 
 pub judge-spec : {M : Type 1} → statement M

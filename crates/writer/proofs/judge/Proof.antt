@@ -9,12 +9,12 @@ use Rattle.writer.proofs.judge.Tie as tie
 
 abbrev given : tie.Start → Tables
 given s =
-    tables
+    tables (s .args .points .now)
     (fields (s .args .ids .now) (s .args .donor-blood .now) (s .args .patient-blood .now) (s .args .donor-age .now) (s .args .patient-age .now)
     (s .args .donor-antigens .now) (s .args .patient-antigens .now) (s .args .patient-antibodies .now)) (s .args .shuffle .now)
 
 abbrev start : tie.After-lesser → tie.Start
-start c = c .before .before .before .before .before .before .before .before .before .before .before
+start c = c .before .before .before .before .before .before .before .before .before .before .before .before
 
 shortest : (c : tie.After-lesser) → c .lesser .result ≡ room (given (start c))
 unfolding fieldRoom
@@ -27,19 +27,19 @@ shuffle-requires : tie.Need-shuffle-requires
 shuffle-requires c κs =
     let p = c .before .before in
     let s = start (p .before) in
-    omega (arith, judged-held (s .args .n) (given s) _ (shortest (p .before)) (p .pairs .result) (p .pairs .ensures _ _ _) (c .enum-told .given .1))
+    omega (arith, judged-held (s .args .version) (s .args .n) (given s) _ (shortest (p .before)) (p .pairs .result) (p .pairs .ensures _ _ _) (c .enum-told .given .1))
 
 returns : tie.Need-returns
 returns c =
     let p = c .before .before .before in
     let s = start (p .before) in
-    judged-pairs (s .args .n) (given s) _ (shortest (p .before)) (p .pairs .result) (p .pairs .ensures _ _ _) _ (c .before .why .given .1)
+    judged-pairs (s .args .version) (s .args .n) (given s) _ (shortest (p .before)) (p .pairs .result) (p .pairs .ensures _ _ _) _ (c .before .why .given .1)
 
 returns-2 : tie.Need-returns-2
 returns-2 c =
     let p = c .before .before .before in
     let s = start (p .before) in
-    judged-shuffle (s .args .n) (given s) _ (shortest (p .before)) (p .pairs .result) (p .pairs .ensures _ _ _) (c .before .enum-told .given .1)
+    judged-shuffle (s .args .version) (s .args .n) (given s) _ (shortest (p .before)) (p .pairs .result) (p .pairs .ensures _ _ _) (c .before .enum-told .given .1)
     (c .shuffle .result) (c .shuffle .ensures 0)
 
 pub judge-spec : {M : Type 1} → statement M

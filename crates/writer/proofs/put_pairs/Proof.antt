@@ -13,13 +13,13 @@ use Rattle.writer.proofs.put_pairs.Statement.{statement}
 use Rattle.writer.proofs.put_pairs.Tie as tie
 
 abbrev Inv-loop : tie.InvT-loop
-Inv-loop out₀ n ids donor-blood patient-blood donor-age patient-age donor-antigens patient-antigens patient-antibodies i₀ out i =
+Inv-loop out₀ version n ids donor-blood patient-blood donor-age patient-age donor-antigens patient-antigens patient-antibodies i₀ out i =
     (i ≤ n)
-    × Pieces firstPair i pairField
+    × Pieces (firstPair version) i pairField
     (pairIn (fields ids donor-blood patient-blood donor-age patient-age donor-antigens patient-antigens patient-antibodies)) out₀ out
 
 abbrev μ-loop : tie.MeasureT-loop
-μ-loop out₀ n ids donor-blood patient-blood donor-age patient-age donor-antigens patient-antigens patient-antibodies i₀ out i =
+μ-loop out₀ version n ids donor-blood patient-blood donor-age patient-age donor-antigens patient-antigens patient-antibodies i₀ out i =
     n - i
 
 abbrev given : tie.Start Inv-loop μ-loop → Fields
@@ -32,7 +32,7 @@ abbrev start : tie.At-loop Inv-loop μ-loop → tie.Start Inv-loop μ-loop
 start c = c .before .before .before .before .before .before .before .before .before .before
 
 loop-holds : tie.Need-loop-holds Inv-loop μ-loop
-loop-holds c = (omega arith, pieces-none firstPair pairField _ _)
+loop-holds c = (omega arith, pieces-none _ pairField _ _)
 
 loop-again : tie.Need-loop-again Inv-loop μ-loop
 unfolding pairIn
@@ -42,10 +42,10 @@ loop-again c =
     let turn = p .before .before in
     let l = turn .before .loop in
     let s = start (turn .before) in
-    let fits : pairPlace (l .i) ≤ length (s .args .out .now) = omega (arith, turn .loop-test .taken, s .pre .0) in (
+    let fits : pairPlace (s .args .version) (l .i) ≤ length (s .args .out .now) = omega (arith, turn .loop-test .taken, s .pre .0 .1) in (
       omega (arith, turn .loop-test .taken),
-      pieces-more firstPair pairField (pairIn (given s)) (s .args .out .now) pairSize (l .i) (l .out) _ length-pairField fits (l .inv .1)
-          (after .put-pair .ensures ∙ ap (λ (o : ℕ). stored o (pairField (pairIn (given s) (l .i))) (l .out)) (p .pair-place .ensures))
+      pieces-more (firstPair (s .args .version)) pairField (pairIn (given s)) (s .args .out .now) pairSize (l .i) (l .out) _ length-pairField fits (l .inv .1)
+          (after .put-pair .ensures ∙ ap (λ (o : ℕ). stored o (pairField (pairIn (given s) (l .i))) (l .out)) (p .pair-place .ensures .0))
           (after .put-pair .kept .0),
     )
 
@@ -56,7 +56,7 @@ returns : tie.Need-returns Inv-loop μ-loop
 returns c =
     let l = c .before .loop in
     let s = start (c .before) in
-    pieces-all firstPair pairField (pairIn (given s)) (s .args .out .now) (l .i) (s .args .n) (l .out) (l .inv .1) (omega arith)
+    pieces-all (firstPair (s .args .version)) pairField (pairIn (given s)) (s .args .out .now) (l .i) (s .args .n) (l .out) (l .inv .1) (omega arith)
 
 pub put-pairs-spec : {M : Type 1} → statement M
 put-pairs-spec =

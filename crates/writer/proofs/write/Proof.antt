@@ -9,26 +9,26 @@ use Rattle.writer.proofs.write.Tie as tie
 
 abbrev given : tie.Start → Tables
 given s =
-    tables
+    tables (s .args .points .now)
     (fields (s .args .ids .now) (s .args .donor-blood .now) (s .args .patient-blood .now) (s .args .donor-age .now) (s .args .patient-age .now)
     (s .args .donor-antigens .now) (s .args .patient-antigens .now) (s .args .patient-antibodies .now)) (s .args .shuffle .now)
 
 abbrev start : tie.After-judge → tie.Start
-start c = c .before .before .before .before .before .before .before .before .before .before .before
+start c = c .before .before .before .before .before .before .before .before .before .before .before .before
 
 -- where the pool has no fault
-faultless : (c : tie.After-enum-told) → FaultlessPool (start (c .before .before) .args .n) (given (start (c .before .before)))
+faultless : (c : tie.After-enum-told) → FaultlessPool (start (c .before .before) .args .version) (start (c .before .before) .args .n) (given (start (c .before .before)))
 faultless c =
     let j = c .before .before in
     let s = start j in
-    answered-faultless (s .args .n) (given s) (s .args .out .now) (j .judge .result) (j .judge .ensures) (c .enum-told .given .1)
+    answered-faultless (s .args .version) (s .args .n) (given s) (s .args .out .now) (j .judge .result) (j .judge .ensures) (c .enum-told .given .1)
 
 returns : tie.Need-returns
 returns c =
     let j = c .before .before .before in
     let s = start j in
-    let e = answered-fault (s .args .n) (given s) (s .args .out .now) (j .judge .result) (j .judge .ensures) _ (c .before .why .given .1) in
-    (e, answered-rightly (s .args .n) (given s) (s .args .out .now) _ _ e)
+    let e = answered-fault (s .args .version) (s .args .n) (given s) (s .args .out .now) (j .judge .result) (j .judge .ensures) _ (c .before .why .given .1) in
+    (e, answered-rightly (s .args .version) (s .args .n) (given s) (s .args .out .now) _ _ e)
 
 sheet-length-requires : tie.Need-sheet-length-requires
 sheet-length-requires c κs = faultless c .pool .few
@@ -40,14 +40,15 @@ returns-2 c =
     let j = d .before .before in
     let s = start j in
     let e =
-    answered-short (s .args .n) (given s) (s .args .out .now) (j .judge .result) (j .judge .ensures) (d .enum-told .given .1)
-    (l .sheet-length .result) (l .sheet-length .ensures) (omega (arith, l .sheet-length .ensures, c .if1 .taken)) in
-    (e, answered-rightly (s .args .n) (given s) (s .args .out .now) _ _ e)
+    answered-short (s .args .version) (s .args .n) (given s) (s .args .out .now) (j .judge .result) (j .judge .ensures) (d .enum-told .given .1)
+    (l .sheet-length .result) (l .sheet-length .ensures .0) (omega (arith, l .sheet-length .ensures, c .if1 .taken)) in
+    (e, answered-rightly (s .args .version) (s .args .n) (given s) (s .args .out .now) _ _ e)
 
 put-sheet-requires : tie.Need-put-sheet-requires
 put-sheet-requires c κs =
     let l = c .before .before in
-    (faultless (l .before) .hold, omega (arith, l .sheet-length .ensures, c .before .if1 .left))
+    let w = faultless (l .before) in
+    (w .hold, (w .pool .few, omega (arith, l .sheet-length .ensures, c .before .if1 .left)))
 
 returns-3 : tie.Need-returns-3
 returns-3 c =
@@ -58,9 +59,9 @@ returns-3 c =
     let j = d .before .before in
     let s = start j in
     let e =
-    answered-written (s .args .n) (given s) (s .args .out .now) (j .judge .result) (j .judge .ensures) (d .enum-told .given .1)
-    (l .sheet-length .result) (l .sheet-length .ensures) _ (omega (arith, i .if1 .left)) (w .put-sheet .ensures) in
-    (e, answered-rightly (s .args .n) (given s) (s .args .out .now) _ _ e)
+    answered-written (s .args .version) (s .args .n) (given s) (s .args .out .now) (j .judge .result) (j .judge .ensures) (d .enum-told .given .1)
+    (l .sheet-length .result) (l .sheet-length .ensures .0) _ (omega (arith, i .if1 .left)) (w .put-sheet .ensures) in
+    (e, answered-rightly (s .args .version) (s .args .n) (given s) (s .args .out .now) _ _ e)
 
 pub write-spec : {M : Type 1} → statement M
 write-spec =

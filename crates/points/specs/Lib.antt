@@ -1,0 +1,2 @@
+-- The code's struct of six points, as the definitions have them.
+pub mod Named
