@@ -64,6 +64,11 @@ static struct vadivuzhen_read_answer read_into(const uint8_t *from, size_t lengt
 {
     for (size_t i = 0; i < sizeof guarded / sizeof guarded[0]; i++)
         guarded[i] = 99;
+    for (size_t i = 0; i < 2; i++) {
+        ids[i] = 99, shuffle[i] = 99;
+        donor_blood[i] = patient_blood[i] = donor_age[i] = patient_age[i] = 99;
+        donor_antigens[i] = patient_antigens[i] = patient_antibodies[i] = 99;
+    }
     return vadivuzhen_read(
         from, length, points, room, ids, 2, donor_blood, 2, patient_blood, 2, donor_age, 2, patient_age, 2,
         donor_antigens, 2, patient_antigens, 2, patient_antibodies, 2, shuffle, 2);
@@ -76,6 +81,16 @@ static int points_are(const uint16_t *with)
         if (points[i] != (with != NULL && i < VADIVUZHEN_POINTS ? with[i] : 99))
             return 0;
     return guarded[0] == 99;
+}
+
+/* Are all the tables as they were before a read? */
+static int unread(void)
+{
+    for (size_t i = 0; i < 2; i++)
+        if (ids[i] != 99 || shuffle[i] != 99 || donor_blood[i] != 99 || patient_blood[i] != 99 || donor_age[i] != 99 || patient_age[i] != 99
+            || donor_antigens[i] != 99 || patient_antigens[i] != 99 || patient_antibodies[i] != 99)
+            return 0;
+    return points_are(NULL);
 }
 
 /* Writes the pool in the tables in that version, with that many of these points, into bytes that held 99 before. */
@@ -144,7 +159,9 @@ static void versions(void)
     check(build_with(1, 2, registry, 0) == VADIVUZHEN_FINISHED && built(1450), "and where no point is lent");
     check(build_with(1, 2, zero, VADIVUZHEN_POINTS) == VADIVUZHEN_FINISHED && built(1450), "and where those lent have a base of 0");
 
-    check(read_into(two, length, 5).refusal == VADIVUZHEN_TOO_SHORT && points_are(NULL), "five points are too short to read into");
+    check(read_into(two, length, 5).refusal == VADIVUZHEN_TOO_SHORT && unread(), "five points are too short to read into");
+    read = read_into(two, length, VADIVUZHEN_POINTS);
+    check(read.refusal == VADIVUZHEN_FINISHED && points_are(registry), "and six are not");
     check(write_with(2, registry, 5, again, length).refusal == VADIVUZHEN_TOO_SHORT && again[0] == 99, "and to write from");
     check(build_with(2, 2, registry, 5) == VADIVUZHEN_TOO_SHORT && unbuilt(), "and to build from");
     check(build_with(2, 0, registry, 5) == VADIVUZHEN_TOO_SHORT && unbuilt(), "with no pairs too");
@@ -154,12 +171,13 @@ static void versions(void)
     check(written.length == sizeof sheet && memcmp(sheet, again, sizeof sheet) == 0 && again[sizeof sheet] == 99, "and writing it looks at none");
 
     sheet_2(two, zero);
-    read = read_into(two, length, 0);
-    check(read.refusal == VADIVUZHEN_WRONG_POINTS && read.version == 0 && read.place == 7 && read.pairs == 0 && points_are(NULL), "a base of 0 is refused at 7");
+    read = read_into(two, length, VADIVUZHEN_POINTS);
+    check(read.refusal == VADIVUZHEN_WRONG_POINTS && read.version == 0 && read.place == 7 && read.pairs == 0 && unread(), "a base of 0 is refused at 7");
     sheet_2(two, wrong);
     two[22] = 9;
-    read = read_into(two, length, 0);
-    check(read.refusal == VADIVUZHEN_WRONG_POINTS && read.place == 7, "and 65,536 together, before the first pair's tag");
+    read = read_into(two, length, VADIVUZHEN_POINTS);
+    check(read.refusal == VADIVUZHEN_WRONG_POINTS && read.place == 7 && unread(), "and 65,536 together, before the first pair's tag");
+    check(read_into(sheet, sizeof sheet, 0).refusal == VADIVUZHEN_FINISHED, "the pairs are read again, to be written and built");
     check(write_with(2, wrong, VADIVUZHEN_POINTS, again, length).refusal == VADIVUZHEN_WRONG_POINTS && again[0] == 99, "and in writing");
     check(build_with(2, 0, wrong, VADIVUZHEN_POINTS) == VADIVUZHEN_WRONG_POINTS && unbuilt(), "and in building, with no pairs too");
     for (size_t i = 1; i < VADIVUZHEN_POINTS; i++) {
@@ -174,6 +192,10 @@ static void versions(void)
     check(build_with(0, 201, wrong, 0) == VADIVUZHEN_WRONG_VERSION && build_with(3, 2, registry, 6) == VADIVUZHEN_WRONG_VERSION
               && build_with(65535, 2, registry, 6) == VADIVUZHEN_WRONG_VERSION && unbuilt(), "versions 0, 3 and 65,535 are refused before all else");
     check(write_with(3, registry, 0, again, 0).refusal == VADIVUZHEN_WRONG_VERSION && again[0] == 99, "and in writing");
+    /* a 16-bit argument, of which the compiler knows nothing */
+    for (volatile uint16_t version = 0; version < 4; version++)
+        check(build_with(version, 2, registry, VADIVUZHEN_POINTS) == (version == 1 || version == 2 ? VADIVUZHEN_FINISHED : VADIVUZHEN_WRONG_VERSION)
+                  && (version == 1 ? built(1450) : version == 2 ? built(2603) : unbuilt()), "a version that is not a constant");
 }
 
 /* A sheet of n pairs with ids from `id` on, bloods O and AB, one bit of the donor's antigens set, and the shuffle 0 to n - 1. Gives its length. */

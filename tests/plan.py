@@ -10,7 +10,7 @@ import sys
 import time
 
 from closing import check, close
-from sheets import DOCUMENT, damaged, registry, sheet_of, two_pairs, whole
+from sheets import DOCUMENT, MOST_READ, bytes_read, damaged, registry, sheet_of, two_pairs, whole
 
 top = pathlib.Path(__file__).resolve().parent.parent
 examples = top / 'examples'
@@ -73,6 +73,8 @@ def try_limits():
     expect('7,425 bytes', longest, 'REFUSED 9 0\n')
     for length in (7426, 7427, 10 ** 6):
         expect(f'version 2 and {length} bytes', longest + bytes(length - 7425), 'REFUSED 5 7425\n')
+    got = bytes_read(PLAN, longest + bytes(10000))
+    check(got == MOST_READ, f'plan reads {got} bytes of a longer input')
     expect('201 pairs', sheet_of(*pool(201)), 'REFUSED 4 0\n')
     for n in range(41):
         lines = printed(PLAN, sheet_of(*pool(n))).splitlines()
@@ -116,7 +118,7 @@ def try_points():
 
 
 def try_triple():
-    """The sheet of answering/specs/Examples, worked out by hand there: what document 01's example leaves alike differs."""
+    """The sheet of answers/specs/Examples, worked out by hand there: what document 01's example leaves alike differs."""
     high = 1 << 63
     alike = [0, 3, 0, 1], [high + 1, high, 0]
     pairs = [(7, [1, 2, 1, 0], [high, 2, 0]), (300, *alike), (10, *alike), (100, [0, 3, 0, 0], [0, 0, high])]

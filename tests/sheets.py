@@ -2,10 +2,12 @@
 answer, number and place. Before them the sheets that request W-205 speaks of, with their answers by hand.
 
 usage: sheets.py [SEED [COUNT]]      the seed is printed, so that a failure can be run again"""
+import os
 import pathlib
 import random
 import subprocess
 import sys
+import tempfile
 
 from closing import check, close
 
@@ -237,6 +239,15 @@ def by_hand():
         yield f'{length} bytes', sheet + bytes(length - len(sheet)), (5, place)
 
 
+def bytes_read(program, data):
+    """How many bytes of its standard input a program reads, a file of these."""
+    with tempfile.TemporaryFile() as file:
+        file.write(data)
+        file.seek(0)
+        subprocess.run([program], stdin=file, capture_output=True)
+        return os.lseek(file.fileno(), 0, os.SEEK_CUR)
+
+
 def main():
     seed = int(sys.argv[1]) if len(sys.argv) > 1 else random.randrange(2 ** 32)
     count = int(sys.argv[2]) if len(sys.argv) > 2 else 2000
@@ -247,6 +258,8 @@ def main():
         check(said(sheet) == want, f'{what}: the reader here says {said(sheet)[:80]!r}, due is {want[:80]!r}')
         got = subprocess.run([LOOK], input=sheet, capture_output=True).stdout.decode()
         check(got == want, f'{what}: look says {got[:80]!r}, due is {want[:80]!r}')
+    got = bytes_read(LOOK, bytes(10000))
+    check(got == MOST_READ, f'look reads {got} bytes of 10,000')
     answers = {}
     for _ in range(count):
         sheet = sheet_of(*whole(draw)) if draw.random() < 0.3 else damaged(draw)

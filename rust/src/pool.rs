@@ -78,8 +78,8 @@ pub struct Pair {
 
 /// A pool of pairs and its shuffle, with none of the faults that documents 01
 /// and 02 list: there are at most [`MOST_PAIRS`] pairs, no two ids are alike,
-/// the shuffle holds each pair's number once, and the points of version 2 are
-/// such as may be.
+/// the shuffle holds each pair's number once, and the points of version 2 have
+/// a base above 0 and no edge above 65,535.
 ///
 /// A pair's number is its index among the pairs, from 0. A place is an index
 /// into the shuffle. Equal pools have the same version and points, the same

@@ -28,10 +28,10 @@ use Rattle.printout.specs.declared.Printing.the-variants.{Length}
 use Rattle.planner.specs.Answers.{planIn}
 use Rattle.planner.specs.declared.Planned.{Planned}
 use Rattle.planner.specs.declared.Planning.the-variants.{Refused}
-use Rattle.buffers.specs.Most.{most}
-use Rattle.answering.specs.Answering.{planBy, putting}
+use Rattle.answers.specs.Most.{most}
+use Rattle.answers.specs.Answering.{planBy, putting}
 use Rattle.buffers.specs.Preconditions.{Partnered}
-use Rattle.answering.proofs.Texts.{plan-printed, plan-surely}
+use Rattle.answers.proofs.Texts.{plan-printed, plan-surely}
 
 -- ## Tables for 40 pairs
 

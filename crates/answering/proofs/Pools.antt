@@ -6,14 +6,13 @@ use native.Mathlib.Omega.{arith}
 use lib.ListN.{length, getD, take}
 use lib.Seq.{length-take-le, getD-take}
 use Rattle.laws.specs.Below.{table}
-use Rattle.laws.proofs.Below.{length-table, getD-table, table-cong, table-getD}
+use Rattle.laws.proofs.Below.{table-cong, table-getD}
 use Rattle.refusal.specs.Answer.{finished, outcome}
 use Rattle.refusal.specs.declared.Refusal.{Refusal}
 use Rattle.pool.specs.Pool.{Pair}
 use Rattle.pool.specs.Points.{Points}
-use Rattle.pool.specs.Tables.{Tables, entry as Pool·entry, pairIn}
-use Rattle.pool.specs.Faultless.{EachOnce, Faultless, pointsOfTable}
-use Rattle.pool.proofs.Pairs.{faultless-cong}
+use Rattle.pool.specs.Tables.{Tables, itemIn, pointsOfTable, pairIn}
+use Rattle.pool.specs.Faultless.{Faultless}
 use Rattle.donation.specs.Compatibility.{compatibility}
 use Rattle.donation.specs.Weight.{weight}
 use Rattle.graph.specs.Graph.{Graph}
@@ -25,9 +24,9 @@ use Rattle.weighing.specs.declared.Building.the-variants.{Refused}
 use Rattle.exchange.specs.Subsets.{entry}
 use Rattle.exchange.specs.Input.{noFloor, input, inputOf, request}
 use Rattle.exchange.specs.Faultless.{Compatibility}
-use Rattle.exchange.proofs.Inverse.{Invertible, invertible}
-use Rattle.answering.specs.Answering.{planBy, printedPlanOf}
+use Rattle.answers.specs.Answering.{planBy, printedPlanOf}
 use Rattle.buffers.specs.Preconditions.{FaultlessTables}
+use Rattle.answers.proofs.Seated.{each-once, shuffle-seated}
 use Rattle.answering.specs.Preconditions.{Read}
 use Rattle.answering.proofs.Plans.{square-most, plan-agree}
 
@@ -39,18 +38,12 @@ taken n l h = sym (table-getD 0 (take n l) n (λ i. getD l i 0) (length-take-le 
 -- ## A faultless pool
 
 module _ (v : ℕ) (p : ℕ → ℕ) (n : ℕ) (pair : ℕ → Pair) (s : ℕ → ℕ) (w : Faultless v p n pair s) where
-  pub each-once : EachOnce n (λ j. getD (table n s) j 0)
-  each-once = faultless-cong v n p p pair pair s _ (λ k l. refl) (λ i l. refl) (λ j l. sym (getD-table n s 0 j l)) w .eachOnce
-
-  pub shuffle-seated : Invertible n (table n s)
-  shuffle-seated = invertible n (table n s) (omega (arith, length-table n s)) each-once
-
   -- its plan by points q depends on its n pairs alone
   pub same-plan : (q : Points) (other : ℕ → Pair) (t : ℕ → ℕ) → ((i : ℕ) → i < n → pair i ≡ other i) → table n s ≡ table n t
       → printedPlanOf q n pair s ≡ printedPlanOf q n other t
   unfolding printedPlanOf compatibility weight
   same-plan q other t h g =
-      plan-agree n (compatibility pair) (compatibility other) (weight q pair) (weight q other) (table n s) shuffle-seated
+      plan-agree n (compatibility pair) (compatibility other) (weight q pair) (weight q other) (table n s) (shuffle-seated v p n pair s w)
       (λ i j _ _. compatibility-most pair i j) (λ i j a b. rw (h i a, h j b)) (λ i j a b. rw (h i a, h j b)) (table n (λ i. pair i .id))
       ∙ ap₂ (λ (ids shuffle : List ℕ). planBy ids (input n noFloor (compatibility other) (weight q other) shuffle))
       (table-cong n _ _ (λ i l. ap (λ (q : Pair). q .id) (h i l))) g
@@ -101,7 +94,7 @@ module _ (v n : ℕ) (t : Tables) (p : Read v n t) (old : Graph) (room : (1600 �
 
   -- its plan is the pool's
   pub plan-is : planBy (take n (t .fields .ids)) (inputOf (request n noFloor (new .compatibilities) (new .weights) (take n (t .shuffle))))
-      ≡ printedPlanOf (pointsOfTable v (t .points)) n (pairIn (t .fields)) (Pool·entry (t .shuffle))
+      ≡ printedPlanOf (pointsOfTable v (t .points)) n (pairIn (t .fields)) (itemIn (t .shuffle))
   unfolding printedPlanOf pairIn entry
   plan-is =
       let e = w .built surely in

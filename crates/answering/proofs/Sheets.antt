@@ -12,10 +12,10 @@ use Rattle.refusal.proofs.Faults.{finished-none, refused-fault}
 use Rattle.pool.specs.Pool.{Pool}
 use Rattle.pool.specs.Points.{Points}
 use Rattle.pool.specs.Sheet.{versionIn, pairsIn, pointAt, pairAt, shuffleAt, poolOf}
-use Rattle.pool.specs.Tables.{Tables, entry, room, pairIn, poolIn, filledTables}
+use Rattle.pool.specs.Tables.{Tables, itemIn, room, pairIn, poolIn, filledTables, pointsOfTable}
 use Rattle.pool.specs.Faults.{sheetFault, roomFault, tablesFault}
 use Rattle.pool.specs.Calls.{Head, head, headIn, reading}
-use Rattle.pool.specs.Faultless.{TablesHold, FaultlessSheet, FaultlessPool, pointsOfTable}
+use Rattle.pool.specs.Faultless.{TablesHold, FaultlessSheet, FaultlessPool}
 use Rattle.pool.proofs.Rooms.{hold-room}
 use Rattle.pool.proofs.Points.{points-cong}
 use Rattle.pool.proofs.Reading.{sheet-pool, tables-six, reading-none, reading-passed}
@@ -24,13 +24,13 @@ use Rattle.reader.specs.Answers.{answerOf}
 use Rattle.reader.specs.declared.Reading.{Reading}
 use Rattle.reader.specs.declared.Reading.the-variants.{Pairs, Refused}
 use Rattle.printout.specs.Printed.{PrintedPlan, planText, refusalText}
-use Rattle.buffers.specs.Most.{most}
-use Rattle.answering.specs.Answering.{printedPlanOf, pointsOn, orRefusal, answerText, putting, answering}
+use Rattle.answers.specs.Most.{most}
+use Rattle.answers.specs.Answering.{printedPlanOf, pointsOn, orRefusal, answerText, putting, answering}
 use Rattle.answering.specs.Preconditions.{Read}
-use Rattle.answering.specs.Promises.{AnswersSheet}
-use Rattle.answering.proofs.Texts.{put-fits}
+use Rattle.answers.specs.Promises.{AnswersSheet}
+use Rattle.answers.proofs.Texts.{put-fits}
 use Rattle.answering.proofs.Pools.{same-plan}
-use Rattle.answering.proofs.Promised.{answering-is-right}
+use Rattle.answers.proofs.Promised.{answering-is-right}
 
 module _ (b : List ℕ) (t left : Tables) (r : Reading) (e : outcome (answerOf r) left ≡ reading b t) (room-is : room t ≡ most) (six : length (t .points) ≡ 6) where
   answer-read : answerOf r ≡ reading b t .answer
@@ -101,14 +101,14 @@ module _ (b : List ℕ) (t left : Tables) (r : Reading) (e : outcome (answerOf r
 
     -- the plan of tables, by the points in them
     abbrev planIn : ℕ → ℕ → Tables → PrintedPlan
-    planIn w k x = printedPlanOf (pointsOfTable w (x .points)) k (pairIn (x .fields)) (entry (x .shuffle))
+    planIn w k x = printedPlanOf (pointsOfTable w (x .points)) k (pairIn (x .fields)) (itemIn (x .shuffle))
 
     -- the plan of the tables that were filled is the plan of the sheet
     plan-read : planIn v n left ≡ plan
     unfolding poolOf poolIn filledTables
     plan-read =
         ap₂ (λ (h : Head) (x : Tables). planIn (h .version) (h .pairs) x) (passed .0) left-is
-        ∙ ap (λ (q : Points). printedPlanOf q (pairsIn b) (pairIn (filledTables (poolOf b) t .fields)) (entry (filledTables (poolOf b) t .shuffle))) points-read
+        ∙ ap (λ (q : Points). printedPlanOf q (pairsIn b) (pairIn (filledTables (poolOf b) t .fields)) (itemIn (filledTables (poolOf b) t .shuffle))) points-read
         ∙ same-plan (versionIn b) _ (pairsIn b) _ _ (filled-faultless .pool) (pointsOn b) (pairAt b) (shuffleAt b (pairsIn b)) (pair-in-filled (pairsIn b) (pairAt b) (t .fields))
         (ap (λ (p : Pool). p .shuffle) (pool-in-filled (versionIn b) (pointAt b) (pairsIn b) (pairAt b) (shuffleAt b (pairsIn b)) t))
 

@@ -1,6 +1,2 @@
--- `Answering`: the text that answers a sheet, and what the call leaves. `Preconditions`: what its steps ask. `Promises`: what is promised of the call.
--- `Examples`: three sheets and their answers.
-pub mod Answering
+-- What the steps of answering ask; what the call answers is in `answers`.
 pub mod Preconditions
-pub mod Promises
-pub mod Examples

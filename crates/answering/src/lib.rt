@@ -10,14 +10,13 @@ ghost use Prim.Native.Nat.{_≤_};
 ghost use lib.ListN.{length};
 ghost use Rattle.refusal.specs.Answer.{finished, outcome};
 ghost use Rattle.refusal.specs.Number.{numberOf};
-ghost use Rattle.pool.specs.Tables.{entry, pairIn};
-ghost use Rattle.pool.specs.Faultless.{pointsOfTable};
+ghost use Rattle.pool.specs.Tables.{itemIn, pairIn, pointsOfTable};
 ghost use Rattle.pool.specs.Lent.{lentTables, tablesNow};
 ghost use Rattle.exchange.specs.Input.{noFloor, inputOf, request};
 ghost use Rattle.printout.specs.Printed.{planText, refusalText};
 ghost use Rattle.buffers.specs.Preconditions.{FaultlessTables};
-ghost use Rattle.answering.specs.Answering.{planBy, printedPlanOf, putting};
-ghost use Rattle.answering.specs.Promises.{AnswersSheet};
+ghost use Rattle.answers.specs.Answering.{planBy, printedPlanOf, putting};
+ghost use Rattle.answers.specs.Promises.{AnswersSheet};
 ghost use Rattle.answering.specs.Preconditions.{Read};
 
 // Prints the plan of n pairs with these ids and tables, and gives the text's length.
@@ -78,7 +77,7 @@ fn print_pool(
         let t = lentTables points ids «donor_blood» «patient_blood» «donor_age» «patient_age»
         «donor_antigens» «patient_antigens» «patient_antibodies» shuffle in
         let q = pointsOfTable version (t .entry .points) in
-        let plan = printedPlanOf q n (pairIn (t .entry .fields)) (entry (t .entry .shuffle)) in
+        let plan = printedPlanOf q n (pairIn (t .entry .fields)) (itemIn (t .entry .shuffle)) in
         ⌜ outcome (finished r) (now (out .exit)) ≡ putting (planText plan) (now (out .entry)) ⌝ }
 {
     // 40 rows of 40.

@@ -22,7 +22,7 @@ use Rattle.planner.specs.Answers.{planIn}
 use Rattle.planner.specs.declared.Planned.{Planned}
 use Rattle.planner.specs.declared.Planning.{Planning}
 use Rattle.planner.specs.declared.Planning.the-variants.{Made, Refused}
-use Rattle.buffers.specs.Most.{most}
+use Rattle.answers.specs.Most.{most}
 use Rattle.buffers.specs.Preconditions.{FaultlessTables, noRecords, Recorded, Partnered}
 
 -- ## The records, which are lent and not kept

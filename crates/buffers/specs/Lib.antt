@@ -1,3 +1,2 @@
--- `Most`: how many pairs the buffers are for. `Preconditions`: what planning with them asks, and what it leaves.
-pub mod Most
+-- What planning with buffers for `most` pairs asks, and what it leaves.
 pub mod Preconditions

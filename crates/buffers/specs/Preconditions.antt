@@ -11,7 +11,7 @@ use Rattle.exchange.specs.Resolution.{donorTable, recipientTable}
 use Rattle.exchange.specs.Planning.{Lent, Plan, mostFloor, plannedBy, planFrom}
 use Rattle.exchange.specs.Faultless.{Compatibility, Shuffles}
 use Rattle.exchange.specs.Promises.{PlansRightly}
-use Rattle.buffers.specs.Most.{most}
+use Rattle.answers.specs.Most.{most}
 
 -- tables M and W of at most 40 pairs, a floor and a shuffle, that planning does not refuse
 pub record FaultlessTables (r : Request) : Type 0 where

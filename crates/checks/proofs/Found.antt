@@ -19,7 +19,7 @@ use Rattle.refusal.specs.declared.Verdict.the-variants.{Sound, Faulty}
 use Rattle.refusal.proofs.Faults.{sound-none, faulty-fault, then-none, none-then, fault-then, refuse-none, none-refuse, fault-refuse, first-hit}
 use Rattle.pool.specs.Pool.{Pair}
 use Rattle.pool.specs.Points.{knownVersion, pointCount, pointsOf}
-use Rattle.pool.specs.Tables.{entry, fields, pairIn}
+use Rattle.pool.specs.Tables.{itemIn, fields, pairIn}
 use Rattle.pool.specs.Faults.{versionFault, groupFault, idFault, pairFault, pointsFault, roomFault, tablesFault, beforeFault, pairsFault}
 use Rattle.pool.proofs.Points.{known-version, version-none}
 use Rattle.pool.proofs.Reading.{room-none, tables-passed}
@@ -97,7 +97,7 @@ module _ (v n space : ℕ) (points : List ℕ) where
 
   module _ (known : knownVersion v ≡ true) where
     after-version : beforeFault v n space points
-        ≡ (refuse 4 0 (ltb 200 n) then tablesFault v n space points then pointsFault 0 (pointsOf v (entry points)))
+        ≡ (refuse 4 0 (ltb 200 n) then tablesFault v n space points then pointsFault 0 (pointsOf v (itemIn points)))
     unfolding beforeFault
     after-version = none-then _ _ (version-none v 0 (known-version v known))
 
@@ -106,14 +106,14 @@ module _ (v n space : ℕ) (points : List ℕ) where
     before-many l = sym (after-version ∙ fault-then _ _ (fault-refuse 4 0 _ (lt-ltb 200 n l)))
 
     module _ (few : n ≤ 200) (found : Verdict) (e : faultAt 0 found ≡ tablesFault v n space points) where
-      after-many : beforeFault v n space points ≡ (tablesFault v n space points then pointsFault 0 (pointsOf v (entry points)))
+      after-many : beforeFault v n space points ≡ (tablesFault v n space points then pointsFault 0 (pointsOf v (itemIn points)))
       after-many = after-version ∙ none-then _ _ (none-refuse 4 0 _ (le-ltb 200 n few))
 
       pub before-tables : (why : Refusal) → found ≡ Faulty why → faultAt 0 (Faulty why) ≡ beforeFault v n space points
       unfolding faultAt
       before-tables why g = sym (after-many ∙ fault-then _ _ (faulty-fault 0 found e why g))
 
-      pub before-points : found ≡ Sound → (own : Verdict) → faultAt 0 own ≡ pointsFault 0 (pointsOf v (entry points))
+      pub before-points : found ≡ Sound → (own : Verdict) → faultAt 0 own ≡ pointsFault 0 (pointsOf v (itemIn points))
           → faultAt 0 own ≡ beforeFault v n space points
       before-points g own h = h ∙ sym (after-many ∙ none-then _ _ (sound-none 0 found e g))
 

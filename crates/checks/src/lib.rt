@@ -1,4 +1,4 @@
-// What reading, writing, building and planning check alike: 3, 4, 6, 7, 8, 9 of the tables of the fields and of the points, and 14.
+// What two or more of reading, writing, building and planning check alike: 6, 7, 8 and 9 of a pool's tables, and of lent ones 3, 4 and 14 before these.
 use refusal::Refusal;
 use refusal::Verdict;
 ghost use mathlib.Core.Path.{_≡_};
@@ -10,7 +10,7 @@ ghost use Rattle.laws.specs.Below.{anyBelow, countBelow};
 ghost use Rattle.refusal.specs.Number.{faultAt};
 ghost use Rattle.pool.specs.Pool.{Pair};
 ghost use Rattle.pool.specs.Points.{pointCount, pointsOf};
-ghost use Rattle.pool.specs.Tables.{entry, fields, pairIn};
+ghost use Rattle.pool.specs.Tables.{itemIn, fields, pairIn};
 ghost use Rattle.pool.specs.Faults.{groupFault, pairFault, pointsFault, tablesFault, beforeFault, pairsFault, shuffleFault};
 ghost use Rattle.checks.specs.Preconditions.{PairAgrees, TablesHaveRoom};
 
@@ -117,9 +117,9 @@ pub fn tables(version: u16, n: usize, space: usize, points: usize) -> Verdict
 }
 
 // 14 of a pool's own points. Version 1 has none, and its table is not looked at.
-fn own_points(version: u16, table: &[u16]) -> Verdict
+fn judge_points(version: u16, table: &[u16]) -> Verdict
     requires { ⌜ pointCount version ≤ length (now table) ⌝ }
-    ensures { λ r. ⌜ ((o : ℕ) → faultAt o r ≡ pointsFault o (pointsOf version (entry (now (table .entry))))) ⌝ }
+    ensures { λ r. ⌜ ((o : ℕ) → faultAt o r ≡ pointsFault o (pointsOf version (itemIn (now (table .entry))))) ⌝ }
 {
     if layout::has_points(version) {
         points::judge(points::own(table))
@@ -140,7 +140,7 @@ fn ready(version: u16, n: usize, space: usize, points: &[u16]) -> Verdict
     }
     match tables(version, n, space, points.len()) {
         Verdict::Faulty(why) => Verdict::Faulty(why),
-        Verdict::Sound => own_points(version, points),
+        Verdict::Sound => judge_points(version, points),
     }
 }
 

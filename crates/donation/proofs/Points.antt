@@ -93,7 +93,7 @@ registry-examples = (refl, refl, refl)
 
 pub document-range : DocumentRange
 unfolding documentPoints heaviest
-document-range = (refl, refl)
+document-range pair i j h = (weight-least documentPoints pair i j h, weight-most documentPoints pair i j h)
 
 module _ (points : Points) (pair : ℕ → Pair) (i : ℕ) where
   pub weight-alike : (j k : ℕ) → (i ≡ j → ⊥) → (i ≡ k → ⊥)

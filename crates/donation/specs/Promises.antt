@@ -7,8 +7,8 @@ use mathlib.Core.Logic.{_↔_}
 use mathlib.Core.List.{List, [], _∷_, map}
 use lib.Dec.{eqb}
 use Rattle.pool.specs.Pool.{Pair}
-use Rattle.pool.specs.Points.{Points, documentPoints, pointsOf, heaviest}
-use Rattle.pool.specs.Tables.{entry}
+use Rattle.pool.specs.Points.{Points, documentPoints, pointsOf}
+use Rattle.pool.specs.Tables.{itemIn}
 use Rattle.donation.specs.Compatibility.{suits, entries, has, compatibility}
 use Rattle.donation.specs.Weight.{mismatches, weight}
 
@@ -152,15 +152,16 @@ registryCouples =
 
 -- by the points of version v with this table
 abbrev pub registryWeights : ℕ → List ℕ → List ℕ
-registryWeights v points = weightsBy (pointsOf v (entry points)) registryCouples
+registryWeights v points = weightsBy (pointsOf v (itemIn points)) registryCouples
 
--- a registry whose steps rise; one with the greatest base and no steps; and the first one's table in version 1, which keeps document 01's
+-- a registry in which more mismatches and a senior patient weigh more; one whose heaviest edge is as heavy as may be; and the first one's table in
+-- version 1, which keeps document 01's
 abbrev pub RegistryExamples : Type 0
 RegistryExamples =
-    (registryWeights 2 (2000 ∷ 0 ∷ 7 ∷ 300 ∷ 5 ∷ 90 ∷ []) ≡ 2005 ∷ 2090 ∷ 2000 ∷ 2007 ∷ 2012 ∷ 2390 ∷ 2305 ∷ 2090 ∷ [])
-    × (registryWeights 2 (65535 ∷ 0 ∷ 0 ∷ 0 ∷ 0 ∷ 0 ∷ []) ≡ 65535 ∷ 65535 ∷ 65535 ∷ 65535 ∷ 65535 ∷ 65535 ∷ 65535 ∷ 65535 ∷ [])
-    × (registryWeights 1 (2000 ∷ 0 ∷ 7 ∷ 300 ∷ 5 ∷ 90 ∷ []) ≡ 1450 ∷ 1430 ∷ 1400 ∷ 1250 ∷ 1300 ∷ 1130 ∷ 1150 ∷ 1030 ∷ [])
+    (registryWeights 2 (2000 ∷ 60 ∷ 7 ∷ 300 ∷ 5 ∷ 90 ∷ []) ≡ 2065 ∷ 2150 ∷ 2060 ∷ 2007 ∷ 2012 ∷ 2390 ∷ 2305 ∷ 2090 ∷ [])
+    × (registryWeights 2 (1 ∷ 60000 ∷ 40000 ∷ 20000 ∷ 5534 ∷ 5000 ∷ []) ≡ 65535 ∷ 65001 ∷ 60001 ∷ 40001 ∷ 45535 ∷ 25001 ∷ 25535 ∷ 5001 ∷ [])
+    × (registryWeights 1 (2000 ∷ 60 ∷ 7 ∷ 300 ∷ 5 ∷ 90 ∷ []) ≡ 1450 ∷ 1430 ∷ 1400 ∷ 1250 ∷ 1300 ∷ 1130 ∷ 1150 ∷ 1030 ∷ [])
 
--- document 01's points weigh 1,000 to 1,450
+-- by document 01's points an edge weighs 1,000 to 1,450
 abbrev pub DocumentRange : Type 0
-DocumentRange = (documentPoints .base ≡ 1000) × (heaviest documentPoints ≡ 1450)
+DocumentRange = (pair : ℕ → Pair) (i j : ℕ) → (i ≡ j → ⊥) → (1000 ≤ weight documentPoints pair i j) × (weight documentPoints pair i j ≤ 1450)

@@ -7,7 +7,7 @@ ghost use lib.ListN.{length};
 ghost use lib.Dec.{eqb};
 ghost use Rattle.laws.specs.Below.{one};
 ghost use Rattle.pool.specs.Points.{documentPoints, pointCount, pointsOf};
-ghost use Rattle.pool.specs.Tables.{entry};
+ghost use Rattle.pool.specs.Tables.{itemIn};
 ghost use Rattle.pool.specs.Faultless.{SoundPoints};
 ghost use Rattle.points.specs.Named.{named};
 ghost use Rattle.donation.specs.Compatibility.{suits, shareBit};
@@ -46,14 +46,14 @@ pub fn document() -> Points
         few: Weighing::FEW_MISMATCHES,
         some: Weighing::SOME_MISMATCHES,
         equal: Weighing::EQUAL_AGES,
-        rising: Weighing::YOUNG_TO_SENIOR,
+        young_to_senior: Weighing::YOUNG_TO_SENIOR,
     }
 }
 
 // What a pool of this version is weighed by: its own points, or document 01's.
 pub fn points_of(version: u16, own: &[u16]) -> Points
     requires { ⌜ pointCount version ≤ length (now own) ⌝ }
-    ensures { λ r. ⌜ named r ≡ pointsOf version (entry (now (own .entry))) ⌝ }
+    ensures { λ r. ⌜ named r ≡ pointsOf version (itemIn (now (own .entry))) ⌝ }
 {
     if !layout::has_points(version) {
         return document();
@@ -117,7 +117,7 @@ fn age_points(points: Points, donor: u8, patient: u8) -> u16
         return points.equal;
     }
     if donor == YOUNG && patient == SENIOR {
-        return points.rising;
+        return points.young_to_senior;
     }
     Weighing::OTHER_AGES
 }

@@ -8,7 +8,7 @@ ghost use Rattle.laws.specs.Below.{table};
 ghost use Rattle.laws.specs.Digits.{bytes};
 ghost use Rattle.laws.specs.Lent.{stored};
 ghost use Rattle.pool.specs.Sheet.{headField, numbersField, pairField, startLength, headSize, pairSize};
-ghost use Rattle.pool.specs.Tables.{entry};
+ghost use Rattle.pool.specs.Tables.{itemIn};
 ghost use Rattle.encoding.specs.PairValue.{pairBy, groupBytes, tissueBytes};
 
 // Writes the k bytes of x from `at` on, high byte first; the last byte is stored first.
@@ -121,7 +121,7 @@ pub fn put_pair(
 fn put_numbers(out: &mut [u8], at: usize, n: usize, t: &[u16])
     requires { ⌜ (at + 2 * n ≤ length (now out)) × (n ≤ length (now t)) ⌝ }
     ensures { λ _.
-        let s = table n (entry (now (t .entry))) in
+        let s = table n (itemIn (now (t .entry))) in
         ⌜ now (out .exit) ≡ stored at (flatMap (bytes 2) s) (now (out .entry)) ⌝ }
 {
     let mut j: usize = 0;
@@ -135,7 +135,7 @@ fn put_numbers(out: &mut [u8], at: usize, n: usize, t: &[u16])
 pub fn put_field(out: &mut [u8], at: usize, tag: u64, n: usize, t: &[u16])
     requires { ⌜ (at + startLength + 2 * n ≤ length (now out)) × (n ≤ length (now t)) ⌝ }
     ensures { λ _.
-        let s = table n (entry (now (t .entry))) in
+        let s = table n (itemIn (now (t .entry))) in
         ⌜ now (out .exit) ≡ stored at (numbersField tag s) (now (out .entry)) ⌝ }
 {
     put_start(out, at, tag, (2 * n) as u64);

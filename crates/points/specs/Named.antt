@@ -10,5 +10,5 @@ named p =
       fewMismatches = p .few;
       someMismatches = p .some;
       equalAges = p .equal;
-      youngToSenior = p .rising;
+      youngToSenior = p .«young_to_senior»;
     }

@@ -5,8 +5,8 @@ ghost use mathlib.Core.Path.{_≡_};
 ghost use Prim.Native.Nat.{ℕ, _≤_, max};
 ghost use lib.ListN.{length};
 ghost use Rattle.refusal.specs.Number.{faultAt};
-ghost use Rattle.pool.specs.Points.{ownPoints, pointsBy};
-ghost use Rattle.pool.specs.Tables.{entry};
+ghost use Rattle.pool.specs.Points.{registryPoints, pointsBy};
+ghost use Rattle.pool.specs.Tables.{itemIn};
 ghost use Rattle.pool.specs.Faults.{pointsFault};
 ghost use Rattle.points.specs.Named.{named};
 
@@ -18,13 +18,13 @@ pub struct Points {
     pub some: u16,
     // Age groups: equal, and from a young donor to a senior patient.
     pub equal: u16,
-    pub rising: u16,
+    pub young_to_senior: u16,
 }
 
 // Those in a table: "base, three mismatch steps, two age steps, in document 01's order".
 pub fn own(table: &[u16]) -> Points
-    requires { ⌜ ownPoints ≤ length (now table) ⌝ }
-    ensures { λ r. ⌜ named r ≡ pointsBy (entry (now (table .entry))) ⌝ }
+    requires { ⌜ registryPoints ≤ length (now table) ⌝ }
+    ensures { λ r. ⌜ named r ≡ pointsBy (itemIn (now (table .entry))) ⌝ }
 {
     Points {
         base: table[0],
@@ -32,7 +32,7 @@ pub fn own(table: &[u16]) -> Points
         few: table[2],
         some: table[3],
         equal: table[4],
-        rising: table[5],
+        young_to_senior: table[5],
     }
 }
 
@@ -50,7 +50,7 @@ pub fn judge(points: Points) -> Verdict
         return Verdict::Faulty(Refusal::WrongPoints);
     }
     let mismatch = larger(points.none, larger(points.few, points.some));
-    let age = larger(points.equal, points.rising);
+    let age = larger(points.equal, points.young_to_senior);
     if points.base as u32 + mismatch as u32 + age as u32 > 65535 {
         return Verdict::Faulty(Refusal::WrongPoints);
     }

@@ -57,4 +57,6 @@ points-joined =
       noVersion = refl;
       laterVersion = refl;
       pointsMissing = refl;
+      beforePairs = refl;
+      afterField = refl;
     }

@@ -14,7 +14,7 @@ use Rattle.laws.specs.Below.{either}
 use Rattle.laws.proofs.Below.{true-false, either-false, either-found}
 use Rattle.refusal.specs.Fault.{none, fault}
 use Rattle.refusal.proofs.Faults.{refuse-none, none-refuse, by-refuse}
-use Rattle.pool.specs.Points.{Points, documentPoints, ownPoints, pointsBy, knownVersion, hasPoints, pointCount, pointsOf, heaviest}
+use Rattle.pool.specs.Points.{Points, documentPoints, registryPoints, pointsBy, knownVersion, hasPoints, pointCount, pointsOf, heaviest}
 use Rattle.pool.specs.Sheet.{pointsSize}
 use Rattle.pool.specs.Faults.{versionFault, pointsFault}
 use Rattle.pool.specs.Faultless.{KnownVersion, StepFits, SoundPoints, PointsHold}
@@ -71,7 +71,7 @@ module _ (v : ℕ) where
   unfolding pointCount
   first-count e = rw (first-has e)
 
-  pub second-count : v ≡ 2 → pointCount v ≡ ownPoints
+  pub second-count : v ≡ 2 → pointCount v ≡ registryPoints
   unfolding pointCount
   second-count e = rw (second-has e)
 
@@ -199,7 +199,7 @@ module _ (q : Points) where
 -- ## What a pool is weighed by
 
 -- six numbers that are alike
-pub points-by-cong : (p r : ℕ → ℕ) → ((k : ℕ) → k < ownPoints → p k ≡ r k) → pointsBy p ≡ pointsBy r
+pub points-by-cong : (p r : ℕ → ℕ) → ((k : ℕ) → k < registryPoints → p k ≡ r k) → pointsBy p ≡ pointsBy r
 points-by-cong p r h i =
     record {
       base = h 0 (omega arith) i;

@@ -12,10 +12,10 @@ use Rattle.laws.proofs.Below.{length-table}
 use Rattle.laws.proofs.Lists.{part, part-add, part-whole, flatMap-part, length-flatMap-table}
 use Rattle.laws.proofs.Digits.{length-bytes, bytes-bigEndian}
 use Rattle.pool.specs.Points.{hasPoints, pointCount}
-use Rattle.pool.specs.Sheet.{headTag, headLength, pairTag, pairLength, shuffleTag, shuffleLength, pointsTag, field, headField, numbersField, pointsField, opening, pairField, sheetOf}
+use Rattle.pool.specs.Sheet.{headTag, headLength, pairTag, pairLength, shuffleTag, shuffleLength, pointsTag, field, headField, numbersField, pointsField, opening, pairField, sheetOf, pairDue, shuffleDue}
 use Rattle.pool.specs.Sheet.{startLength, versionPlace, pairsPlace, headSize, pointsPlace, pointsSize, firstPair, pairSize, numberAt, versionIn, pairsIn, pointAt, pairAt, poolOf}
 use Rattle.pool.specs.Sheet.{idAt, donorBloodAt, patientBloodAt, donorAgeAt, patientAgeAt, donorAntigensAt, patientAntigensAt, patientAntibodiesAt}
-use Rattle.pool.specs.Faultless.{Field, PairField, pairDue, shuffleDue, FaultlessSheet}
+use Rattle.pool.specs.Faultless.{Field, PairField, FaultlessSheet}
 use Rattle.pool.specs.Promises.{EntriesBelow}
 use Rattle.pool.proofs.Points.{has-second}
 use Rattle.pool.proofs.Lengths.{length-pairField}

@@ -11,11 +11,11 @@ use Rattle.refusal.proofs.Faults.{then-none, none-then, then-nothing, refuse-no
 use Rattle.laws.specs.Lent.{filled}
 use Rattle.laws.specs.Below.{table}
 use Rattle.pool.specs.Points.{pointsBy, hasPoints, pointCount}
-use Rattle.pool.specs.Sheet.{pointsPlace, sheetLength, versionIn, pairsIn, pointAt, pairAt, shuffleAt, poolOf}
-use Rattle.pool.specs.Tables.{Tables, room, filledTables}
+use Rattle.pool.specs.Sheet.{pointsPlace, sheetLength, versionIn, pairsIn, pointAt, pairAt, shuffleAt, poolOf, pairDue, shuffleDue}
+use Rattle.pool.specs.Tables.{Tables, tables, room, filledFields, filledTables}
 use Rattle.pool.specs.Faults.{headFault, pointsFieldFault, pairFieldFault, shuffleFieldFault, endFault, sheetFault, roomFault, tablesFault}
 use Rattle.pool.specs.Calls.{Head, headIn, reading}
-use Rattle.pool.specs.Faultless.{Faultless, FaultlessHead, FaultlessPoints, PointsWhereDue, FaultlessPair, FaultlessShuffle, FaultlessSheet, HeadField, PairField, pairDue, shuffleDue}
+use Rattle.pool.specs.Faultless.{Faultless, FaultlessHead, FaultlessPoints, PointsWhereDue, FaultlessPair, FaultlessShuffle, FaultlessSheet, HeadField, PairField}
 use Rattle.pool.specs.Faultless.{Due, Forward, SheetFault, wrongVersion, wrongPoints, leftOver, outOfRange, repeatedId, notAShuffle, TablesHold}
 use Rattle.pool.specs.Promises.{ReadFault, ReadsRightly}
 use Rattle.pool.proofs.Rooms.{room-hold, hold-room}
@@ -229,16 +229,34 @@ module _ (b : List ℕ) (t : Tables) where
   reading-left k o e = ap (λ (r : Outcome Head Tables). r .lent) (unless-fault _ _ _ _ k o (refused-fault _ _ _ _ e))
 
   -- of version 1 the points' table is left, whatever the answer
-  first-unchanged : versionIn b ≡ 1 → filledTables (poolOf b) t .points ≡ t .points
-  unfolding filledTables poolOf filled table
-  first-unchanged e = rw (first-count (versionIn b) e)
+  first-unchanged : versionIn b ≡ 1 → (points : List ℕ) → filled (poolOf b .points) points ≡ points
+  unfolding poolOf filled table
+  first-unchanged e points = rw (first-count (versionIn b) e)
 
   unchanged : versionIn b ≡ 1 → reading b t .lent .points ≡ t .points
-  unfolding reading unless
+  unfolding reading unless filledTables
   unchanged e = go (sheetFault b then tablesFault (versionIn b) (pairsIn b) (room t) (t .points))
     where
       go : (f : Fault) → unless f (headIn b) (filledTables (poolOf b) t) t .lent .points ≡ t .points
-      go none = first-unchanged e
+      go none = first-unchanged e (t .points)
+      go (fault k o) = refl
+
+  -- and any other makes no difference
+  abbrev with : List ℕ → Tables
+  with points = tables points (t .fields) (t .shuffle)
+
+  unread : versionIn b ≡ 1 → (points : List ℕ)
+      → reading b (with points) ≡ outcome (reading b t .answer) (tables points (reading b t .lent .fields) (reading b t .lent .shuffle))
+  unfolding reading unless room filledTables
+  unread e points =
+      rw (tables-first (versionIn b) (pairsIn b) (room t) points (t .points) e)
+      (go (sheetFault b then tablesFault (versionIn b) (pairsIn b) (room t) (t .points)))
+    where
+      go : (f : Fault)
+          → unless f (headIn b) (filledTables (poolOf b) (with points)) (with points)
+          ≡ outcome (unless f (headIn b) (filledTables (poolOf b) t) t .answer)
+          (tables points (unless f (headIn b) (filledTables (poolOf b) t) t .lent .fields) (unless f (headIn b) (filledTables (poolOf b) t) t .lent .shuffle))
+      go none = ap (λ (p : List ℕ). outcome (finished (headIn b)) (tables p (filledFields (poolOf b .pairs) (t .fields)) (filled (poolOf b .shuffle) (t .shuffle)))) (first-unchanged e points)
       go (fault k o) = refl
 
   pub reads-rightly : ReadsRightly b t (reading b t)
@@ -248,4 +266,5 @@ module _ (b : List ℕ) (t : Tables) where
         accepted = reading-passed;
         refuses = λ k o e. (reading-fault k o e, reading-left k o e);
         unchanged = unchanged;
+        unread = unread;
       }

@@ -13,7 +13,7 @@ use Rattle.refusal.proofs.Faults.{unless-none, unless-then}
 use Rattle.pool.specs.Pool.{Pair, Pool}
 use Rattle.pool.specs.Points.{hasPoints, pointCount}
 use Rattle.pool.specs.Sheet.{sheetOf, pointsSize, versionIn, pairsIn, pointAt, pairAt, shuffleAt, poolOf}
-use Rattle.pool.specs.Tables.{Fields, Tables, entry, room, pairIn, poolIn, filledFields, filledTables}
+use Rattle.pool.specs.Tables.{Fields, Tables, itemIn, room, pairIn, poolIn, filledFields, filledTables}
 use Rattle.pool.specs.Faults.{roomFault, tablesFault}
 use Rattle.pool.specs.Calls.{Head, head, reading, writing}
 use Rattle.pool.specs.Faultless.{FieldsHold, TablesHold, FaultlessSheet, FaultlessPool, Faultless}
@@ -72,11 +72,11 @@ module _ (v : ℕ) (p : ℕ → ℕ) (n : ℕ) (pair : ℕ → Pair) (s : ℕ �
   abbrev full : Tables
   full = filledTables (pooled v p n pair s) t
 
-  pub point-in-filled : (k : ℕ) → k < pointCount v → entry (full .points) k ≡ p k
+  pub point-in-filled : (k : ℕ) → k < pointCount v → itemIn (full .points) k ≡ p k
   unfolding filledTables
   point-in-filled k l = getD-filled (table (pointCount v) p) (t .points) 0 k (rw length-table l) ∙ getD-table (pointCount v) p 0 k l
 
-  number-in-filled : (j : ℕ) → j < n → entry (full .shuffle) j ≡ s j
+  number-in-filled : (j : ℕ) → j < n → itemIn (full .shuffle) j ≡ s j
   unfolding filledTables
   number-in-filled j l = getD-filled (table n s) (t .shuffle) 0 j (rw length-table l) ∙ getD-table n s 0 j l
 
@@ -92,7 +92,7 @@ module _ (v : ℕ) (p : ℕ → ℕ) (n : ℕ) (pair : ℕ → Pair) (s : ℕ �
               shuffle = rw (length-filled (table n s) (t .shuffle) (rw length-table (h .shuffle))) (h .shuffle);
             };
         pool =
-            faultless-cong v n p (entry (full .points)) pair (pairIn (filledFields (table n pair) (t .fields))) s (entry (full .shuffle))
+            faultless-cong v n p (itemIn (full .points)) pair (pairIn (filledFields (table n pair) (t .fields))) s (itemIn (full .shuffle))
             (λ k l. sym (point-in-filled k l))
             (λ i l. sym (pair-in-filled n pair (t .fields) i l))
             (λ j l. sym (number-in-filled j l)) w;
@@ -101,10 +101,10 @@ module _ (v : ℕ) (p : ℕ → ℕ) (n : ℕ) (pair : ℕ → Pair) (s : ℕ �
   pub pool-in-filled : poolIn v n full ≡ pooled v p n pair s
   unfolding poolIn filledTables
   pool-in-filled =
-      let e0 : table (pointCount v) (entry (full .points)) ≡ table (pointCount v) p = table-cong (pointCount v) _ p point-in-filled in
+      let e0 : table (pointCount v) (itemIn (full .points)) ≡ table (pointCount v) p = table-cong (pointCount v) _ p point-in-filled in
       let e1 : table n (pairIn (filledFields (table n pair) (t .fields))) ≡ table n pair =
       table-cong n _ pair (pair-in-filled n pair (t .fields)) in
-      let e2 : table n (entry (full .shuffle)) ≡ table n s = table-cong n _ s number-in-filled in
+      let e2 : table n (itemIn (full .shuffle)) ≡ table n s = table-cong n _ s number-in-filled in
       λ k. record { version = v; points = e0 k; pairs = e1 k; shuffle = e2 k }
 
 -- what the types of the slices give
@@ -143,9 +143,9 @@ unfolding poolIn reading
 pool-again v n t out m other y e =
     let r = writing-passed v n t out m e in
     let w : FaultlessPool v n t = r .1 in
-    let p : ℕ → ℕ = entry (t .points) in
+    let p : ℕ → ℕ = itemIn (t .points) in
     let pair : ℕ → Pair = pairIn (t .fields) in
-    let s : ℕ → ℕ = entry (t .shuffle) in
+    let s : ℕ → ℕ = itemIn (t .shuffle) in
     let x : List ℕ = sheetOf (poolIn v n t) in
     let size : length x ≡ m = length-sheetIn v n t ∙ sym (r .0) in
     let left : writing v n t out .lent ≡ filled x out =

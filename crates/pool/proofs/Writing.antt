@@ -14,10 +14,10 @@ use Rattle.refusal.proofs.Faults.{then-none, none-then, refuse-none, none-refus
 use Rattle.pool.specs.Pool.{Pair}
 use Rattle.pool.specs.Points.{Points, pointCount, pointsOf}
 use Rattle.pool.specs.Sheet.{sheetLength, sheetOf}
-use Rattle.pool.specs.Tables.{Tables, tables, entry, room, pairIn, poolIn}
+use Rattle.pool.specs.Tables.{Tables, tables, itemIn, room, pairIn, poolIn, pointsOfTable}
 use Rattle.pool.specs.Faults.{pairFault, tablesFault, beforeFault, pairsFault, poolFault}
 use Rattle.pool.specs.Calls.{writing}
-use Rattle.pool.specs.Faultless.{KnownVersion, InRange, Unlike, Ready, NoneBefore, FaultlessPool, PairsFault, PoolFault, TablesHold, pointsOfTable}
+use Rattle.pool.specs.Faultless.{KnownVersion, InRange, Unlike, Ready, NoneBefore, FaultlessPool, PairsFault, PoolFault, TablesHold}
 use Rattle.pool.specs.Promises.{WritesRightly}
 use Rattle.pool.proofs.Points.{version-none, version-passed, version-fault, points-none, points-passed, points-fault, first-count, first-points}
 use Rattle.pool.proofs.Lengths.{length-sheetIn}
@@ -162,8 +162,8 @@ module _ (v n : ℕ) (t : Tables) (out : List ℕ) where
   unfolding writing poolFault pairsFault beforeFault poolIn room
   writing-unread e points =
       let f : tablesFault v n (room t) (t .points) ≡ tablesFault v n (room t) points = tables-first v n (room t) (t .points) points e in
-      let q : pointsOf v (entry (t .points)) ≡ pointsOf v (entry points) = first-points v _ e ∙ sym (first-points v _ e) in
-      let r : table (pointCount v) (entry (t .points)) ≡ table (pointCount v) (entry points) =
+      let q : pointsOf v (itemIn (t .points)) ≡ pointsOf v (itemIn points) = first-points v _ e ∙ sym (first-points v _ e) in
+      let r : table (pointCount v) (itemIn (t .points)) ≡ table (pointCount v) (itemIn points) =
       table-cong (pointCount v) _ _ (λ k l. absurd (omega (arith, l, first-count v e))) in
       rw (f, q, r)
 

@@ -13,10 +13,10 @@ use Rattle.laws.proofs.Lists.{part, part-in, part-at, part-skip, part-flatMap, 
 use Rattle.laws.proofs.Digits.{length-bytes, bigEndian-at}
 use Rattle.pool.specs.Pool.{Pair, Pool}
 use Rattle.pool.specs.Points.{pointCount}
-use Rattle.pool.specs.Sheet.{headTag, headLength, pairTag, pairLength, shuffleTag, shuffleLength, pointsTag, field, headField, numbersField, pointsField, opening, pairField, shuffleField, sheetOf}
+use Rattle.pool.specs.Sheet.{headTag, headLength, pairTag, pairLength, shuffleTag, shuffleLength, pointsTag, field, headField, numbersField, pointsField, opening, pairField, shuffleField, sheetOf, pairDue}
 use Rattle.pool.specs.Sheet.{startLength, versionPlace, pairsPlace, headSize, pointsPlace, firstPair, pairSize, pairPlace, sheetLength, numberAt, versionIn, pairsIn, pointAt, pairAt, shuffleAt, poolOf}
 use Rattle.pool.specs.Sheet.{idAt, donorBloodAt, patientBloodAt, donorAgeAt, patientAgeAt, donorAntigensAt, patientAntigensAt, patientAntibodiesAt}
-use Rattle.pool.specs.Faultless.{InRange, Faultless, Field, HeadField, PointsField, PairField, pairDue, FaultlessSheet}
+use Rattle.pool.specs.Faultless.{InRange, Faultless, Field, HeadField, PointsField, PairField, FaultlessSheet}
 use Rattle.pool.proofs.Points.{second-has, second-count, counted-second, second-points}
 use Rattle.pool.proofs.Lengths.{length-headField, length-pairField, length-numbersField, length-opening}
 use Rattle.pool.proofs.Pairs.{faultless-cong}

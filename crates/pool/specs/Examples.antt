@@ -9,7 +9,7 @@ use Rattle.refusal.specs.Answer.{finished, refused, outcome}
 use Rattle.pool.specs.Pool.{Pair}
 use Rattle.pool.specs.Points.{Points, documentPoints, pointsBy}
 use Rattle.pool.specs.Sheet.{headField, pointsField, pairField, pointAt, pairAt}
-use Rattle.pool.specs.Tables.{entry}
+use Rattle.pool.specs.Tables.{itemIn}
 use Rattle.pool.specs.Faults.{pointsFault}
 use Rattle.pool.specs.Joining.{joining}
 
@@ -64,7 +64,7 @@ pub record PointsOrder : Type 0 where
 -- ## Which points pass: "the base is 0 or base, largest mismatch step and larger age step together exceed 65,535"
 
 abbrev pub judged : List ℕ → Fault
-judged l = pointsFault 7 (pointsBy (entry l))
+judged l = pointsFault 7 (pointsBy (itemIn l))
 
 pub record PointsJudged : Type 0 where
   pub document : pointsFault 7 documentPoints ≡ none
@@ -151,8 +151,8 @@ twoPairs =
 abbrev pub emptySheet : ℕ → List ℕ
 emptySheet v = 1 ∷ 0 ∷ 4 ∷ 0 ∷ v ∷ 0 ∷ 0 ∷ 3 ∷ 0 ∷ 0 ∷ []
 
--- with the same points; with a sheet of no pair and version 1; with another last point and the same id; a base of 0; versions 0 and 3; and version 2
--- without its points
+-- with the same points; with a sheet of no pair and version 1; with another last point and the same id; a base of 0; versions 0 and 3; version 2 without
+-- its points; and a base of 0 where the sheet is cut off after the points, and in them
 pub record PointsJoined : Type 0 where
   pub joined : joining (onePair 11 1 2 3 4 5 6) (onePair 12 1 2 3 4 5 6) (replicate 99 99) ≡ outcome (finished 99) twoPairs
   pub versions : joining (onePair 11 1 2 3 4 5 6) (emptySheet 1) (99 ∷ []) ≡ outcome (refused 15 0) (99 ∷ [])
@@ -161,3 +161,5 @@ pub record PointsJoined : Type 0 where
   pub noVersion : joining (emptySheet 0) (emptySheet 1) (99 ∷ []) ≡ outcome (refused 3 0) (99 ∷ [])
   pub laterVersion : joining (emptySheet 3) (emptySheet 1) (99 ∷ []) ≡ outcome (refused 3 0) (99 ∷ [])
   pub pointsMissing : joining (emptySheet 2) (emptySheet 1) (99 ∷ []) ≡ outcome (refused 2 7) (99 ∷ [])
+  pub beforePairs : joining (take 22 (onePair 11 0 2 3 4 5 6)) (emptySheet 1) (99 ∷ []) ≡ outcome (refused 14 7) (99 ∷ [])
+  pub afterField : joining (take 21 (onePair 11 0 2 3 4 5 6)) (emptySheet 1) (99 ∷ []) ≡ outcome (refused 1 7) (99 ∷ [])

@@ -7,9 +7,9 @@ use Rattle.laws.specs.Below.{Once}
 use Rattle.laws.specs.Digits.{bigEndian}
 use Rattle.pool.specs.Pool.{Pair}
 use Rattle.pool.specs.Points.{Points, pointsBy, pointsOf}
-use Rattle.pool.specs.Sheet.{headTag, headLength, pairTag, pairLength, shuffleTag, shuffleLength, pointsTag, pointsLength, startLength, pointsPlace, pairPlace, sheetLength}
-use Rattle.pool.specs.Sheet.{versionIn, pairsIn, pointAt, pairAt, shuffleAt}
-use Rattle.pool.specs.Tables.{Fields, Tables, entry, pairIn}
+use Rattle.pool.specs.Sheet.{headTag, headLength, pairTag, pairLength, shuffleTag, shuffleLength, pointsTag, pointsLength, startLength, pointsPlace, sheetLength}
+use Rattle.pool.specs.Sheet.{versionIn, pairsIn, pairDue, shuffleDue, pointAt, pairAt, shuffleAt}
+use Rattle.pool.specs.Tables.{Fields, Tables, itemIn, pointsOfTable, pairIn}
 
 -- ## Version and points
 
@@ -70,13 +70,6 @@ HeadField b = Field b 0 headTag headLength
 
 abbrev pub PointsField : List ℕ → Type 0
 PointsField b = Field b pointsPlace pointsTag pointsLength
-
--- where pair i's field is due, and the shuffle's
-abbrev pub pairDue : List ℕ → ℕ → ℕ
-pairDue b i = pairPlace (versionIn b) i
-
-abbrev pub shuffleDue : List ℕ → ℕ
-shuffleDue b = pairDue b (pairsIn b)
 
 abbrev pub PairField : List ℕ → ℕ → Type 0
 PairField b i = Field b (pairDue b i) pairTag pairLength
@@ -200,7 +193,7 @@ pub record TablesHold (v n : ℕ) (t : Tables) : Type 0 where
 -- a pool of version v in the first n entries of lent tables
 pub record FaultlessPool (v n : ℕ) (t : Tables) : Type 0 where
   pub hold : TablesHold v n t
-  pub pool : Faultless v (entry (t .points)) n (pairIn (t .fields)) (entry (t .shuffle))
+  pub pool : Faultless v (itemIn (t .points)) n (pairIn (t .fields)) (itemIn (t .shuffle))
 
 -- the pairs before the i-th have none of 6 and 7
 abbrev pub NoneBefore : ℕ → (ℕ → Pair) → Type 0
@@ -230,16 +223,12 @@ pub data PairsFault (v n : ℕ) (Hold : Type 0) (q : Points) (pair : ℕ → Pai
       → pair j .id ≡ pair i .id
       → PairsFault v n Hold q pair 7
 
--- what a pool in lent tables is weighed by
-abbrev pub pointsOfTable : ℕ → List ℕ → Points
-pointsOfTable v l = pointsOf v (entry l)
-
 -- fault k of writing a pool into a buffer of so many bytes: one of its pairs, or one that is looked for after them
 pub data PoolFault (v n : ℕ) (t : Tables) (space : ℕ) : ℕ → Type 0 where
   pairs : (k : ℕ) → PairsFault v n (TablesHold v n t) (pointsOfTable v (t .points)) (pairIn (t .fields)) k → PoolFault v n t space k
   notAShuffle :
       Ready v n (TablesHold v n t) (pointsOfTable v (t .points))
       → NoneBefore n (pairIn (t .fields))
-      → (EachOnce n (entry (t .shuffle)) → ⊥)
+      → (EachOnce n (itemIn (t .shuffle)) → ⊥)
       → PoolFault v n t space 8
   bufferTooShort : FaultlessPool v n t → space < sheetLength v n → PoolFault v n t space 9

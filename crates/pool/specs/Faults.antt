@@ -8,10 +8,10 @@ use Rattle.laws.specs.Below.{either, anyBelow, countBelow}
 use Rattle.laws.specs.Digits.{bigEndian}
 use Rattle.refusal.specs.Fault.{Fault, refuse, only, _then_, firstBelow}
 use Rattle.pool.specs.Pool.{Pair}
-use Rattle.pool.specs.Points.{Points, pointsBy, knownVersion, hasPoints, pointCount, pointsOf, heaviest}
-use Rattle.pool.specs.Sheet.{headTag, headLength, pairTag, pairLength, shuffleTag, shuffleLength, pointsTag, pointsLength, startLength, pointsPlace, pairPlace, sheetLength}
-use Rattle.pool.specs.Sheet.{versionIn, pairsIn, pointAt, pairAt, shuffleAt}
-use Rattle.pool.specs.Tables.{Tables, entry, room, pairIn}
+use Rattle.pool.specs.Points.{Points, pointsBy, knownVersion, hasPoints, pointCount, heaviest}
+use Rattle.pool.specs.Sheet.{headTag, headLength, pairTag, pairLength, shuffleTag, shuffleLength, pointsTag, pointsLength, startLength, pointsPlace, sheetLength}
+use Rattle.pool.specs.Sheet.{versionIn, pairsIn, pairDue, pointAt, pairAt, shuffleAt}
+use Rattle.pool.specs.Tables.{Tables, itemIn, pointsOfTable, room, pairIn}
 
 -- ## The hospital's, and whoever drew the shuffle's: in a sheet, and in lent tables
 
@@ -71,13 +71,13 @@ pointsFieldFault b =
 -- "or 6 and 7"
 unfoldable pub pairFieldFault : List ℕ → ℕ → Fault
 pairFieldFault b i =
-    fieldFault b (pairPlace (versionIn b) i) pairTag pairLength then pairFault (pairPlace (versionIn b) i) (pairAt b) i
+    fieldFault b (pairDue b i) pairTag pairLength then pairFault (pairDue b i) (pairAt b) i
 
 -- "or 8", on a sheet of n pairs
 unfoldable pub shuffleFieldFault : List ℕ → ℕ → Fault
 shuffleFieldFault b n =
-    fieldFault b (pairPlace (versionIn b) n) shuffleTag (shuffleLength n)
-    then shuffleFault (pairPlace (versionIn b) n) n (shuffleAt b n)
+    fieldFault b (pairDue b n) shuffleTag (shuffleLength n)
+    then shuffleFault (pairDue b n) n (shuffleAt b n)
 
 -- "at the end 5": bytes left over, with the place of the first byte too many
 unfoldable pub endFault : List ℕ → ℕ → Fault
@@ -108,7 +108,7 @@ beforeFault v n space points =
     versionFault 0 v
     then refuse 4 0 (ltb 200 n)
     then tablesFault v n space points
-    then pointsFault 0 (pointsOf v (entry points))
+    then pointsFault 0 (pointsOfTable v points)
 
 -- "then 6 and 7 pair by pair", all with place 0
 unfoldable pub pairsFault : ℕ → ℕ → ℕ → List ℕ → (ℕ → Pair) → Fault
@@ -116,4 +116,4 @@ pairsFault v n space points pair = beforeFault v n space points then firstBelow 
 
 -- with their shuffle: "then 8"
 unfoldable pub poolFault : ℕ → ℕ → Tables → Fault
-poolFault v n t = pairsFault v n (room t) (t .points) (pairIn (t .fields)) then shuffleFault 0 n (entry (t .shuffle))
+poolFault v n t = pairsFault v n (room t) (t .points) (pairIn (t .fields)) then shuffleFault 0 n (itemIn (t .shuffle))

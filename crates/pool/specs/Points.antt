@@ -30,8 +30,8 @@ documentPoints =
 
 -- ## A registry's own: "base, three mismatch steps, two age steps, in document 01's order"
 
-abbrev pub ownPoints : ℕ
-ownPoints = 6
+abbrev pub registryPoints : ℕ
+registryPoints = 6
 
 -- by six numbers in that order
 abbrev pub pointsBy : (ℕ → ℕ) → Points
@@ -48,7 +48,7 @@ hasPoints v = eqb v 2
 
 -- how many
 unfoldable pub pointCount : ℕ → ℕ
-pointCount v = cond (hasPoints v) ownPoints 0
+pointCount v = cond (hasPoints v) registryPoints 0
 
 -- what a pool of version v, whose own points are the numbers p, is weighed by: "Version 1 sheets keep the points of document 01"
 unfoldable pub pointsOf : ℕ → (ℕ → ℕ) → Points

@@ -11,7 +11,7 @@ use Rattle.pool.specs.Tables.{Tables, tables, poolIn, filledTables}
 use Rattle.pool.specs.Calls.{Head, head, headIn, reading, writing}
 use Rattle.pool.specs.Faultless.{FaultlessSheet, SheetFault, TablesHold, FaultlessPool, PoolFault}
 
--- fault k of reading, at place o: one of the sheet's, or 9 with place 0 where a lent table can't hold its pairs
+-- fault k of reading, at place o: one of the sheet's, or 9 with place 0 where a lent table can't hold its pairs or its points
 pub data ReadFault (b : List ℕ) (t : Tables) : ℕ → ℕ → Type 0 where
   sheet : (k o : ℕ) → SheetFault b k o → ReadFault b t k o
   tableTooShort : FaultlessSheet b → (TablesHold (versionIn b) (pairsIn b) t → ⊥) → ReadFault b t 9 0
@@ -22,8 +22,11 @@ pub record ReadsRightly (b : List ℕ) (t : Tables) (o : Outcome Head Tables) : 
   pub accepts : FaultlessSheet b → TablesHold (versionIn b) (pairsIn b) t → o .answer ≡ finished (headIn b)
   pub accepted : (h : Head) → o .answer ≡ finished h → (h ≡ headIn b) × FaultlessSheet b × TablesHold (versionIn b) (pairsIn b) t
   pub refuses : (k place : ℕ) → o .answer ≡ refused k place → ReadFault b t k place × (o .lent ≡ t)
-  -- "A version 1 pool has no points, and lent ones are neither read nor changed"
+  -- "A version 1 pool has no points, and lent ones are neither read nor changed": with any others, in a table of any length, the answer and the other tables
+  -- come out the same
   pub unchanged : versionIn b ≡ 1 → o .lent .points ≡ t .points
+  pub unread : versionIn b ≡ 1 → (points : List ℕ)
+      → reading b (tables points (t .fields) (t .shuffle)) ≡ outcome (o .answer) (tables points (o .lent .fields) (o .lent .shuffle))
 
 -- the same of a pool that is written into the buffer `out`; a refusal has place 0
 pub record WritesRightly (v n : ℕ) (t : Tables) (out : List ℕ) (o : Outcome ℕ (List ℕ)) : Type 0 where

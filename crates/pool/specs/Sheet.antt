@@ -6,7 +6,7 @@ use lib.ListN.{length}
 use Rattle.laws.specs.Below.{table}
 use Rattle.laws.specs.Digits.{bigEndian, bytes}
 use Rattle.pool.specs.Pool.{Pair, Pool}
-use Rattle.pool.specs.Points.{ownPoints, hasPoints, pointCount}
+use Rattle.pool.specs.Points.{registryPoints, hasPoints, pointCount}
 
 -- ## Tags, and lengths of the values
 
@@ -36,7 +36,7 @@ abbrev pub pointsTag : ℕ
 pointsTag = 4
 
 abbrev pub pointsLength : ℕ
-pointsLength = 2 * ownPoints
+pointsLength = 2 * registryPoints
 
 -- ## Written
 
@@ -153,17 +153,24 @@ versionIn b = bigEndian 2 b versionPlace
 unfoldable pub pairsIn : List ℕ → ℕ
 pairsIn b = bigEndian 2 b pairsPlace
 
+-- where pair i's field is due on this sheet, and the shuffle's
+abbrev pub pairDue : List ℕ → ℕ → ℕ
+pairDue b i = pairPlace (versionIn b) i
+
+abbrev pub shuffleDue : List ℕ → ℕ
+shuffleDue b = pairDue b (pairsIn b)
+
 unfoldable pub pairAt : List ℕ → ℕ → Pair
 pairAt b i =
     record {
-      id = bigEndian 4 b (pairPlace (versionIn b) i + idAt);
-      donorBlood = bigEndian 1 b (pairPlace (versionIn b) i + donorBloodAt);
-      patientBlood = bigEndian 1 b (pairPlace (versionIn b) i + patientBloodAt);
-      donorAge = bigEndian 1 b (pairPlace (versionIn b) i + donorAgeAt);
-      patientAge = bigEndian 1 b (pairPlace (versionIn b) i + patientAgeAt);
-      donorAntigens = bigEndian 8 b (pairPlace (versionIn b) i + donorAntigensAt);
-      patientAntigens = bigEndian 8 b (pairPlace (versionIn b) i + patientAntigensAt);
-      patientAntibodies = bigEndian 8 b (pairPlace (versionIn b) i + patientAntibodiesAt);
+      id = bigEndian 4 b (pairDue b i + idAt);
+      donorBlood = bigEndian 1 b (pairDue b i + donorBloodAt);
+      patientBlood = bigEndian 1 b (pairDue b i + patientBloodAt);
+      donorAge = bigEndian 1 b (pairDue b i + donorAgeAt);
+      patientAge = bigEndian 1 b (pairDue b i + patientAgeAt);
+      donorAntigens = bigEndian 8 b (pairDue b i + donorAntigensAt);
+      patientAntigens = bigEndian 8 b (pairDue b i + patientAntigensAt);
+      patientAntibodies = bigEndian 8 b (pairDue b i + patientAntibodiesAt);
     }
 
 -- the points' number k; "In this order": the base is number 0
@@ -172,7 +179,7 @@ pointAt b k = numberAt b pointsPlace k
 
 -- the shuffle's number j on a sheet of n pairs
 abbrev pub shuffleAt : List ℕ → ℕ → ℕ → ℕ
-shuffleAt b n j = numberAt b (pairPlace (versionIn b) n) j
+shuffleAt b n j = numberAt b (pairDue b n) j
 
 -- the pool that a sheet says
 unfoldable pub poolOf : List ℕ → Pool

@@ -5,7 +5,7 @@ use lib.ListN.{length, getD}
 use Rattle.laws.specs.Below.{table}
 use Rattle.laws.specs.Lent.{filled}
 use Rattle.pool.specs.Pool.{Pair, Pool}
-use Rattle.pool.specs.Points.{pointCount}
+use Rattle.pool.specs.Points.{Points, pointCount, pointsOf}
 
 -- a table for each field of a pair
 pub record Fields : Type 0 where
@@ -41,8 +41,12 @@ abbrev pub tables : List ℕ → Fields → List ℕ → Tables
 tables p f s = record { points = p; fields = f; shuffle = s }
 
 -- number k of a table
-abbrev pub entry : List ℕ → ℕ → ℕ
-entry t k = getD t k 0
+abbrev pub itemIn : List ℕ → ℕ → ℕ
+itemIn t k = getD t k 0
+
+-- what a pool of version v is weighed by, whose own points stand in this table
+abbrev pub pointsOfTable : ℕ → List ℕ → Points
+pointsOfTable v l = pointsOf v (itemIn l)
 
 -- how many pairs the shortest of the eight can hold, and the shortest of the eight and the shuffle
 unfoldable pub fieldRoom : Fields → ℕ
@@ -76,9 +80,9 @@ unfoldable pub poolIn : ℕ → ℕ → Tables → Pool
 poolIn v n t =
     record {
       version = v;
-      points = table (pointCount v) (entry (t .points));
+      points = table (pointCount v) (itemIn (t .points));
       pairs = table n (pairIn (t .fields));
-      shuffle = table n (entry (t .shuffle));
+      shuffle = table n (itemIn (t .shuffle));
     }
 
 -- ## Filled: "the first N entries of each"; "what lies past them is unchanged". Of version 1 the points' table is wholly unchanged

@@ -8,8 +8,7 @@ use lib.ListN.{length, getD, set, length-set}
 use lib.Seq.{getD-set-same, getD-set-other}
 use Rattle.laws.proofs.Below.{below-suc}
 use Rattle.laws.proofs.Digits.{bigEndian-one}
-use Rattle.pool.specs.Sheet.{donorBloodAt, patientBloodAt, donorAgeAt, patientAgeAt, pairAt}
-use Rattle.pool.specs.Faultless.{pairDue}
+use Rattle.pool.specs.Sheet.{donorBloodAt, patientBloodAt, donorAgeAt, patientAgeAt, pairAt, pairDue}
 use Rattle.checks.specs.Preconditions.{PairAgrees}
 use Rattle.scan.specs.Preconditions.{Noted}
 

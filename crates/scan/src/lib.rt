@@ -6,9 +6,8 @@ ghost use Prim.Native.Nat.{_+_, _≤_, _<_};
 ghost use lib.ListN.{length};
 ghost use Rattle.refusal.specs.Fault.{firstBelow};
 ghost use Rattle.refusal.specs.Number.{faultAt};
-ghost use Rattle.pool.specs.Sheet.{pointsPlace, pairSize, pairPlace, versionIn, pairAt};
+ghost use Rattle.pool.specs.Sheet.{pointsPlace, pairSize, pairPlace, versionIn, pairAt, pairDue};
 ghost use Rattle.pool.specs.Faults.{pairFault, pointsFieldFault, pairFieldFault, shuffleFieldFault, sheetFault};
-ghost use Rattle.pool.specs.Faultless.{pairDue};
 ghost use Rattle.scan.specs.Answers.{foundFault};
 ghost use Rattle.scan.specs.Preconditions.{Noted};
 

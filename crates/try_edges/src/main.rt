@@ -6,6 +6,51 @@ use weighing::Building;
 ghost use Prim.Native.Nat.{_≤_};
 ghost use lib.ListN.{length};
 
+// Registries' points: one in which more mismatches and a senior patient weigh more; one whose heaviest edge is as heavy as may be; document 01's.
+const REGISTRIES: [[u16; 6]; 3] = [
+    [2000, 60, 7, 300, 5, 90],
+    [1, 60000, 40000, 20000, 5534, 5000],
+    [1000, 400, 250, 100, 50, 30],
+];
+
+// The ages of a donor and a patient, and their antigens, for every step: no mismatch with equal ages, young to senior, senior to young; then 1, 2, 3, 4 and 5.
+const STEPS: [[u64; 4]; 9] = [
+    [1, 1, 7, 7],
+    [0, 1, 7, 7],
+    [1, 0, 7, 7],
+    [1, 0, 1, 0],
+    [0, 0, 3, 0],
+    [0, 1, 7, 0],
+    [1, 0, 15, 0],
+    [1, 1, 31, 0],
+    [1, 0, 31, 0],
+];
+
+// The version, N, the base, the second step and the last, how many points are lent, the donor's blood group and the space for M. What 14 lets pass and what
+// it refuses; version 1, whatever is lent; and what comes first of two faults, 3, 4, 9, 14, 6, 9.
+const BUILT: [[u16; 8]; 20] = [
+    [2, 2, 65535, 0, 0, 6, 0, 4],
+    [2, 2, 0, 250, 30, 6, 0, 4],
+    [2, 2, 1, 65534, 0, 6, 0, 4],
+    [2, 2, 2, 65534, 0, 6, 0, 4],
+    [2, 2, 5, 65000, 530, 6, 0, 4],
+    [2, 2, 5, 65000, 531, 6, 0, 4],
+    [1, 2, 0, 65535, 65535, 0, 0, 4],
+    [1, 2, 0, 65535, 65535, 5, 0, 4],
+    [1, 2, 0, 65535, 65535, 6, 0, 4],
+    [0, 201, 0, 0, 0, 5, 4, 3],
+    [3, 2, 1000, 250, 30, 6, 0, 4],
+    [2, 201, 0, 0, 0, 5, 4, 3],
+    [2, 3, 0, 0, 0, 6, 4, 3],
+    [2, 2, 0, 0, 0, 5, 4, 3],
+    [2, 0, 0, 0, 0, 5, 4, 3],
+    [2, 2, 0, 0, 0, 6, 4, 3],
+    [2, 0, 0, 0, 0, 6, 4, 3],
+    [2, 2, 1000, 250, 30, 6, 4, 3],
+    [2, 2, 1000, 250, 30, 6, 0, 3],
+    [2, 2, 1000, 250, 30, 6, 0, 4],
+];
+
 fn print(text: &[u8]) {
     io::write_all(1, text);
 }
@@ -202,11 +247,6 @@ fn try_edge(name: &[u8], edge: Edge) {
     try_pairs(name, 2, 2, edge, 5, 5);
 }
 
-// Two pairs by these points.
-fn try_points(name: &[u8], version: u16, points: &[u16], edge: Edge) {
-    try_building(name, version, 2, points, 2, edge, 5, 5);
-}
-
 // "0 mismatches, equal ages 1,450; 2 give 1,300; 3, young to senior 1,130; 4, the same 1,130; 5, senior to young 1,000", "read with the mismatches all
 // on the donor's side", and the steps' other edges.
 fn try_edges() {
@@ -282,23 +322,25 @@ fn try_ends() {
     );
 }
 
+fn print_blood(blood: u8) {
+    match blood {
+        0 => print(b"O"),
+        1 => print(b"A"),
+        2 => print(b"B"),
+        _ => print(b"AB"),
+    }
+}
+
+// Every two blood groups.
 fn try_bloods() {
-    try_edge(b"O to O:", of_blood(0, 0));
-    try_edge(b"O to A:", of_blood(0, 1));
-    try_edge(b"O to B:", of_blood(0, 2));
-    try_edge(b"O to AB:", of_blood(0, 3));
-    try_edge(b"A to O:", of_blood(1, 0));
-    try_edge(b"A to A:", of_blood(1, 1));
-    try_edge(b"A to B:", of_blood(1, 2));
-    try_edge(b"A to AB:", of_blood(1, 3));
-    try_edge(b"B to O:", of_blood(2, 0));
-    try_edge(b"B to A:", of_blood(2, 1));
-    try_edge(b"B to B:", of_blood(2, 2));
-    try_edge(b"B to AB:", of_blood(2, 3));
-    try_edge(b"AB to O:", of_blood(3, 0));
-    try_edge(b"AB to A:", of_blood(3, 1));
-    try_edge(b"AB to B:", of_blood(3, 2));
-    try_edge(b"AB to AB:", of_blood(3, 3));
+    let mut two: u8 = 0;
+    while two < 16 {
+        print_blood(two / 4);
+        print(b" to ");
+        print_blood(two % 4);
+        try_edge(b":", of_blood(two / 4, two % 4));
+        two += 1;
+    }
 }
 
 fn try_antibodies() {
@@ -341,142 +383,83 @@ fn try_refusals() {
 }
 
 // A registry's points, on every step.
-fn try_registry(points: &[u16]) {
-    try_points(
-        b"  0 mismatches, equal ages:",
-        2,
-        points,
-        weighed(1, 1, 7, 7),
-    );
-    try_points(
-        b"  0 mismatches, young to senior:",
-        2,
-        points,
-        weighed(0, 1, 7, 7),
-    );
-    try_points(
-        b"  0 mismatches, senior to young:",
-        2,
-        points,
-        weighed(1, 0, 7, 7),
-    );
-    try_points(
-        b"  1 mismatch, senior to young:",
-        2,
-        points,
-        weighed(1, 0, 1, 0),
-    );
-    try_points(
-        b"  2 mismatches, equal ages:",
-        2,
-        points,
-        weighed(0, 0, 3, 0),
-    );
-    try_points(
-        b"  3 mismatches, young to senior:",
-        2,
-        points,
-        weighed(0, 1, 7, 0),
-    );
-    try_points(
-        b"  4 mismatches, senior to young:",
-        2,
-        points,
-        weighed(1, 0, 15, 0),
-    );
-    try_points(
-        b"  5 mismatches, equal ages:",
-        2,
-        points,
-        weighed(1, 1, 31, 0),
-    );
-    try_points(
-        b"  5 mismatches, senior to young:",
-        2,
-        points,
-        weighed(1, 0, 31, 0),
-    );
+fn try_registry(points: [u16; 6]) {
+    let mut i: usize = 0;
+    while i < 9 {
+        let row = STEPS[i];
+        print(b"  ages");
+        print_number(row[0]);
+        print_number(row[1]);
+        print(b", antigens");
+        print_number(row[2]);
+        print_number(row[3]);
+        let edge = weighed((row[0] % 256) as u8, (row[1] % 256) as u8, row[2], row[3]);
+        try_building(b":", 2, 2, &points, 2, edge, 5, 5);
+        i += 1;
+    }
 }
 
-// One registry whose steps rise, and one whose heaviest edge is as heavy as may be; then the first's points lent to version 1.
+// Each registry's.
 fn try_registries() {
-    let rising = [2000u16, 0, 7, 300, 5, 90];
-    let heavy = [1u16, 60000, 40000, 20000, 5534, 5000, 99];
-    print(b"points 2,000 0 7 300 5 90\n");
-    try_registry(&rising);
-    print(b"points 1 60,000 40,000 20,000 5,534 5,000\n");
-    try_registry(&heavy);
-    print(b"version 1, where points are lent\n");
-    try_points(b"  six:", 1, &rising, weighed(0, 1, 7, 0));
-    try_points(b"  seven:", 1, &heavy, weighed(0, 1, 7, 0));
-    try_points(b"  five, all 0:", 1, &[0u16; 5], weighed(0, 1, 7, 0));
+    let mut i: usize = 0;
+    while i < 3 {
+        let points = REGISTRIES[i];
+        print(b"points");
+        print_weight(points[0]);
+        print_weight(points[1]);
+        print_weight(points[2]);
+        print_weight(points[3]);
+        print_weight(points[4]);
+        print_weight(points[5]);
+        print(b"\n");
+        try_registry(points);
+        i += 1;
+    }
 }
 
-// What 14 lets pass, and what it refuses.
-fn try_limits_of_points() {
-    let edge = weighed(0, 0, 0, 0);
-    try_points(b"base 65,535 alone:", 2, &[65535u16, 0, 0, 0, 0, 0], edge);
-    try_points(b"base 0:", 2, &[0u16, 400, 250, 100, 50, 30], edge);
-    try_points(
-        b"65,535 by the third step:",
-        2,
-        &[1u16, 0, 0, 65534, 0, 0],
-        edge,
-    );
-    try_points(
-        b"65,536 by the third step:",
-        2,
-        &[2u16, 0, 0, 65534, 0, 0],
-        edge,
-    );
-    try_points(
-        b"65,535 by the last:",
-        2,
-        &[5u16, 7, 65000, 0, 0, 530],
-        edge,
-    );
-    try_points(
-        b"65,536 by the last:",
-        2,
-        &[5u16, 7, 65000, 0, 0, 531],
-        edge,
-    );
+// Builds as the row says; of the points not named there the others are 0.
+fn try_row(row: [u16; 8]) {
+    let points = [row[2], 0, row[3], 0, 0, row[4]];
+    let count = row[5] as usize;
+    let space = row[7] as usize;
+    if count <= 6 {
+        if space <= 5 {
+            let edge = of_blood((row[6] % 256) as u8, 0);
+            try_building(
+                b":",
+                row[0],
+                row[1] as usize,
+                &points[..count],
+                2,
+                edge,
+                space,
+                5,
+            );
+        }
+    }
 }
 
-// What comes first of two: 3, 4, 9, 14, 6; and five points or a base of 0 with no pair.
-fn try_order() {
-    let sound = [1000u16, 400, 250, 100, 50, 30];
-    let zero = [0u16; 6];
-    let five = [0u16; 5];
-    let edge = of_blood(4, 0);
-    try_building(b"version 0 and 201 pairs:", 0, 201, &sound, 2, edge, 5, 5);
-    try_building(b"version 3:", 3, 2, &sound, 2, of_blood(0, 0), 5, 5);
-    try_building(b"201 pairs and five points:", 2, 201, &five, 2, edge, 5, 5);
-    try_building(
-        b"fields of two for three and base 0:",
-        2,
-        3,
-        &zero,
-        2,
-        edge,
-        5,
-        5,
-    );
-    try_building(b"five points and base 0:", 2, 2, &five, 2, edge, 5, 5);
-    try_building(b"five points and no pair:", 2, 0, &five, 2, edge, 5, 5);
-    try_building(b"base 0 and blood 4:", 2, 2, &zero, 2, edge, 5, 5);
-    try_building(b"base 0 and no pair:", 2, 0, &zero, 2, edge, 5, 5);
-    try_building(b"version 2 and blood 4:", 2, 2, &sound, 2, edge, 0, 0);
-    try_building(
-        b"version 2, M with space for three:",
-        2,
-        2,
-        &sound,
-        2,
-        of_blood(0, 0),
-        3,
-        4,
-    );
+fn print_labelled(label: &[u8], n: u16) {
+    print(label);
+    print_weight(n);
+}
+
+// Builds each row.
+fn try_built() {
+    let mut i: usize = 0;
+    while i < 20 {
+        let row = BUILT[i];
+        print_labelled(b"version", row[0]);
+        print_labelled(b", pairs", row[1]);
+        print_labelled(b", base", row[2]);
+        print_labelled(b", steps", row[3]);
+        print_labelled(b"", row[4]);
+        print_labelled(b", points", row[5]);
+        print_labelled(b", blood", row[6]);
+        print_labelled(b", space", row[7]);
+        try_row(row);
+        i += 1;
+    }
 }
 
 // Two hundred different ids.
@@ -541,7 +524,6 @@ fn main() {
     try_antibodies();
     try_refusals();
     try_registries();
-    try_limits_of_points();
-    try_order();
+    try_built();
     try_most();
 }

@@ -5,6 +5,32 @@ use joining::Joining;
 use refusal::Refusal;
 ghost use Prim.Native.Nat.{_+_, _≤_};
 
+// Two sheets: the version, N and the first id of each; then a point of the second that is another, by its number, 6 for none, and what it is. Version 1
+// beside version 2 with document 01's points, and with no pairs on one side or both; each of the six points one more, and with no pairs in the first; an id in
+// both, alone, with another point and with another version; a base of 0 in the second beside version 1. Then sheets that can be joined.
+const SHEETS: [[usize; 8]; 20] = [
+    [1, 2, 11, 2, 1, 13, 6, 0],
+    [2, 1, 13, 1, 2, 11, 6, 0],
+    [1, 2, 11, 2, 0, 0, 6, 0],
+    [1, 0, 0, 2, 1, 13, 6, 0],
+    [1, 0, 0, 2, 0, 0, 6, 0],
+    [2, 1, 13, 2, 1, 14, 0, 1001],
+    [2, 1, 13, 2, 1, 14, 1, 401],
+    [2, 1, 13, 2, 1, 14, 2, 251],
+    [2, 1, 13, 2, 1, 14, 3, 101],
+    [2, 1, 13, 2, 1, 14, 4, 51],
+    [2, 1, 13, 2, 1, 14, 5, 31],
+    [2, 0, 0, 2, 1, 14, 5, 31],
+    [2, 1, 12, 2, 1, 12, 6, 0],
+    [2, 1, 12, 2, 1, 12, 5, 31],
+    [1, 2, 11, 2, 1, 12, 6, 0],
+    [1, 2, 11, 2, 1, 12, 0, 0],
+    [2, 2, 11, 2, 1, 13, 6, 0],
+    [2, 2, 11, 2, 0, 0, 6, 0],
+    [2, 0, 0, 2, 2, 11, 6, 0],
+    [1, 2, 11, 1, 1, 13, 6, 0],
+];
+
 fn print(text: &[u8]) {
     io::write_all(1, text);
 }
@@ -138,13 +164,27 @@ fn print_row(sheet: &[u8], n: usize, shuffle: bool)
     }
 }
 
-// What is in the buffer: N and the version, the ids, the shuffle, and what stands past the sheet.
+// The points of version 2.
+fn print_points(sheet: &[u8]) {
+    print(b" | points");
+    let mut k: usize = 0;
+    while k < 6 {
+        print_number(256 * byte(sheet, 10 + 2 * k) + byte(sheet, 11 + 2 * k));
+        k += 1;
+    }
+}
+
+// What is in the buffer: N and the version, the points, the ids, the shuffle, and what stands past the sheet.
 fn print_sheet(out: &[u8], length: usize) {
     let n = byte(out, 6);
+    let version = byte(out, 4);
     print(b" |");
     print_number(n);
     print(b" pairs of version");
-    print_number(byte(out, 4));
+    print_number(version);
+    if version == 2 {
+        print_points(out);
+    }
     print_row(out, n, false);
     print_row(out, n, true);
     if length < out.len() {
@@ -302,129 +342,79 @@ fn try_shared() {
     try_joining(b"a sheet with itself:", &sheet, &sheet, &mut out);
 }
 
-// Version 2: an addendum, and no pairs on either side.
-fn try_second() {
-    let mut sheet = [0u8; 99];
-    fill(&mut sheet, 2, 2, 11, true);
-    let mut one = [0u8; 62];
-    fill(&mut one, 2, 1, 13, false);
-    let mut none = [0u8; 25];
-    fill(&mut none, 2, 0, 0, false);
-    let mut out = [99u8; 137];
-    try_joining(
-        b"version 2, an addendum of one pair:",
-        &sheet,
-        &one,
-        &mut out,
-    );
-    let mut short = [99u8; 135];
-    try_joining(
-        b"version 2, a buffer a byte too short:",
-        &sheet,
-        &one,
-        &mut short,
-    );
-    try_same(
-        b"version 2, no pairs in the addendum:",
-        &sheet,
-        &none,
-        &sheet,
-    );
-    try_same(b"version 2, no pairs in the first:", &none, &sheet, &sheet);
-}
-
-// "A joined sheet needs equal versions and points, with N = 0 too": version 1 beside version 2 with document 01's points.
-fn try_versions() {
-    let sheet = example();
-    let mut one = [0u8; 62];
-    fill(&mut one, 2, 1, 13, false);
-    let mut none = [0u8; 10];
-    fill(&mut none, 1, 0, 0, false);
-    let mut no_more = [0u8; 25];
-    fill(&mut no_more, 2, 0, 0, false);
-    let mut out = [99u8; 200];
-    try_joining(b"versions 1 and 2:", &sheet, &one, &mut out);
-    try_joining(b"versions 2 and 1:", &one, &sheet, &mut out);
-    try_joining(
-        b"versions 1 and 2, no pairs in the second:",
-        &sheet,
-        &no_more,
-        &mut out,
-    );
-    try_joining(
-        b"versions 1 and 2, no pairs in the first:",
-        &none,
-        &one,
-        &mut out,
-    );
-    try_joining(
-        b"versions 1 and 2, no pairs in either:",
-        &none,
-        &no_more,
-        &mut out,
-    );
-}
-
-// Points of which one is one more, with pairs and with none.
-fn try_point(k: usize)
-    requires { ⌜ k ≤ 6 ⌝ }
+// The bytes of a sheet of a few pairs.
+fn size(version: usize, n: usize) -> usize
+    requires { ⌜ n ≤ 2 ⌝ }
+    ensures { λ r. ⌜ r ≤ 99 ⌝ }
 {
-    let mut sheet = [0u8; 62];
-    fill(&mut sheet, 2, 1, 13, false);
-    let mut other = [0u8; 62];
-    fill(&mut other, 2, 1, 14, false);
-    set(&mut other, 11 + 2 * k, byte(&sheet, 11 + 2 * k) + 1);
-    let mut none = [0u8; 25];
-    fill(&mut none, 2, 0, 0, false);
-    let mut out = [99u8; 100];
-    print(b"point");
-    print_number(k);
-    try_joining(b" one more:", &sheet, &other, &mut out);
-    try_joining(b"  with no pairs:", &none, &other, &mut out);
+    start(version) + 37 * n + 3
 }
 
-// 15 beside an id in both; the buffer is too short as well.
-fn try_before_eleven() {
-    let mut sheet = [0u8; 62];
-    fill(&mut sheet, 2, 1, 12, false);
-    let mut other = [0u8; 62];
-    fill(&mut other, 2, 1, 12, false);
-    set(&mut other, 21, 31);
-    let mut out = [99u8; 9];
-    try_joining(b"an id in both:", &sheet, &sheet, &mut out);
-    try_joining(
-        b"an id in both, and another point:",
-        &sheet,
-        &other,
-        &mut out,
-    );
-    try_joining(
-        b"an id in both, and another version:",
-        &example(),
-        &sheet,
-        &mut out,
-    );
+// A sheet of a few pairs, in 99 bytes.
+fn small(version: usize, n: usize, id: usize, turned: bool) -> [u8; 99] {
+    let mut sheet = [0u8; 99];
+    if n <= 2 {
+        if id <= 99 {
+            fill(&mut sheet, version, n, id, turned);
+        }
+    }
+    sheet
 }
 
-// 15 beside a sheet's own fault.
-fn try_after_fourteen() {
-    let sheet = example();
-    let mut other = [0u8; 62];
-    fill(&mut other, 2, 1, 12, false);
-    set_number(&mut other, 10, 0);
-    let mut out = [99u8; 9];
-    try_joining(
-        b"base 0 in the second, and another version:",
-        &sheet,
-        &other,
-        &mut out,
-    );
-    try_joining(
-        b"base 0 in the first, and another version:",
-        &other,
-        &sheet,
-        &mut out,
-    );
+// With another point, by its number, if there is such a one.
+fn with_point(sheet: [u8; 99], k: usize, to: usize) -> [u8; 99] {
+    let mut other = sheet;
+    if k < 6 {
+        set_number(&mut other, 10 + 2 * k, to);
+    }
+    other
+}
+
+// Joins the first bytes of two such sheets.
+fn try_first(first: [u8; 99], m: usize, second: [u8; 99], n: usize)
+    requires { ⌜ (m ≤ 99) × (n ≤ 99) ⌝ }
+{
+    let mut out = [99u8; 137];
+    try_joining(b":", &first[..m], &second[..n], &mut out);
+}
+
+// Makes the two sheets of a row and joins them.
+fn try_small(row: [usize; 8]) {
+    let m = row[1];
+    let n = row[4];
+    if m <= 2 {
+        if n <= 2 {
+            try_first(
+                small(row[0], m, row[2], true),
+                size(row[0], m),
+                with_point(small(row[3], n, row[5], false), row[6], row[7]),
+                size(row[3], n),
+            );
+        }
+    }
+}
+
+// Joins the sheets of each row.
+fn try_rows() {
+    let mut i: usize = 0;
+    while i < 20 {
+        let row = SHEETS[i];
+        print(b"versions");
+        print_number(row[0]);
+        print_number(row[3]);
+        print(b", pairs");
+        print_number(row[1]);
+        print_number(row[4]);
+        print(b", ids from");
+        print_number(row[2]);
+        print_number(row[5]);
+        print(b", point");
+        print_number(row[6]);
+        print(b" is");
+        print_number(row[7]);
+        try_small(row);
+        i += 1;
+    }
 }
 
 fn main() {
@@ -443,14 +433,5 @@ fn main() {
     );
     try_own_faults();
     try_shared();
-    try_second();
-    try_versions();
-    try_point(0);
-    try_point(1);
-    try_point(2);
-    try_point(3);
-    try_point(4);
-    try_point(5);
-    try_before_eleven();
-    try_after_fourteen();
+    try_rows();
 }

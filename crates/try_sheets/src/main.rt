@@ -7,6 +7,65 @@ ghost use Prim.Native.Nat.{_≤_};
 // Document 01's points.
 const DOCUMENT: [u16; 6] = [1000, 400, 250, 100, 50, 30];
 
+// Points to try in the example: "14 where the base is 0 or base, largest mismatch step and larger age step together exceed 65,535". After document 01's
+// a base of 0, 1 and 65,535 alone; then the largest in each of three places and the larger in each of two, at the limit and one above it; then so much that
+// 1 would be left of it in 16 bits.
+const REGISTRIES: [[u16; 6]; 11] = [
+    [1000, 400, 250, 100, 50, 30],
+    [0, 400, 250, 100, 50, 30],
+    [1, 0, 0, 0, 0, 0],
+    [65535, 0, 0, 0, 0, 0],
+    [5, 65000, 3, 4, 530, 2],
+    [6, 65000, 3, 4, 530, 2],
+    [5, 3, 65000, 4, 2, 530],
+    [5, 3, 65001, 4, 2, 530],
+    [5, 3, 4, 65000, 2, 530],
+    [5, 3, 4, 65000, 2, 531],
+    [65535, 65535, 0, 0, 3, 0],
+];
+
+// What is changed in the example as version 2: its base, and one byte, by its place. The other version, a later one, the tag and the length of the points;
+// N with a base of 0, and the first pair's tag with it; a blood group, an id again, a number of the shuffle twice.
+const CHANGES: [[u16; 3]; 9] = [
+    [1000, 4, 1],
+    [1000, 4, 3],
+    [1000, 7, 3],
+    [1000, 9, 10],
+    [0, 6, 201],
+    [0, 22, 3],
+    [1000, 64, 4],
+    [1000, 63, 11],
+    [1000, 98, 0],
+];
+
+// What is written: the version, N, the base and how many points are lent; the second pair's donor blood and id, the second number of the shuffle, and the
+// bytes of the buffer. First version 1, with each of its refusals; then what comes first of two faults, 3, 4, 9, 14, 6; then version 2.
+const WRITTEN: [[u16; 8]; 23] = [
+    [1, 201, 0, 0, 2, 12, 1, 85],
+    [1, 3, 0, 0, 2, 12, 1, 85],
+    [1, 2, 0, 0, 4, 12, 1, 85],
+    [1, 2, 0, 0, 2, 11, 1, 85],
+    [1, 2, 0, 0, 2, 12, 0, 85],
+    [1, 2, 0, 0, 2, 12, 1, 85],
+    [1, 2, 0, 5, 2, 12, 1, 84],
+    [1, 2, 0, 6, 2, 12, 1, 83],
+    [1, 1, 0, 6, 4, 11, 0, 83],
+    [0, 201, 1000, 6, 2, 12, 1, 100],
+    [3, 2, 1000, 6, 2, 12, 1, 100],
+    [2, 201, 0, 5, 4, 12, 1, 100],
+    [2, 3, 0, 6, 4, 12, 1, 100],
+    [2, 2, 0, 5, 4, 12, 1, 100],
+    [2, 0, 0, 5, 4, 12, 1, 100],
+    [2, 2, 0, 6, 4, 12, 1, 100],
+    [2, 0, 0, 6, 4, 12, 1, 100],
+    [2, 2, 1000, 6, 4, 12, 1, 100],
+    [2, 2, 1000, 6, 2, 12, 0, 98],
+    [2, 2, 1000, 6, 2, 12, 1, 98],
+    [2, 2, 1000, 6, 2, 12, 1, 99],
+    [2, 2, 1000, 6, 2, 12, 1, 100],
+    [2, 0, 1000, 6, 4, 12, 1, 98],
+];
+
 // Document 01's example, and a byte after it.
 const EXAMPLE: [u8; 85] = [
     1,
@@ -137,6 +196,10 @@ fn print_byte(b: u8) {
     print_number(b as u64);
 }
 
+fn wide(x: u16) -> usize {
+    x as usize
+}
+
 fn print_short(p: u16) {
     print_number(p as u64);
 }
@@ -151,9 +214,8 @@ fn print_ends(shuffle: &[u16]) {
     }
 }
 
-// All of a table of points.
 fn print_points(points: &[u16]) {
-    print(b" | points");
+    print(b" points");
     let mut k: usize = 0;
     while k < points.len() {
         print_short(points[k]);
@@ -230,6 +292,7 @@ fn try_reading(name: &[u8], sheet: &[u8], points: &mut [u16], shuffle: &mut [u16
         patient_antibodies[199],
     );
     print_ends(shuffle);
+    print(b" |");
     print_points(points);
     print(b"\n");
 }
@@ -309,11 +372,6 @@ fn try_second(name: &[u8], points: [u16; 6], at: usize, to: u8, size: usize)
     try_sheet(name, &sheet[..size]);
 }
 
-// Reads the whole of it.
-fn try_points(name: &[u8], points: [u16; 6]) {
-    try_second(name, points, 0, 1, 99);
-}
-
 // Its first bytes, cut off in the field of the points and just after it.
 fn try_cuts() {
     let mut size: usize = 7;
@@ -322,6 +380,40 @@ fn try_cuts() {
         print_number(size as u64);
         try_second(b":", DOCUMENT, 0, 1, size);
         size += 1;
+    }
+}
+
+// The example as version 2 with these points.
+fn try_points(points: [u16; 6]) {
+    print(b"version 2,");
+    print_points(&points);
+    try_second(b":", points, 0, 1, 99);
+}
+
+// And with each of the points to try.
+fn try_registries() {
+    let mut i: usize = 0;
+    while i < 11 {
+        try_points(REGISTRIES[i]);
+        i += 1;
+    }
+}
+
+// And with document 01's, and each of the changes.
+fn try_changes() {
+    let mut i: usize = 0;
+    while i < 9 {
+        let row = CHANGES[i];
+        let mut points = DOCUMENT;
+        points[0] = row[0];
+        print(b"version 2, base");
+        print_short(row[0]);
+        print(b", byte");
+        print_short(row[1]);
+        print(b" is");
+        print_short(row[2]);
+        try_second(b":", points, wide(row[1]), (row[2] % 256) as u8, 99);
+        i += 1;
     }
 }
 
@@ -335,27 +427,17 @@ fn print_bytes(out: &[u8]) {
     print(b"\n");
 }
 
-// Writes the first n of two pairs, the second with this donor blood and id, and this number second in the shuffle, as a sheet of this version with these
-// points; prints the answer and what stands then at the first and the last byte of the buffer.
-fn try_writing(
-    name: &[u8],
-    version: u16,
-    n: usize,
-    points: &[u16],
-    blood: u8,
-    id: u32,
-    number: u16,
-    out: &mut [u8],
-) {
-    let ids = [11, id];
-    let donor_blood = [1, blood];
+// Writes the first pairs of two, as the row says; prints the answer and what stands then at the first and the last byte of the buffer.
+fn try_writing(row: [u16; 8], points: &[u16], out: &mut [u8]) {
+    let ids = [11, row[5] as u32];
+    let donor_blood = [1, (row[4] % 256) as u8];
     let patient_blood = [2u8, 1];
     let ages = [0u8; 2];
     let tissue = [0u64; 2];
-    let shuffle = [0, number];
+    let shuffle = [0, row[6]];
     let answer = writer::write(
-        version,
-        n,
+        row[0],
+        row[1] as usize,
         points,
         &ids,
         &donor_blood,
@@ -368,9 +450,46 @@ fn try_writing(
         &shuffle,
         out,
     );
-    print(name);
     print_writing(answer);
     print_bytes(out);
+}
+
+// The same, with the row's points and buffer.
+fn try_row(row: [u16; 8]) {
+    let mut points = DOCUMENT;
+    points[0] = row[2];
+    let mut out = [99u8; 100];
+    let count = row[3] as usize;
+    let room = row[7] as usize;
+    if count <= 6 {
+        if room <= 100 {
+            try_writing(row, &points[..count], &mut out[..room]);
+        }
+    }
+}
+
+fn print_labelled(label: &[u8], n: u16) {
+    print(label);
+    print_short(n);
+}
+
+// Writes each row.
+fn try_written() {
+    let mut i: usize = 0;
+    while i < 23 {
+        let row = WRITTEN[i];
+        print_labelled(b"written, version", row[0]);
+        print_labelled(b", pairs", row[1]);
+        print_labelled(b", base", row[2]);
+        print_labelled(b" of points", row[3]);
+        print_labelled(b", blood", row[4]);
+        print_labelled(b", id", row[5]);
+        print_labelled(b", number", row[6]);
+        print_labelled(b", into", row[7]);
+        print(b":");
+        try_row(row);
+        i += 1;
+    }
 }
 
 // Writes the sheet's pool again, from the tables that it was read into.
@@ -540,39 +659,19 @@ fn try_more_refusals() {
     try_short(b"a table too short:", 84);
 }
 
-// "14 where the base is 0 or base, largest mismatch step and larger age step together exceed 65,535": the largest in each of three places, the larger in
-// each of two, at the limit and one above it.
-fn try_registries() {
-    try_points(b"version 2:", DOCUMENT);
-    try_points(b"base 0:", [0, 400, 250, 100, 50, 30]);
-    try_points(b"base 1 alone:", [1, 0, 0, 0, 0, 0]);
-    try_points(b"base 65,535 alone:", [65535, 0, 0, 0, 0, 0]);
-    try_points(b"65,535, by steps 1 and 1:", [5, 65000, 3, 4, 530, 2]);
-    try_points(b"65,536, by steps 1 and 1:", [6, 65000, 3, 4, 530, 2]);
-    try_points(b"65,535, by steps 2 and 2:", [5, 3, 65000, 4, 2, 530]);
-    try_points(b"65,536, by steps 2 and 2:", [5, 3, 65001, 4, 2, 530]);
-    try_points(b"65,535, by steps 3 and 2:", [5, 3, 4, 65000, 2, 530]);
-    try_points(b"65,536, by steps 3 and 2:", [5, 3, 4, 65000, 2, 531]);
-    try_points(b"1 in 16 bits:", [65535, 65535, 0, 0, 3, 0]);
+// Reads a sheet with a table for so many points, and one for two numbers of the shuffle.
+fn try_within(name: &[u8], sheet: &[u8], count: usize)
+    requires { ⌜ count ≤ 7 ⌝ }
+{
+    let mut points = [99u16; 7];
+    let mut shuffle = [99u16; 2];
+    try_reading(name, sheet, &mut points[..count], &mut shuffle);
 }
 
-// Version 2 on the way forward: before its points, in their field, and after them.
-fn try_second_refusals() {
-    try_cuts();
-    try_changed(b"version 2 without points:", 4, 2, 84);
-    try_second(b"version 1 with points:", DOCUMENT, 4, 1, 99);
-    try_second(b"version 3 with points:", DOCUMENT, 4, 3, 99);
-    try_second(b"another tag for the points:", DOCUMENT, 7, 3, 99);
-    try_second(b"another length for the points:", DOCUMENT, 9, 10, 99);
-    try_second(b"base 0 and 201 pairs:", [0; 6], 6, 201, 99);
-    try_second(b"base 0 and another tag after it:", [0; 6], 22, 3, 99);
-    try_second(b"version 2, blood 4:", DOCUMENT, 64, 4, 99);
-    try_second(b"version 2, an id again:", DOCUMENT, 63, 11, 99);
-    try_second(b"version 2, a number twice:", DOCUMENT, 98, 0, 99);
-}
-
-// Tables of points of other lengths: for version 1 any will do, and version 2 wants six.
-fn try_lengths() {
+// For version 1 any table of points will do; version 2 wants six, with no pairs too.
+fn try_room(count: usize)
+    requires { ⌜ count ≤ 7 ⌝ }
+{
     let example = EXAMPLE;
     let sheet = second(DOCUMENT, 0, 1);
     let none = [
@@ -602,193 +701,12 @@ fn try_lengths() {
         0,
         0,
     ];
-    let mut shuffle = [99u16; 2];
-    let mut nothing = [99u16; 0];
-    let mut five = [99u16; 5];
-    let mut six = [99u16; 6];
-    try_reading(
-        b"version 1, no table of points:",
-        &example[..84],
-        &mut nothing,
-        &mut shuffle,
-    );
-    try_reading(
-        b"version 1, a table of five:",
-        &example[..84],
-        &mut five,
-        &mut shuffle,
-    );
-    try_reading(
-        b"version 2, a table of five:",
-        &sheet,
-        &mut five,
-        &mut shuffle,
-    );
-    try_reading(
-        b"version 2, no pairs and five:",
-        &none,
-        &mut five,
-        &mut shuffle,
-    );
-    try_reading(
-        b"version 2, no pairs and six:",
-        &none,
-        &mut six,
-        &mut shuffle,
-    );
-}
-
-// Version 1 written, with a table of points that would be refused.
-fn try_pools() {
-    let points = [0u16; 1];
-    let mut out = [99u8; 85];
-    try_writing(b"written, 201 pairs:", 1, 201, &points, 2, 12, 1, &mut out);
-    try_writing(
-        b"written, tables too short:",
-        1,
-        3,
-        &points,
-        2,
-        12,
-        1,
-        &mut out,
-    );
-    try_writing(b"written, blood 4:", 1, 2, &points, 4, 12, 1, &mut out);
-    try_writing(b"written, an id again:", 1, 2, &points, 2, 11, 1, &mut out);
-    try_writing(
-        b"written, a number twice:",
-        1,
-        2,
-        &points,
-        2,
-        12,
-        0,
-        &mut out,
-    );
-    try_writing(b"written:", 1, 2, &points, 2, 12, 1, &mut out);
-    let mut short = [99u8; 83];
-    try_writing(
-        b"written, the buffer too short:",
-        1,
-        2,
-        &points,
-        2,
-        12,
-        1,
-        &mut short,
-    );
-    try_writing(b"written, one pair:", 1, 1, &points, 4, 11, 0, &mut short);
-}
-
-// Version 2 written, and what comes first of two faults: 3, 4, 9, 14, 6.
-fn try_second_pools() {
-    let sound = DOCUMENT;
-    let zero = [0u16; 6];
-    let five = [0u16; 5];
-    let mut out = [99u8; 100];
-    try_writing(
-        b"written, version 0 and 201 pairs:",
-        0,
-        201,
-        &sound,
-        2,
-        12,
-        1,
-        &mut out,
-    );
-    try_writing(b"written, version 3:", 3, 2, &sound, 2, 12, 1, &mut out);
-    try_writing(
-        b"written, 201 pairs and five points:",
-        2,
-        201,
-        &five,
-        2,
-        12,
-        1,
-        &mut out,
-    );
-    try_writing(
-        b"written, tables too short and base 0:",
-        2,
-        3,
-        &zero,
-        2,
-        12,
-        1,
-        &mut out,
-    );
-    try_writing(
-        b"written, five points and base 0:",
-        2,
-        2,
-        &five,
-        2,
-        12,
-        1,
-        &mut out,
-    );
-    try_writing(
-        b"written, no pairs and five points:",
-        2,
-        0,
-        &five,
-        2,
-        12,
-        1,
-        &mut out,
-    );
-    try_writing(
-        b"written, base 0 and blood 4:",
-        2,
-        2,
-        &zero,
-        4,
-        12,
-        1,
-        &mut out,
-    );
-    try_writing(
-        b"written, no pairs and base 0:",
-        2,
-        0,
-        &zero,
-        2,
-        12,
-        1,
-        &mut out,
-    );
-    try_writing(
-        b"written, version 2 and blood 4:",
-        2,
-        2,
-        &sound,
-        4,
-        12,
-        1,
-        &mut out,
-    );
-    try_writing(b"written, version 2:", 2, 2, &sound, 2, 12, 1, &mut out);
-    let mut short = [99u8; 98];
-    try_writing(
-        b"written, version 2 into 98 bytes:",
-        2,
-        2,
-        &sound,
-        2,
-        12,
-        1,
-        &mut short,
-    );
-    try_writing(
-        b"written, version 2 and no pairs:",
-        2,
-        0,
-        &sound,
-        2,
-        12,
-        1,
-        &mut short,
-    );
+    print(b"room for points:");
+    print_number(count as u64);
+    print(b"\n");
+    try_within(b"  version 1:", &example[..84], count);
+    try_within(b"  version 2:", &sheet, count);
+    try_within(b"  version 2, no pairs:", &none, count);
 }
 
 fn main() {
@@ -798,9 +716,13 @@ fn main() {
     try_limits();
     try_refusals();
     try_more_refusals();
+    try_changed(b"version 2 without points:", 4, 2, 84);
+    try_cuts();
     try_registries();
-    try_second_refusals();
-    try_lengths();
-    try_pools();
-    try_second_pools();
+    try_changes();
+    try_room(0);
+    try_room(5);
+    try_room(6);
+    try_room(7);
+    try_written();
 }

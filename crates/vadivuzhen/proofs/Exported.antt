@@ -3,14 +3,17 @@ use mathlib.Core.Path.{_≡_, refl}
 use mathlib.Core.List.{List}
 use Prim.Native.Nat.{ℕ}
 use Rattle.refusal.specs.Answer.{Answer, Outcome, outcome}
-use Rattle.pool.specs.Tables.{Fields}
+use Rattle.pool.specs.Tables.{Fields, Tables}
+use Rattle.pool.specs.Calls.{Head}
+use Rattle.pool.specs.Promises.{ReadsRightly}
 use Rattle.graph.specs.Graph.{Graph}
 use Rattle.weighing.specs.Promises.{BuildsRightly}
 use Rattle.exchange.specs.Input.{Request}
 use Rattle.exchange.specs.Planning.{Lent, Plan, planning}
 use Rattle.exchange.specs.Promises.{PlansRightly}
-use Rattle.numbers.specs.Numbers.{buildNumbers, planNumbers}
-use Rattle.numbers.specs.Promises.{NumberedAt0}
+use Rattle.numbers.specs.Numbers.{readNumbers, buildNumbers, planNumbers}
+use Rattle.numbers.specs.Promises.{Numbered, NumberedAt0}
+use Rattle.numbers.specs.declared.ReadAnswer.{ReadAnswer}
 use Rattle.numbers.specs.declared.BuildAnswer.{BuildAnswer}
 use Rattle.numbers.specs.declared.PlanAnswer.{PlanAnswer}
 
@@ -27,6 +30,14 @@ pub kept : {Given Result Left : Type 0} (numbers : Answer Result → Given) (Are
     → Promised (outcome a left)
     → Ensures numbers Are Promised r left due
 kept numbers Are Promised e are w p = rw (← w) ((e, are), (refl, p))
+
+pub kept-read : {b : List ℕ} {t left : Tables} {a : Answer Head} {r : ReadAnswer} {due : Outcome Head Tables}
+    → r ≡ readNumbers a
+    → Numbered a
+    → outcome a left ≡ due
+    → ReadsRightly b t (outcome a left)
+    → Ensures readNumbers Numbered (ReadsRightly b t) r left due
+kept-read {b} {t} = kept readNumbers Numbered (ReadsRightly b t)
 
 pub kept-built : {v n : ℕ} {l : List ℕ} {f : Fields} {old new : Graph} {a : Answer (Unit {0})} {r : BuildAnswer} {due : Outcome (Unit {0}) Graph}
     → r ≡ buildNumbers a

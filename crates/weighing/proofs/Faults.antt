@@ -15,9 +15,9 @@ use Rattle.refusal.specs.declared.Verdict.the-variants.{Sound, Faulty}
 use Rattle.refusal.proofs.Faults.{none-then, fault-then, then-none, fault-refuse, sound-none, faulty-fault, by-then}
 use Rattle.pool.specs.Pool.{Pair}
 use Rattle.pool.specs.Points.{pointCount}
-use Rattle.pool.specs.Tables.{Fields, fieldRoom, pairIn}
+use Rattle.pool.specs.Tables.{Fields, fieldRoom, pairIn, pointsOfTable}
 use Rattle.pool.specs.Faults.{roomFault, tablesFault, beforeFault, pairsFault}
-use Rattle.pool.specs.Faultless.{FieldsHold, PointsHold, Ready, pointsOfTable}
+use Rattle.pool.specs.Faultless.{FieldsHold, PointsHold, Ready}
 use Rattle.pool.proofs.Points.{hold-count, count-hold, first-points}
 use Rattle.pool.proofs.Rooms.{fieldRoom-hold, hold-fieldRoom}
 use Rattle.pool.proofs.Reading.{room-none, room-passed, room-fault, tables-first}

@@ -11,8 +11,8 @@ use Rattle.refusal.specs.declared.Verdict.{Verdict}
 use Rattle.refusal.specs.declared.Verdict.the-variants.{Sound, Faulty}
 use Rattle.refusal.proofs.Faults.{sound-none, faulty-fault, unless-none, unless-fault, finished-none, refused-fault}
 use Rattle.pool.specs.Points.{Points}
-use Rattle.pool.specs.Tables.{Fields, fields, pairIn}
-use Rattle.pool.specs.Faultless.{SoundPoints, pointsOfTable}
+use Rattle.pool.specs.Tables.{Fields, fields, pairIn, pointsOfTable}
+use Rattle.pool.specs.Faultless.{SoundPoints}
 use Rattle.pool.proofs.Points.{sound-heaviest}
 use Rattle.donation.specs.Compatibility.{compatibility}
 use Rattle.donation.specs.Weight.{weight}

@@ -4,9 +4,8 @@ use mathlib.Core.List.{List}
 use lib.ListN.{length}
 use Rattle.refusal.specs.Fault.{Fault, _then_}
 use Rattle.refusal.specs.Answer.{Outcome, unless}
-use Rattle.pool.specs.Tables.{Fields, fieldRoom, pairIn}
+use Rattle.pool.specs.Tables.{Fields, fieldRoom, pairIn, pointsOfTable}
 use Rattle.pool.specs.Faults.{roomFault, pairsFault}
-use Rattle.pool.specs.Faultless.{pointsOfTable}
 use Rattle.graph.specs.Graph.{Graph, filledGraph}
 
 -- "checks 4, then 6 and 7 pair by pair, then 9"; "9 also comes directly after 4, where a table of the fields is shorter than N; the last 9 is for

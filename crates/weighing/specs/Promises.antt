@@ -5,8 +5,8 @@ use mathlib.Core.List.{List}
 use lib.ListN.{length, getD}
 use Rattle.refusal.specs.Answer.{finished, refused, Outcome}
 use Rattle.pool.specs.Points.{Points, heaviest}
-use Rattle.pool.specs.Tables.{Fields, pairIn}
-use Rattle.pool.specs.Faultless.{KnownVersion, SoundPoints, InRange, Unlike, FieldsHold, PointsHold, PairsFault, pointsOfTable}
+use Rattle.pool.specs.Tables.{Fields, pairIn, pointsOfTable}
+use Rattle.pool.specs.Faultless.{KnownVersion, SoundPoints, InRange, Unlike, FieldsHold, PointsHold, PairsFault}
 use Rattle.donation.specs.Compatibility.{compatibility}
 use Rattle.donation.specs.Weight.{mismatchPoints, agePoints, weight}
 use Rattle.donation.specs.Promises.{SameOf, CountsMismatches}

@@ -8,7 +8,7 @@ use Rattle.refusal.specs.declared.Refusal.{Refusal}
 use Rattle.refusal.specs.declared.Verdict.{Verdict}
 use Rattle.refusal.specs.declared.Verdict.the-variants.{Sound, Faulty}
 use Rattle.refusal.proofs.Faults.{sound-none, faulty-fault, none-then, fault-then}
-use Rattle.pool.specs.Tables.{Tables, entry, fieldRoom, room, pairIn}
+use Rattle.pool.specs.Tables.{Tables, itemIn, fieldRoom, room, pairIn}
 use Rattle.pool.specs.Faults.{pairsFault, shuffleFault, poolFault}
 use Rattle.pool.proofs.Rooms.{fieldRoom-hold}
 use Rattle.pool.proofs.Writing.{pairs-passed, tables-holding}
@@ -44,6 +44,6 @@ module _ (v n : ℕ) (t : Tables) (shortest : ℕ) (e : shortest ≡ room t) (pa
     judged-held =
         pairs-passed v n (room t) (t .points) (pairIn (t .fields)) (TablesHold v n t) (tables-holding v n t) (sound-none 0 pairs pairs-fault g) .0 .hold .shuffle
 
-    pub judged-shuffle : (drawn : Verdict) → faultAt 0 drawn ≡ shuffleFault 0 n (entry (t .shuffle)) → faultAt 0 drawn ≡ poolFault v n t
+    pub judged-shuffle : (drawn : Verdict) → faultAt 0 drawn ≡ shuffleFault 0 n (itemIn (t .shuffle)) → faultAt 0 drawn ≡ poolFault v n t
     unfolding poolFault
     judged-shuffle drawn h = h ∙ sym (none-then _ _ (sound-none 0 pairs pairs-fault g))

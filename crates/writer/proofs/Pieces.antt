@@ -12,7 +12,7 @@ use Rattle.laws.proofs.Below.{length-table}
 use Rattle.laws.proofs.Lent.{stored-then, stored-filled}
 use Rattle.pool.specs.Points.{hasPoints, pointCount}
 use Rattle.pool.specs.Sheet.{pointsTag, headSize, pointsPlace, firstPair, pairPlace, sheetLength, headField, numbersField, pointsField, opening, pairField, shuffleField, sheetOf}
-use Rattle.pool.specs.Tables.{Tables, entry, pairIn, poolIn}
+use Rattle.pool.specs.Tables.{Tables, itemIn, pairIn, poolIn}
 use Rattle.pool.proofs.Points.{has-second, second-count}
 use Rattle.pool.proofs.Lengths.{length-headField, length-opening, length-pairFields}
 
@@ -29,15 +29,15 @@ opening-second v n p old one new e l f g =
     stored-then 0 headSize _ _ old one new (length-headField v n) l f g ∙ rw (e, second-count v (has-second v e))
 
 pub sheet-pieces : (v n : ℕ) (t : Tables) (old one two new : List ℕ) → sheetLength v n ≤ length old
-    → one ≡ stored 0 (opening v n (table (pointCount v) (entry (t .points)))) old
+    → one ≡ stored 0 (opening v n (table (pointCount v) (itemIn (t .points)))) old
     → two ≡ stored (firstPair v) (flatMap pairField (table n (pairIn (t .fields)))) one
-    → new ≡ stored (pairPlace v n) (shuffleField (table n (entry (t .shuffle)))) two → new ≡ filled (sheetOf (poolIn v n t)) old
+    → new ≡ stored (pairPlace v n) (shuffleField (table n (itemIn (t .shuffle)))) two → new ≡ filled (sheetOf (poolIn v n t)) old
 unfolding sheetOf poolIn
 sheet-pieces v n t old one two new l e f g =
-    let points : List ℕ = table (pointCount v) (entry (t .points)) in
+    let points : List ℕ = table (pointCount v) (itemIn (t .points)) in
     let head : List ℕ = opening v n points in
     let pairs : List ℕ = flatMap pairField (table n (pairIn (t .fields))) in
-    let shuffle : List ℕ = shuffleField (table n (entry (t .shuffle))) in
+    let shuffle : List ℕ = shuffleField (table n (itemIn (t .shuffle))) in
     let size : length head ≡ firstPair v = length-opening v n points (length-table (pointCount v) _) in
     let long : length (head ++ pairs) ≡ pairPlace v n = simp (length-append, size, length-pairFields, length-table) in
     let both : two ≡ stored 0 (head ++ pairs) old =

@@ -12,7 +12,7 @@ ghost use Rattle.refusal.specs.Answer.{outcome};
 ghost use Rattle.refusal.specs.Number.{faultAt};
 ghost use Rattle.pool.specs.Points.{pointCount};
 ghost use Rattle.pool.specs.Sheet.{firstPair, pairPlace, sheetLength, opening, pairField, sheetOf};
-ghost use Rattle.pool.specs.Tables.{entry, pairIn, poolIn};
+ghost use Rattle.pool.specs.Tables.{itemIn, pairIn, poolIn};
 ghost use Rattle.pool.specs.Lent.{fieldsNow, lentFields, tablesNow, lentTables};
 ghost use Rattle.pool.specs.Faults.{poolFault};
 ghost use Rattle.pool.specs.Calls.{writing};
@@ -30,7 +30,7 @@ pub enum Writing {
 fn put_opening(out: &mut [u8], version: u16, n: usize, points: &[u16])
     requires { ⌜ (firstPair version ≤ length (now out)) × (pointCount version ≤ length (now points)) ⌝ }
     ensures { λ _.
-        let own = table (pointCount version) (entry (now (points .entry))) in
+        let own = table (pointCount version) (itemIn (now (points .entry))) in
         ⌜ now (out .exit) ≡ stored 0 (opening version n own) (now (out .entry)) ⌝ }
 {
     encoding::put_head(out, version as u64, n as u64);

@@ -9,7 +9,7 @@ use lib.Seq.{length-take-le}
 use Rattle.pool.specs.Tables.{Tables, fields, tables}
 use Rattle.graph.specs.Graph.{Graph, graph}
 use Rattle.printout.specs.Printed.{PrintedPlan, planText}
-use Rattle.answering.specs.Answering.{putting}
+use Rattle.answers.specs.Answering.{putting}
 use Rattle.answering.proofs.Pools.{never-unbuilt, plannable, plan-is}
 use Rattle.answering.proofs.print_pool.Statement.{statement}
 use Rattle.answering.proofs.print_pool.Tie as tie

@@ -1,5 +1,5 @@
 use borrow.Author.Needs.{needs}
-use Rattle.answering.proofs.Texts.{refusal-printed, refusal-surely}
+use Rattle.answers.proofs.Texts.{refusal-printed, refusal-surely}
 use Rattle.answering.proofs.print_refused.Statement.{statement}
 use Rattle.answering.proofs.print_refused.Tie as tie
 

@@ -14,8 +14,8 @@ returns c = before-version _ _ _ _ (sym (c .before .known .ensures) ∙ not-true
 returns-2 : tie.Need-returns-2
 returns-2 c = before-many _ _ _ _ (sym (c .before .before .known .ensures) ∙ not-false _ (c .before .if1 .left)) (c .if2 .taken)
 
-own-points-requires : tie.Need-own-points-requires
-own-points-requires c κs =
+judge-points-requires : tie.Need-judge-points-requires
+judge-points-requires c κs =
     let d = c .before .before in
     let s = d .before .before .before .before .before in
     tables-passed _ _ _ (s .args .points .now) (sound-none 0 (d .tables .result) (d .tables .ensures _ refl) (c .enum-told .given .1)) .1
@@ -33,9 +33,9 @@ returns-4 c =
     let d = told .before .before in
     let few = d .before in
     before-points _ _ _ _ (sym (few .before .before .known .ensures) ∙ not-false _ (few .before .if1 .left)) (few .if2 .left) (d .tables .result)
-    (d .tables .ensures _ refl) (told .enum-told .given .1) (c .own-points .result) (c .own-points .ensures 0)
+    (d .tables .ensures _ refl) (told .enum-told .given .1) (c .judge-points .result) (c .judge-points .ensures 0)
 
 pub ready-spec : {M : Type 1} → statement M
 ready-spec =
     tie.close
-    (tie.spec (λ c κs. search needs) returns returns-2 (λ c κs. search needs) (λ c. search needs) (λ c. search needs) own-points-requires returns-3 returns-4)
+    (tie.spec (λ c κs. search needs) returns returns-2 (λ c κs. search needs) (λ c. search needs) (λ c. search needs) judge-points-requires returns-3 returns-4)

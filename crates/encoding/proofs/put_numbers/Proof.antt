@@ -4,13 +4,13 @@ use native.Mathlib.Omega.{arith}
 use borrow.Author.Needs.{needs}
 use Rattle.laws.specs.Digits.{bytes}
 use Rattle.laws.proofs.Digits.{length-bytes}
-use Rattle.pool.specs.Tables.{entry}
+use Rattle.pool.specs.Tables.{itemIn}
 use Rattle.laws.proofs.Lent.{Pieces, pieces-none, pieces-more, pieces-all}
 use Rattle.encoding.proofs.put_numbers.Statement.{statement}
 use Rattle.encoding.proofs.put_numbers.Tie as tie
 
 abbrev Inv-loop : tie.InvT-loop
-Inv-loop out₀ at n t j₀ out j = (j ≤ n) × Pieces at j (bytes 2) (entry t) out₀ out
+Inv-loop out₀ at n t j₀ out j = (j ≤ n) × Pieces at j (bytes 2) (itemIn t) out₀ out
 
 abbrev μ-loop : tie.MeasureT-loop
 μ-loop out₀ at n t j₀ out j = n - j
@@ -28,7 +28,7 @@ loop-again c =
     let l = turn .before .loop in
     let s = turn .before .before .before .before in (
       omega (arith, turn .loop-test .taken),
-      pieces-more (s .args .at) (bytes 2) (entry (s .args .t .now)) (s .args .out .now) 2 (l .j) (l .out) _ (length-bytes 2)
+      pieces-more (s .args .at) (bytes 2) (itemIn (s .args .t .now)) (s .args .out .now) 2 (l .j) (l .out) _ (length-bytes 2)
           (omega arith) (l .inv .1) (after .put .ensures) (after .put .kept .0),
     )
 
@@ -39,7 +39,7 @@ returns : tie.Need-returns Inv-loop μ-loop
 returns c =
     let l = c .before .loop in
     let s = c .before .before .before .before in
-    pieces-all (s .args .at) (bytes 2) (entry (s .args .t .now)) (s .args .out .now) (l .j) (s .args .n) (l .out) (l .inv .1)
+    pieces-all (s .args .at) (bytes 2) (itemIn (s .args .t .now)) (s .args .out .now) (l .j) (s .args .n) (l .out) (l .inv .1)
     (omega arith)
 
 pub put-numbers-spec : {M : Type 1} → statement M

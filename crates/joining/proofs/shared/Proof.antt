@@ -11,8 +11,7 @@ use Rattle.laws.specs.Digits.{bigEndian}
 use Rattle.laws.proofs.Below.{any-hit, any-more, any-cong}
 use Rattle.laws.proofs.Digits.{bigEndian-lt}
 use Rattle.laws.proofs.Lent.{filled-at}
-use Rattle.pool.specs.Sheet.{pointsSize, pairPlace, idAt, pairsIn, pairAt}
-use Rattle.pool.specs.Faultless.{pairDue}
+use Rattle.pool.specs.Sheet.{pointsSize, pairPlace, idAt, pairsIn, pairAt, pairDue}
 use Rattle.pool.specs.Joining.{idInBoth}
 use Rattle.joining.proofs.shared.Statement.{statement}
 use Rattle.joining.proofs.shared.Tie as tie

@@ -18,7 +18,7 @@ unfolding faultAt pointsFault refuse either
 returns c o = rw (eq-eqb _ _ (c .if1 .taken))
 
 -- the largest and the larger, as the code finds them
-summed : (q : Points) (x y z : ℕ) → x ≡ max (q .few) (q .some) → y ≡ max (q .none) x → z ≡ max (q .equal) (q .rising)
+summed : (q : Points) (x y z : ℕ) → x ≡ max (q .few) (q .some) → y ≡ max (q .none) x → z ≡ max (q .equal) (q .«young_to_senior»)
     → heaviest (named q) ≡ q .base + y + z
 unfolding heaviest
 summed q x y z e f g = rw (f, e, g)

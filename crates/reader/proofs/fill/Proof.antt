@@ -2,9 +2,9 @@
 use mathlib.Core.Path.{_≡_, refl, ap, _∙_}
 use native.Mathlib.Omega.{arith}
 use borrow.Author.Needs.{needs}
-use Rattle.pool.specs.Sheet.{pairPlace, poolOf, pairAt, idAt, donorBloodAt, patientBloodAt, donorAgeAt, patientAgeAt, donorAntigensAt, patientAntigensAt, patientAntibodiesAt}
+use Rattle.pool.specs.Sheet.{pairPlace, poolOf, pairAt, idAt, donorBloodAt, patientBloodAt, donorAgeAt, patientAgeAt, donorAntigensAt, patientAntigensAt, patientAntibodiesAt, pairDue}
 use Rattle.pool.specs.Tables.{fields, tables, filledFields, filledTables}
-use Rattle.pool.specs.Faultless.{pairDue, TablesHold}
+use Rattle.pool.specs.Faultless.{TablesHold}
 use Rattle.pool.proofs.Points.{size-most, count-size}
 use Rattle.pool.proofs.Rooms.{room-hold}
 use Rattle.reader.proofs.Columns.{column, own-points, numbers}

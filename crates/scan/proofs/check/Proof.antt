@@ -5,9 +5,8 @@ use native.Mathlib.Omega.{arith}
 use borrow.Author.Needs.{needs}
 use Rattle.refusal.specs.Fault.{none, fault, firstBelow}
 use Rattle.refusal.proofs.Faults.{sound-none, faulty-fault}
-use Rattle.pool.specs.Sheet.{pairPlace, sheetLength, versionIn, pairsIn}
+use Rattle.pool.specs.Sheet.{pairPlace, sheetLength, versionIn, pairsIn, pairDue}
 use Rattle.pool.specs.Faults.{headFault, pointsFieldFault, pairFieldFault, shuffleFieldFault}
-use Rattle.pool.specs.Faultless.{pairDue}
 use Rattle.pool.proofs.Reading.{head-passed}
 use Rattle.scan.specs.Answers.{foundFault}
 use Rattle.scan.proofs.Sheet.{nothing-none, found-fault, at-head, at-points, at-pairs, at-shuffle, left-over, nothing-over}

@@ -1,8 +1,7 @@
 -- `scan::pair_value` meets its contract. Assumes nothing.
 use mathlib.Core.Path.{_≡_, ap, _∙_}
 use borrow.Author.Needs.{needs}
-use Rattle.pool.specs.Sheet.{pairPlace, pairAt}
-use Rattle.pool.specs.Faultless.{pairDue}
+use Rattle.pool.specs.Sheet.{pairPlace, pairAt, pairDue}
 use Rattle.scan.proofs.Notes.{agree-at}
 use Rattle.scan.proofs.pair_value.Statement.{statement}
 use Rattle.scan.proofs.pair_value.Tie as tie

@@ -8,9 +8,9 @@ use Rattle.laws.proofs.Digits.{bigEndian-lt}
 use Rattle.refusal.specs.Fault.{none, firstBelow}
 use Rattle.refusal.specs.Number.{faultAt}
 use Rattle.refusal.proofs.Faults.{sound-none, faulty-fault, sound-then, faulty-then, first-hit, first-more}
-use Rattle.pool.specs.Sheet.{pairTag, pairLength, pairPlace, idAt, pairAt}
+use Rattle.pool.specs.Sheet.{pairTag, pairLength, pairPlace, idAt, pairAt, pairDue}
 use Rattle.pool.specs.Faults.{fieldFault, pairFieldFault}
-use Rattle.pool.specs.Faultless.{pairDue, PairField}
+use Rattle.pool.specs.Faultless.{PairField}
 use Rattle.pool.proofs.Fields.{field-passed}
 use Rattle.scan.specs.Answers.{foundFault}
 use Rattle.scan.specs.Preconditions.{Noted}

@@ -10,9 +10,9 @@ use Rattle.laws.proofs.Lent.{filled-at}
 use Rattle.refusal.specs.Fault.{only}
 use Rattle.refusal.specs.Number.{faultAt}
 use Rattle.refusal.proofs.Faults.{sound-none, sound-then, faulty-then}
-use Rattle.pool.specs.Points.{ownPoints, hasPoints, pointsBy}
+use Rattle.pool.specs.Points.{registryPoints, hasPoints, pointsBy}
 use Rattle.pool.specs.Sheet.{pointsPlace, versionIn, pointAt}
-use Rattle.pool.specs.Tables.{entry}
+use Rattle.pool.specs.Tables.{itemIn}
 use Rattle.pool.specs.Faults.{pointsFault, pointsFieldFault}
 use Rattle.pool.proofs.Fields.{field-passed}
 use Rattle.pool.proofs.Points.{points-by-cong}
@@ -24,8 +24,8 @@ tested : (c : tie.After-has-points) → hasPoints (versionIn (c .before .before 
 tested c = ap hasPoints (sym (c .before .before .pre)) ∙ sym (c .has-points .ensures)
 
 -- the table that is filled has the sheet's points
-points-read : (b old new : List ℕ) → new ≡ filled (table ownPoints (pointAt b)) old → pointsBy (entry new) ≡ pointsBy (pointAt b)
-points-read b old new e = points-by-cong (entry new) (pointAt b) (filled-at ownPoints (pointAt b) old new e)
+points-read : (b old new : List ℕ) → new ≡ filled (table registryPoints (pointAt b)) old → pointsBy (itemIn new) ≡ pointsBy (pointAt b)
+points-read b old new e = points-by-cong (itemIn new) (pointAt b) (filled-at registryPoints (pointAt b) old new e)
 
 returns : tie.Need-returns
 unfolding faultAt pointsFieldFault only

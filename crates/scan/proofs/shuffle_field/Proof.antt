@@ -4,9 +4,8 @@ use borrow.Author.Needs.{needs}
 use Rattle.laws.proofs.Lent.{filled-at}
 use Rattle.refusal.specs.Number.{faultAt}
 use Rattle.refusal.proofs.Faults.{sound-none, sound-then, faulty-then}
-use Rattle.pool.specs.Sheet.{shuffleTag, shuffleLength, pairPlace}
+use Rattle.pool.specs.Sheet.{shuffleTag, shuffleLength, pairPlace, pairDue}
 use Rattle.pool.specs.Faults.{fieldFault, shuffleFieldFault}
-use Rattle.pool.specs.Faultless.{pairDue}
 use Rattle.pool.proofs.Fields.{field-passed}
 use Rattle.pool.proofs.Pairs.{shuffle-cong}
 use Rattle.scan.proofs.shuffle_field.Statement.{statement}

@@ -1,9 +1,6 @@
 -- `vadivuzhen::vadivuzhen_read` meets its contract: it answers what `read` answered, in numbers. Assumes nothing.
-use Rattle.pool.specs.Promises.{ReadsRightly}
-use Rattle.numbers.specs.Numbers.{readNumbers}
-use Rattle.numbers.specs.Promises.{Numbered}
 use Rattle.numbers.proofs.Own.{read-numbered}
-use Rattle.vadivuzhen.proofs.Exported.{kept}
+use Rattle.vadivuzhen.proofs.Exported.{kept-read}
 use borrow.Author.Needs.{needs}
 use Rattle.vadivuzhen.proofs.vadivuzhen_read.Statement.{statement}
 use Rattle.vadivuzhen.proofs.vadivuzhen_read.Tie as tie
@@ -12,7 +9,7 @@ returns : tie.Need-returns
 returns c =
     let after-read = c .before .before .before .before .before .before .before .before .before .before .before .before .before .before .before .before .before .before .before .before .before in
     let w = after-read .read in
-    kept readNumbers Numbered (ReadsRightly _ _) (c .read-numbers .ensures) (read-numbered (w .result)) (w .ensures .0) (w .ensures .1)
+    kept-read (c .read-numbers .ensures) (read-numbered (w .result)) (w .ensures .0) (w .ensures .1)
 
 pub vadivuzhen-read-spec : {M : Type 1} → statement M
 vadivuzhen-read-spec =

@@ -2,7 +2,7 @@
 use mathlib.Core.Path.{_≡_, sym, _∙_}
 use native.Mathlib.Omega.{arith}
 use borrow.Author.Needs.{needs}
-use Rattle.pool.specs.Tables.{entry}
+use Rattle.pool.specs.Tables.{itemIn}
 use Rattle.pool.proofs.Points.{has-second, second-count, second-size}
 use Rattle.writer.proofs.Pieces.{opening-first, opening-second}
 use Rattle.writer.proofs.put_opening.Statement.{statement}
@@ -25,7 +25,7 @@ returns c =
     let t = f .before .before in
     let h = t .before .before .before .before in
     let s = h .before .before .before .before in
-    opening-second (s .args .version) (s .args .n) (entry (s .args .points .now)) (s .args .out .now) _ _
+    opening-second (s .args .version) (s .args .n) (itemIn (s .args .points .now)) (s .args .out .now) _ _
     (sym (t .before .has-points .ensures) ∙ t .if1 .taken)
     (omega (arith, s .pre .0)) (h .put-head .ensures) (f .put-field .ensures)
 

@@ -19,8 +19,8 @@ use Rattle.exchange.specs.Algorithm1 as Algorithm1
 use Rattle.text.specs.Text.{digitsWithin, decimal, line}
 use Rattle.partners.specs.Pairs.{partner, pairLine, pairLines}
 use Rattle.printout.specs.Printed.{planText}
-use Rattle.answering.specs.Answering.{planBy, printedPlanOf, orRefusal, answerText}
-use Rattle.answering.specs.Examples.{ExampleAnswered, RegistryAnswered, TripleAnswered}
+use Rattle.answers.specs.Answering.{planBy, printedPlanOf, orRefusal, answerText}
+use Rattle.answers.specs.Examples.{ExampleAnswered, RegistryAnswered, TripleAnswered}
 
 pub example-answered : ExampleAnswered
 unfolding answerText orRefusal printedPlanOf planBy planText pairLines pairLine partner line decimal digitsWithin flatMap flatten table either anyBelow

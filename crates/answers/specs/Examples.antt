@@ -5,7 +5,7 @@ use mathlib.Core.List.{List, [], _∷_, flatten}
 use Prim.Native.Nat.{ℕ}
 use Rattle.pool.specs.Examples.{exampleSheet, examplePair}
 use Rattle.text.specs.Text.{bytesOf}
-use Rattle.answering.specs.Answering.{answerText}
+use Rattle.answers.specs.Answering.{answerText}
 
 -- ## Document 01's example
 

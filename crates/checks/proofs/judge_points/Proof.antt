@@ -1,4 +1,4 @@
--- `checks::own_points` meets its contract: document 01's points, which version 1 is weighed by, pass. Assumes nothing.
+-- `checks::judge_points` meets its contract: document 01's points, which version 1 is weighed by, pass. Assumes nothing.
 use mathlib.Core.Path.{_≡_, sym, ap, _∙_}
 use native.Mathlib.Omega.{arith}
 use borrow.Author.Needs.{needs}
@@ -6,8 +6,8 @@ use Rattle.refusal.specs.Number.{faultAt}
 use Rattle.pool.specs.Points.{documentPoints, pointsOf}
 use Rattle.pool.specs.Faults.{pointsFault}
 use Rattle.pool.proofs.Points.{has-second, second-count, second-points, document-sound, points-none}
-use Rattle.checks.proofs.own_points.Statement.{statement}
-use Rattle.checks.proofs.own_points.Tie as tie
+use Rattle.checks.proofs.judge_points.Statement.{statement}
+use Rattle.checks.proofs.judge_points.Tie as tie
 
 -- the version, where the test holds
 second : (c : tie.Then1) → c .before .before .before .args .version ≡ 2
@@ -25,5 +25,5 @@ returns-2 : tie.Need-returns-2
 unfolding faultAt pointsOf
 returns-2 c o = rw (sym (c .before .has-points .ensures) ∙ c .if1 .left) (sym (points-none documentPoints o document-sound))
 
-pub own-points-spec : {M : Type 1} → statement M
-own-points-spec = tie.close (tie.spec (λ c κs. search needs) own-requires (λ c κs. search needs) returns returns-2)
+pub judge-points-spec : {M : Type 1} → statement M
+judge-points-spec = tie.close (tie.spec (λ c κs. search needs) own-requires (λ c κs. search needs) returns returns-2)

@@ -17,8 +17,8 @@ use Rattle.printout.specs.Promises.{planRoom, PrintsPlan, PrintsRefusal}
 use Rattle.printout.proofs.Answered.{never-refused}
 use Rattle.printout.specs.declared.Printing.{Printing}
 use Rattle.printout.specs.declared.Printing.the-variants.{Length, Refused}
-use Rattle.buffers.specs.Most.{most}
-use Rattle.answering.specs.Answering.{putting}
+use Rattle.answers.specs.Most.{most}
+use Rattle.answers.specs.Answering.{putting}
 
 -- an answer of printing that is surely the text's length
 module _ (f : Fault) (text out new : List ℕ) (r : Printing) (e : outcome (answerOf r) new ≡ unless f (length text) (filled text out) out)

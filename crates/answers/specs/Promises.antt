@@ -19,8 +19,8 @@ use Rattle.exchange.specs.Faultless.{LongEnough}
 use Rattle.exchange.specs.Rivals.{ExchangeSetOf, weightIn}
 use Rattle.exchange.specs.Promises.{TallyOf}
 use Rattle.printout.specs.Printed.{PrintedPlan, planText, refusalText}
-use Rattle.buffers.specs.Most.{most}
-use Rattle.answering.specs.Answering.{poolInput, pointsOn, putting, answering}
+use Rattle.answers.specs.Most.{most}
+use Rattle.answers.specs.Answering.{poolInput, pointsOn, putting, answering}
 
 -- tables that were built, by whatever points, are planned, with any shuffle, any floor up to the greatest and any tables that are long enough: they have no fault 10
 abbrev pub BuiltIsPlanned : Type 0

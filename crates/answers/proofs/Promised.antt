@@ -30,10 +30,10 @@ use Rattle.exchange.proofs.Shuffled.{same-cycles}
 use Rattle.exchange.proofs.Partners.{algorithm-partners}
 use Rattle.exchange.proofs.Checked.{answers-rightly}
 use Rattle.printout.specs.Printed.{PrintedPlan, planText, refusalText}
-use Rattle.buffers.specs.Most.{most}
-use Rattle.answering.specs.Answering.{planBy, poolInput, printedPlanOf, pointsOn, orRefusal, answerText, putting, answering}
-use Rattle.answering.specs.Promises.{BuiltIsPlanned, PlanGuarantee, SheetPlanned, AnswerFault, sheet, tooMany, AnsweringIsRight}
-use Rattle.answering.proofs.Pools.{shuffle-seated}
+use Rattle.answers.specs.Most.{most}
+use Rattle.answers.specs.Answering.{planBy, poolInput, printedPlanOf, pointsOn, orRefusal, answerText, putting, answering}
+use Rattle.answers.specs.Promises.{BuiltIsPlanned, PlanGuarantee, SheetPlanned, AnswerFault, sheet, tooMany, AnsweringIsRight}
+use Rattle.answers.proofs.Seated.{shuffle-seated}
 
 pub built-is-planned : BuiltIsPlanned
 unfolding entry

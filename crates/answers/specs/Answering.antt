@@ -15,7 +15,7 @@ use Rattle.donation.specs.Weight.{weight}
 use Rattle.exchange.specs.Input.{Input, noFloor, input}
 use Rattle.exchange.specs.Resolution.{donorTable, recipientTable}
 use Rattle.exchange.specs.Planning.{plannedBy, planFrom}
-use Rattle.buffers.specs.Most.{most}
+use Rattle.answers.specs.Most.{most}
 use Rattle.printout.specs.Printed.{PrintedPlan, printedPlan, planText, refusalText}
 
 -- the plan made from q, with the pairs' ids, as it is printed
