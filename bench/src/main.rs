@@ -248,9 +248,16 @@ fn timed(n: usize) -> Timed {
                 },
             )
         };
-        let read_1 = timed.read.add(often, || read(&sheet));
-        let read_2 = timed.read_2.add(often, || read(&sheet_2));
-        assert_eq!((read_1.version, read_2.version), (1, 2));
+        // What comes second finds the tables in the caches, so the versions take
+        // turns.
+        let order = [runs % 2, 1 - runs % 2];
+        for turn in order {
+            let read = match turn {
+                0 => timed.read.add(often, || read(&sheet)),
+                _ => timed.read_2.add(often, || read(&sheet_2)),
+            };
+            assert_eq!((read.refusal, usize::from(read.version)), (0, 1 + turn));
+        }
         let fields = raw::Fields {
             ids: &ids,
             donor_blood: &donor_blood,
@@ -261,14 +268,17 @@ fn timed(n: usize) -> Timed {
             patient_antigens: &patient_antigens,
             patient_antibodies: &patient_antibodies,
         };
-        let build_1 = timed
-            .build
-            .add(often, || raw::build(1, n, &points, fields, &mut m, &mut w));
-        let build_2 = timed.build_2.add(often, || {
-            raw::build(2, n, &points, fields, &mut m_2, &mut w_2)
-        });
-        assert_eq!((read_1.refusal, build_1.refusal), (0, 0));
-        assert_eq!((read_2.refusal, build_2.refusal), (0, 0));
+        for turn in order {
+            let build = match turn {
+                0 => timed
+                    .build
+                    .add(often, || raw::build(1, n, &points, fields, &mut m, &mut w)),
+                _ => timed.build_2.add(often, || {
+                    raw::build(2, n, &points, fields, &mut m_2, &mut w_2)
+                }),
+            };
+            assert_eq!(build.refusal, 0);
+        }
         // The points are document 01's, so the tables are the same.
         assert_eq!((&m_2, &w_2), (&m, &w));
 
