@@ -1,7 +1,8 @@
 /* Vadivuzhen: plans kidney exchanges among patient-donor pairs.
  *
  * From a pool sheet to a printed plan: vadivuzhen_read, vadivuzhen_build, vadivuzhen_plan, vadivuzhen_print_plan; examples/plan.c goes that way.
- * vadivuzhen_write makes a sheet from a pool, vadivuzhen_join one sheet of two, vadivuzhen_print_refusal prints what was refused.
+ * vadivuzhen_write makes a sheet from a pool, vadivuzhen_join one sheet of two, vadivuzhen_print_refusal prints what was refused. vadivuzhen_start,
+ * vadivuzhen_register and vadivuzhen_withdraw keep a live pool from match to match, with its tables always ready for vadivuzhen_plan.
  *
  * Every function is proved, for all bytes, tables and lengths, to answer a result or one of the refusals below, to do nothing undefined and to return.
  * No call has to be prepared by a check: each checks its own input. What is proved of each call stands with it. The proofs are of the source; the
@@ -10,7 +11,8 @@
  * What the caller owes:
  *   - A table or buffer is a pointer and then its length in elements. The pointer is aligned and has that many elements behind it, all of them
  *     initialized, those to be filled too. It is not null, also where the length is 0.
- *   - A table or buffer that a call may fill overlaps, over its whole length, no other that is lent to that call.
+ *   - The count of a live pool is lent as a pointer alone. It is aligned, not null, and the number behind it is initialized.
+ *   - A table or buffer that a call may fill overlaps, over its whole length, no other that is lent to that call, nor the count.
  *
  * Memory: a refusal leaves all lent memory as it was. A call that finishes fills the stated number of elements from each table's start and changes
  * nothing past them. So tables may be longer than they need to be. The library allocates nothing and keeps nothing from call to call; calls on
@@ -61,12 +63,13 @@ enum vadivuzhen_refusal {
     VADIVUZHEN_SHARED_ID = 11,      /* an id is in both of the sheets to be joined */
     /* whoever drew the shuffle */
     VADIVUZHEN_NOT_A_SHUFFLE = 8,   /* the shuffle does not have each of 0 to N - 1 exactly once */
-    /* whoever joins two sheets */
-    VADIVUZHEN_TOO_MANY_TOGETHER = 12, /* they have more than 200 pairs together */
+    /* whoever joins two sheets, or registers a pair */
+    VADIVUZHEN_TOO_MANY_TOGETHER = 12, /* the sheets have more than 200 pairs together, or the live pool has 200 already */
     /* the calling program */
     VADIVUZHEN_TOO_SHORT = 9,       /* a lent buffer or table is too short */
     VADIVUZHEN_NOT_COMPATIBILITY = 10, /* a compatibility entry is above 1, or a pair's own is not 0 */
-    VADIVUZHEN_FLOOR_TOO_HIGH = 13     /* the floor is above 200,000 */
+    VADIVUZHEN_FLOOR_TOO_HIGH = 13,    /* the floor is above 200,000 */
+    VADIVUZHEN_UNKNOWN_ID = 16         /* the id is not in the live pool */
 };
 
 /* ---- Lengths that suffice, in elements, for n pairs; n is 0 to 200, and may be a constant expression. It is evaluated more than once ---- */
@@ -77,7 +80,7 @@ enum vadivuzhen_refusal {
 #define VADIVUZHEN_SHEET(n) (10 + 37 * (size_t)(n))
 /* the sheet of version 2: 7,425 bytes at most, which suffice for either version */
 #define VADIVUZHEN_SHEET_2(n) (25 + 37 * (size_t)(n))
-/* the points of a pool of version 2, however many pairs it has */
+/* the points of a pool of version 2, or of a live pool, however many pairs it has */
 #define VADIVUZHEN_POINTS 6
 /* each of the tables M and W */
 #define VADIVUZHEN_ENTRIES(n) ((size_t)(n) * (size_t)(n))
@@ -209,6 +212,107 @@ VADIVUZHEN_ANSWERS struct vadivuzhen_build_answer vadivuzhen_build(
     const uint64_t *patient_antibodies, size_t patient_antibodies_length,
     uint8_t *m, size_t m_length,
     uint16_t *w, size_t w_length);
+
+/* ---- A pool that lives between matches ---- */
+
+/* A live pool is the caller's, from call to call: a count, which is one number; a table of VADIVUZHEN_POINTS points; the eight tables of the pairs' fields;
+ * and M and W. With the count at N, the pairs stand in the first N entries of each table of the fields, in order of registration, and M and W are N rows
+ * of N, with the entry for donor i and patient j at i * N + j: what vadivuzhen_build gives for these pairs and points in version 2, and what
+ * vadivuzhen_plan takes. As the length of a row changes with the count, each call that finishes moves the rows. There is no shuffle: it is drawn
+ * for a match, and vadivuzhen_write makes a sheet of version 2 of the pool with it.
+ *
+ * Tables of VADIVUZHEN_MOST_PAIRS entries, and M and W of VADIVUZHEN_ENTRIES(VADIVUZHEN_MOST_PAIRS), always suffice. They may be shorter, with room for
+ * fewer pairs, and may be moved between calls to longer ones. What they hold past the count's entries does not matter, and stays as it is: after a
+ * withdrawal the last pair's fields, and the last entries of the former M and W, are still there, past the new count.
+ *
+ * Proved, for every list of registrations and withdrawals after a finished start, refused ones among them, where nothing else changes the tables or the
+ * count: the pool holds the pairs registered and not withdrawn since, in order of registration; its points are those that it was started with; and
+ * vadivuzhen_build, called in version 2 with these tables, finishes and changes nothing, as M and W are already what it gives. Written as a sheet of
+ * version 2, with any shuffle, and read again, the pool has the same pairs and points, and vadivuzhen_build gives the same M and W. A registration finishes
+ * if and only if the pair is in range, no pair of the pool has its id, there are fewer than 200 and one more fits; a withdrawal, if and only if the id is in
+ * the pool. So an id that was withdrawn may register again. */
+
+/* The six points, in the order of the sheet. */
+struct vadivuzhen_points {
+    uint16_t base;            /* not 0 */
+    uint16_t none;            /* the steps for no mismatch, */
+    uint16_t few;             /* for 1 or 2 */
+    uint16_t some;            /* and for 3 or 4 */
+    uint16_t equal;           /* the steps for equal age groups, */
+    uint16_t young_to_senior; /* and for a young donor and a senior patient */
+};
+
+/* One pair; the fields are those of the sheet. */
+struct vadivuzhen_pair {
+    uint32_t id;
+    uint8_t donor_blood; /* 0 O, 1 A, 2 B, 3 AB */
+    uint8_t patient_blood;
+    uint8_t donor_age; /* 0 young, 1 senior */
+    uint8_t patient_age;
+    uint64_t donor_antigens;
+    uint64_t patient_antigens;
+    uint64_t patient_antibodies;
+};
+
+struct vadivuzhen_live_answer {
+    uint32_t refusal; /* has no place */
+};
+
+/* Starts a live pool with the points given, and no pair. Nothing but the points table and the count is lent: what the other tables hold does not matter.
+ * Fills VADIVUZHEN_POINTS points, in the order of the struct, and sets the count to 0, whatever it was.
+ * Refuses 14, where the base given is 0, or base, largest mismatch step and larger age step together exceed 65,535; 9, where the points table has fewer than
+ * VADIVUZHEN_POINTS entries.
+ * Proved: a pool starts if and only if there is neither of these faults. */
+VADIVUZHEN_ANSWERS struct vadivuzhen_live_answer vadivuzhen_start(
+    struct vadivuzhen_points given,
+    uint16_t *points, size_t points_length,
+    size_t *count);
+
+/* Registers the pair at the end of the live pool, and builds both tables anew, from all pairs and the stored points, whatever M and W held.
+ * With the count at N: puts the pair at entry N of each table of the fields, fills VADIVUZHEN_ENTRIES(N + 1) entries of M and of W, and sets the count to
+ * N + 1. The earlier pairs are not changed.
+ * Refuses 4, where the count is above 200; 9, where a table of the fields has fewer than N entries, M or W fewer than VADIVUZHEN_ENTRIES(N), or the points
+ * fewer than VADIVUZHEN_POINTS; 14, of the stored points; 6, of any pair, stored or new; 7, where a stored pair has the id of an earlier one, or the new pair
+ * that of a stored one; 12, where N is 200, whatever the lengths; 9, where one more does not fit: a table of the fields has fewer than N + 1 entries, or M or
+ * W fewer than VADIVUZHEN_ENTRIES(N + 1). Each number is looked for in the whole pool before the next is: where a stored id is there twice and the new
+ * pair is out of range, that is 6.
+ * Proved: a pair is registered if and only if there is none of these faults. */
+VADIVUZHEN_ANSWERS struct vadivuzhen_live_answer vadivuzhen_register(
+    size_t *count,
+    const uint16_t *points, size_t points_length,
+    uint32_t *ids, size_t ids_length,
+    uint8_t *donor_blood, size_t donor_blood_length,
+    uint8_t *patient_blood, size_t patient_blood_length,
+    uint8_t *donor_age, size_t donor_age_length,
+    uint8_t *patient_age, size_t patient_age_length,
+    uint64_t *donor_antigens, size_t donor_antigens_length,
+    uint64_t *patient_antigens, size_t patient_antigens_length,
+    uint64_t *patient_antibodies, size_t patient_antibodies_length,
+    uint8_t *m, size_t m_length,
+    uint16_t *w, size_t w_length,
+    struct vadivuzhen_pair pair);
+
+/* Withdraws the first pair of the live pool that has the id; the later ones move down by one. Of M and W, whatever they hold, that pair's row and column are
+ * taken out; nothing is weighed anew.
+ * With the count at N: fills N - 1 entries of each table of the fields, VADIVUZHEN_ENTRIES(N - 1) entries of M and of W, and sets the count to N - 1. The
+ * entries after these are as they were, and are not cleared.
+ * Refuses 4, where the count is above 200; 9, where a table of the fields has fewer than N entries, M or W fewer than VADIVUZHEN_ENTRIES(N), or the points
+ * fewer than VADIVUZHEN_POINTS; 14, of the stored points; 16, where no stored pair has the id. Of the stored pairs nothing but the ids is looked at.
+ * Proved: a pair is withdrawn if and only if there is none of these faults. */
+VADIVUZHEN_ANSWERS struct vadivuzhen_live_answer vadivuzhen_withdraw(
+    size_t *count,
+    const uint16_t *points, size_t points_length,
+    uint32_t *ids, size_t ids_length,
+    uint8_t *donor_blood, size_t donor_blood_length,
+    uint8_t *patient_blood, size_t patient_blood_length,
+    uint8_t *donor_age, size_t donor_age_length,
+    uint8_t *patient_age, size_t patient_age_length,
+    uint64_t *donor_antigens, size_t donor_antigens_length,
+    uint64_t *patient_antigens, size_t patient_antigens_length,
+    uint64_t *patient_antibodies, size_t patient_antibodies_length,
+    uint8_t *m, size_t m_length,
+    uint16_t *w, size_t w_length,
+    uint32_t id);
 
 /* ---- Planning ---- */
 

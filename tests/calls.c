@@ -427,6 +427,378 @@ static void floors(void)
     check(plan_refused(201, 200001, 0, VADIVUZHEN_TOO_MANY_PAIRS), "and after too many pairs");
 }
 
+/* ---- A live pool ---- */
+
+/* Room for one pair more than a live pool may have. */
+#define ROOM (VADIVUZHEN_MOST_PAIRS + 1)
+
+/* A live pool: its count and its tables, with an entry on either side of each; the middle is lent. */
+struct live {
+    size_t count[3];
+    uint16_t points[1 + VADIVUZHEN_POINTS + 1];
+    uint32_t ids[1 + ROOM + 1];
+    uint8_t donor_blood[1 + ROOM + 1], patient_blood[1 + ROOM + 1], donor_age[1 + ROOM + 1], patient_age[1 + ROOM + 1];
+    uint64_t donor_antigens[1 + ROOM + 1], patient_antigens[1 + ROOM + 1], patient_antibodies[1 + ROOM + 1];
+    uint8_t m[1 + ROOM * ROOM + 1];
+    uint16_t w[1 + ROOM * ROOM + 1];
+};
+
+/* The lengths that are lent: of the eight tables of the fields, in the order of the calls, of M, W and the points. */
+enum { FIELDS = 8, LENGTH_M = FIELDS, LENGTH_W, LENGTH_POINTS, LENGTHS };
+struct lengths {
+    size_t of[LENGTHS];
+};
+
+/* The lengths that just hold n pairs. */
+static struct lengths lengths_for(size_t n)
+{
+    struct lengths lengths;
+    for (size_t i = 0; i < FIELDS; i++)
+        lengths.of[i] = n;
+    lengths.of[LENGTH_M] = lengths.of[LENGTH_W] = VADIVUZHEN_ENTRIES(n);
+    lengths.of[LENGTH_POINTS] = VADIVUZHEN_POINTS;
+    return lengths;
+}
+
+/* What the calls are made on, and what it is held to. */
+static struct live live, due;
+
+/* Puts a pair at an entry of the fields. */
+static void put(struct live *pool, size_t at, struct vadivuzhen_pair pair)
+{
+    pool->ids[1 + at] = pair.id;
+    pool->donor_blood[1 + at] = pair.donor_blood;
+    pool->patient_blood[1 + at] = pair.patient_blood;
+    pool->donor_age[1 + at] = pair.donor_age;
+    pool->patient_age[1 + at] = pair.patient_age;
+    pool->donor_antigens[1 + at] = pair.donor_antigens;
+    pool->patient_antigens[1 + at] = pair.patient_antigens;
+    pool->patient_antibodies[1 + at] = pair.patient_antibodies;
+}
+
+/* Puts 99 into all entries, those beside the lent ones too. */
+static void blank(struct live *pool)
+{
+    for (size_t i = 0; i < 3; i++)
+        pool->count[i] = 99;
+    for (size_t i = 0; i < VADIVUZHEN_POINTS + 2; i++)
+        pool->points[i] = 99;
+    for (size_t i = 0; i < ROOM + 2; i++) {
+        pool->ids[i] = 99;
+        pool->donor_blood[i] = pool->patient_blood[i] = pool->donor_age[i] = pool->patient_age[i] = 99;
+        pool->donor_antigens[i] = pool->patient_antigens[i] = pool->patient_antibodies[i] = 99;
+    }
+    for (size_t i = 0; i < ROOM * ROOM + 2; i++)
+        pool->m[i] = 99, pool->w[i] = 99;
+}
+
+/* Is the live pool as due, in every entry? */
+static int as_due(void)
+{
+#define SAME(table) (memcmp(live.table, due.table, sizeof live.table) == 0)
+    return SAME(count) && SAME(points) && SAME(ids) && SAME(donor_blood) && SAME(patient_blood) && SAME(donor_age) && SAME(patient_age)
+        && SAME(donor_antigens) && SAME(patient_antigens) && SAME(patient_antibodies) && SAME(m) && SAME(w);
+#undef SAME
+}
+
+static struct vadivuzhen_points six(const uint16_t *with)
+{
+    return (struct vadivuzhen_points){with[0], with[1], with[2], with[3], with[4], with[5]};
+}
+
+/* Starts the live pool with points, in a table of that length. */
+static uint32_t start(const uint16_t *with, size_t length)
+{
+    return vadivuzhen_start(six(with), live.points + 1, length, live.count + 1).refusal;
+}
+
+/* What registering and withdrawing are lent. */
+#define LENT(lengths) \
+    live.count + 1, live.points + 1, (lengths).of[LENGTH_POINTS], live.ids + 1, (lengths).of[0], live.donor_blood + 1, (lengths).of[1], \
+        live.patient_blood + 1, (lengths).of[2], live.donor_age + 1, (lengths).of[3], live.patient_age + 1, (lengths).of[4], \
+        live.donor_antigens + 1, (lengths).of[5], live.patient_antigens + 1, (lengths).of[6], live.patient_antibodies + 1, (lengths).of[7], \
+        live.m + 1, (lengths).of[LENGTH_M], live.w + 1, (lengths).of[LENGTH_W]
+
+static uint32_t enter(struct lengths lengths, struct vadivuzhen_pair pair)
+{
+    return vadivuzhen_register(LENT(lengths), pair).refusal;
+}
+
+static uint32_t leave(struct lengths lengths, uint32_t id)
+{
+    return vadivuzhen_withdraw(LENT(lengths), id).refusal;
+}
+
+/* Puts n rows of n into M and W of what is due: what vadivuzhen_build gives for the first n of its pairs. */
+static int due_built(size_t n)
+{
+    return vadivuzhen_build(
+        2, n, due.points + 1, VADIVUZHEN_POINTS, due.ids + 1, n, due.donor_blood + 1, n, due.patient_blood + 1, n, due.donor_age + 1, n,
+        due.patient_age + 1, n, due.donor_antigens + 1, n, due.patient_antigens + 1, n, due.patient_antibodies + 1, n,
+        due.m + 1, VADIVUZHEN_ENTRIES(n), due.w + 1, VADIVUZHEN_ENTRIES(n)).refusal == VADIVUZHEN_FINISHED;
+}
+
+/* The pool is due to have n pairs, the last of them this one, and these tables. */
+static void due_with(size_t n, struct vadivuzhen_pair last, const uint8_t *m, const uint16_t *w)
+{
+    due.count[1] = n;
+    put(&due, n - 1, last);
+    memcpy(due.m + 1, m, VADIVUZHEN_ENTRIES(n) * sizeof *m);
+    memcpy(due.w + 1, w, VADIVUZHEN_ENTRIES(n) * sizeof *w);
+}
+
+static void starts(void)
+{
+    static const uint16_t zero[VADIVUZHEN_POINTS] = {0, 400, 250, 100, 50, 30}, apart[VADIVUZHEN_POINTS] = {1, 2, 3, 4, 5, 6};
+    blank(&live), blank(&due);
+    check(start(zero, VADIVUZHEN_POINTS) == VADIVUZHEN_WRONG_POINTS && as_due(), "a live pool does not start with a base of 0, and its count is as it was");
+    for (size_t i = 1; i < VADIVUZHEN_POINTS; i++) {
+        uint16_t with[VADIVUZHEN_POINTS] = {2};
+        with[i] = 65534;
+        check(start(with, VADIVUZHEN_POINTS) == VADIVUZHEN_WRONG_POINTS && as_due(), "nor with a base of 2 beside any one step of 65,534");
+    }
+    check(start(zero, 5) == VADIVUZHEN_WRONG_POINTS && start(zero, 0) == VADIVUZHEN_WRONG_POINTS && as_due(), "that is told before a table too short");
+    check(start(apart, 5) == VADIVUZHEN_TOO_SHORT && start(apart, 0) == VADIVUZHEN_TOO_SHORT && as_due(), "which is refused, also for no points at all");
+
+    memcpy(due.points + 1, apart, sizeof apart);
+    due.count[1] = 0;
+    check(start(apart, VADIVUZHEN_POINTS) == VADIVUZHEN_FINISHED && as_due(), "it starts with six points in their order, and no pair");
+    live.count[1] = SIZE_MAX;
+    memcpy(due.points + 1, document, sizeof document);
+    check(start(document, VADIVUZHEN_POINTS + 1) == VADIVUZHEN_FINISHED && as_due(), "and anew, whatever the count was, with nothing past six points");
+    for (size_t i = 1; i < VADIVUZHEN_POINTS; i++) {
+        uint16_t with[VADIVUZHEN_POINTS] = {1};
+        with[i] = 65534;
+        memcpy(due.points + 1, with, sizeof with);
+        check(start(with, VADIVUZHEN_POINTS) == VADIVUZHEN_FINISHED && as_due(), "a base of 1 passes beside any one step of 65,534");
+    }
+}
+
+/* Document 01's pairs and a third, O to O, with a senior donor and three of the donor's antigens. */
+static const struct vadivuzhen_pair three[3] = {{11, 1, 2, 0, 0, 0, 0, 0}, {12, 2, 1, 0, 0, 0, 0, 0}, {13, 0, 0, 1, 0, 7, 0, 0}};
+
+/* Registering three pairs, withdrawing one and registering it again. */
+static void lives(void)
+{
+    static const uint8_t m[3][9] = {{0}, {0, 1, 1, 0}, {0, 1, 0, 1, 0, 0, 1, 1, 0}}, without[4] = {0, 0, 1, 0}, again[9] = {0, 0, 1, 1, 0, 1, 1, 0, 0};
+    static const uint16_t w[3][9] = {{0}, {0, 1450, 1450, 0}, {0, 1450, 1450, 1450, 0, 1450, 1100, 1100, 0}}, w_without[4] = {0, 1450, 1100, 0},
+                          w_again[9] = {0, 1450, 1450, 1100, 0, 1100, 1450, 1450, 0}, order[3] = {0, 1, 2};
+    struct lengths room = lengths_for(4), just = lengths_for(3);
+    blank(&live), blank(&due);
+    memcpy(due.points + 1, document, sizeof document);
+    check(start(document, VADIVUZHEN_POINTS) == VADIVUZHEN_FINISHED, "a live pool with document 01's points");
+    for (size_t n = 1; n <= 3; n++) {
+        due_with(n, three[n - 1], m[n - 1], w[n - 1]);
+        check(enter(lengths_for(n), three[n - 1]) == VADIVUZHEN_FINISHED && as_due(), "a pair registers in tables that just hold it, and M and W are as due");
+    }
+    check(enter(room, three[1]) == VADIVUZHEN_REPEATED_ID && as_due(), "an id in the pool does not register again");
+
+    /* past the new entries of M and W, and at the last pair's former place, everything stays */
+    due_with(2, three[2], without, w_without);
+    check(leave(just, 12) == VADIVUZHEN_FINISHED && as_due(), "the pair in the middle withdraws, and past the new count's entries nothing changes");
+    check(leave(room, 12) == VADIVUZHEN_UNKNOWN_ID && as_due(), "it does not withdraw again");
+    due_with(3, three[1], again, w_again);
+    check(enter(room, three[1]) == VADIVUZHEN_FINISHED && as_due(), "it registers again, after the others");
+    check(due_built(3) && as_due(), "M and W are what is built from the pairs");
+
+    uint32_t weights[VADIVUZHEN_SUBSETS(3)] = {0}, choices[VADIVUZHEN_ROUNDS(3)] = {0};
+    uint16_t donors[3] = {0}, recipients[3] = {0};
+    struct vadivuzhen_cycle records[VADIVUZHEN_RECORDS(3)] = {{0, 0, 0}};
+    struct vadivuzhen_plan_answer plan = vadivuzhen_plan(
+        live.count[1], 0, live.m + 1, VADIVUZHEN_ENTRIES(3), live.w + 1, VADIVUZHEN_ENTRIES(3), order, 3, weights, VADIVUZHEN_SUBSETS(3),
+        choices, VADIVUZHEN_ROUNDS(3), donors, 3, recipients, 3, records, VADIVUZHEN_RECORDS(3));
+    check(plan.refusal == VADIVUZHEN_FINISHED && plan.weight == 2900 && recipients[0] == 2 && recipients[1] == 3 && recipients[2] == 0, "and are planned");
+
+    for (size_t n = 3; n > 0; n--) {
+        due.count[1] = n - 1;
+        memmove(due.ids + 1, due.ids + 2, (n - 1) * sizeof due.ids[0]);
+        check(leave(lengths_for(n), live.ids[1]) == VADIVUZHEN_FINISHED && live.count[1] == n - 1 && memcmp(live.ids, due.ids, sizeof live.ids) == 0,
+              "the first pair withdraws");
+    }
+    due = live;
+    check(leave(lengths_for(0), 11) == VADIVUZHEN_UNKNOWN_ID && as_due(), "from a pool of no pairs none withdraws, in tables of no length");
+    check(enter(lengths_for(0), three[0]) == VADIVUZHEN_TOO_SHORT && as_due(), "and there none registers");
+}
+
+/* A sound pair of an id of its own, with the other fields drawn from it. */
+static struct vadivuzhen_pair sound(size_t i)
+{
+    const uint32_t drawn = (uint32_t)(i + 1) * 2654435761u;
+    return (struct vadivuzhen_pair){
+        (uint32_t)(1000 + i), (uint8_t)(drawn >> 30), (uint8_t)(drawn >> 28 & 3), (uint8_t)(drawn >> 27 & 1), (uint8_t)(drawn >> 26 & 1),
+        drawn >> 18 & 0xFF, drawn >> 10 & 0xFF, drawn >> 7 & 7};
+}
+
+/* A pool with document 01's points and that many sound pairs, and 99 in M and W; sound pairs stand past the count, too. */
+static void sound_pool(struct live *pool, size_t n)
+{
+    blank(pool);
+    memcpy(pool->points + 1, document, sizeof document);
+    for (size_t i = 0; i < ROOM; i++)
+        put(pool, i, sound(i));
+    pool->count[1] = n;
+}
+
+/* Withdrawing takes out what stands in M and W, whatever it is: every entry has another number here. */
+static void taken_out(void)
+{
+    for (size_t n = 1; n <= 5; n++) {
+        int all = 1;
+        for (size_t gap = 0; gap < n; gap++) {
+            size_t to = 1;
+            sound_pool(&live, n);
+            for (size_t i = 0; i < ROOM * ROOM; i++)
+                live.m[1 + i] = (uint8_t)(i * 7), live.w[1 + i] = (uint16_t)i;
+            due = live;
+            due.count[1] = n - 1;
+            for (size_t i = gap; i + 1 < n; i++)
+                put(&due, i, sound(i + 1));
+            for (size_t i = 0; i < n; i++)
+                for (size_t j = 0; j < n; j++)
+                    if (i != gap && j != gap)
+                        due.m[to] = live.m[1 + i * n + j], due.w[to] = live.w[1 + i * n + j], to++;
+            all = all && leave(lengths_for(n + gap % 2), live.ids[1 + gap]) == VADIVUZHEN_FINISHED && as_due();
+        }
+        check(all, "of any pair withdrawn one row and one column are taken out, and the later pairs move down");
+    }
+
+    sound_pool(&live, 4);
+    live.ids[1 + 2] = live.ids[1 + 1];
+    live.donor_blood[1 + 1] = 4;
+    live.patient_age[1 + 3] = 2;
+    due = live;
+    due.count[1] = 3;
+    for (size_t i = 1; i < 3; i++)
+        put(&due, i, sound(i + 1));
+    due.ids[1 + 1] = live.ids[1 + 1];
+    due.patient_age[1 + 2] = 2;
+    check(leave(lengths_for(4), live.ids[1 + 1]) == VADIVUZHEN_FINISHED && as_due(), "of two with an id the first withdraws, and a pair out of range can");
+}
+
+/* The faults of a live pool: those of registering in their order, and of withdrawing the first three and the last. */
+enum fault { ABOVE, SHORT, POINTS, RANGE, TWICE, FULL, NO_ROOM, UNKNOWN, FAULTS };
+static const uint32_t number_of[FAULTS] = {
+    VADIVUZHEN_TOO_MANY_PAIRS, VADIVUZHEN_TOO_SHORT, VADIVUZHEN_WRONG_POINTS, VADIVUZHEN_OUT_OF_RANGE, VADIVUZHEN_REPEATED_ID,
+    VADIVUZHEN_TOO_MANY_TOGETHER, VADIVUZHEN_TOO_SHORT, VADIVUZHEN_UNKNOWN_ID,
+};
+static const char *const name_of[FAULTS] = {
+    "a count above 200", "a table too short", "wrong points", "a pair out of range", "an id twice", "200 pairs", "no room for one more", "an unknown id",
+};
+/* How many ways there are to have each: a count; a table; a base or a sum; one of four fields of the first pair, the last or the new one; two ids. */
+static const size_t ways[FAULTS] = {2, LENGTHS, 2, 12, 3, 1, LENGTH_POINTS, 1};
+
+/* What a call is made with, besides the live pool. */
+struct call {
+    struct lengths lengths;
+    struct vadivuzhen_pair pair;
+    uint32_t id;
+};
+
+/* A call without a fault, on a pool of that count. */
+static struct call call_on(size_t count)
+{
+    sound_pool(&live, count);
+    return (struct call){lengths_for(ROOM), sound(ROOM), live.ids[1 + 1]};
+}
+
+/* Gives a call, and the live pool, a fault. The pool has n pairs in its tables. */
+static void spoil(struct call *call, size_t n, enum fault fault, size_t way)
+{
+    static const uint16_t wrong[2][VADIVUZHEN_POINTS] = {{0, 400, 250, 100, 50, 30}, {30001, 1, 20000, 2, 3, 15535}};
+    uint8_t *const first[4] = {live.donor_blood + 1, live.patient_blood + 1, live.donor_age + 1, live.patient_age + 1};
+    uint8_t *const new[4] = {&call->pair.donor_blood, &call->pair.patient_blood, &call->pair.donor_age, &call->pair.patient_age};
+    switch (fault) {
+    case ABOVE:
+        live.count[1] = way == 0 ? ROOM : SIZE_MAX;
+        break;
+    case SHORT:
+        call->lengths.of[way] = lengths_for(n).of[way] - 1;
+        break;
+    case POINTS:
+        memcpy(live.points + 1, wrong[way], sizeof wrong[way]);
+        break;
+    case RANGE:
+        *(way < 4 ? first[way % 4] : way < 8 ? first[way % 4] + n - 1 : new[way % 4]) = way % 4 < 2 ? 4 : 2;
+        break;
+    case TWICE:
+        *(way == 0 ? live.ids + n : &call->pair.id) = way == 1 ? live.ids[n] : live.ids[1];
+        break;
+    case NO_ROOM:
+        call->lengths.of[way] = lengths_for(n + 1).of[way] - 1;
+        break;
+    case UNKNOWN:
+        call->id = sound(ROOM).id;
+        break;
+    default: /* FULL is a count, and so of the pool from the start */
+        break;
+    }
+}
+
+/* Is a call with both faults, had in any way, refused by the number of the first, with everything as it was? The two may be the same. */
+static int refused_first(enum fault one, enum fault other, int registers)
+{
+    for (size_t way = 0; way < ways[one]; way++)
+        for (size_t other_way = 0; other_way < ways[other]; other_way++) {
+            size_t n = one == ABOVE ? ROOM : one == FULL || other == FULL ? VADIVUZHEN_MOST_PAIRS : 3;
+            struct call call = call_on(n);
+            spoil(&call, n, other, one == other ? way : other_way);
+            spoil(&call, n, one, way);
+            due = live;
+            uint32_t number = registers ? enter(call.lengths, call.pair) : leave(call.lengths, call.id);
+            if (number != number_of[one] || !as_due())
+                return 0;
+        }
+    return 1;
+}
+
+/* Each fault alone, and any two: the first in the order is told. */
+static void live_faults(void)
+{
+    char what[120];
+    for (int registers = 0; registers < 2; registers++)
+        for (enum fault one = ABOVE; one < FAULTS; one++)
+            for (enum fault other = one; other < FAULTS; other++) {
+                int ones = one <= POINTS || (one == UNKNOWN) != registers, others = other <= POINTS || (other == UNKNOWN) != registers;
+                if (!ones || !others)
+                    continue;
+                snprintf(what, sizeof what, "%s: %s%s%s is refused as due", registers ? "registering" : "withdrawing", name_of[one],
+                         one == other ? "" : ", before ", one == other ? "" : name_of[other]);
+                check(refused_first(one, other, registers), what);
+            }
+
+    /* without a fault, on the same tables */
+    struct call call = call_on(3);
+    due = live;
+    due.count[1] = 4;
+    put(&due, 3, call.pair);
+    check(due_built(4) && enter(lengths_for(4), call.pair) == VADIVUZHEN_FINISHED && as_due(), "and without a fault a pair registers, whatever M and W held");
+    call = call_on(3);
+    check(leave(lengths_for(3), call.id) == VADIVUZHEN_FINISHED && live.count[1] == 2, "or withdraws");
+}
+
+/* 200 pairs, and one more. */
+static void two_hundred(void)
+{
+    struct lengths just = lengths_for(VADIVUZHEN_MOST_PAIRS);
+    int all = 1;
+    blank(&live);
+    check(start(registry, VADIVUZHEN_POINTS) == VADIVUZHEN_FINISHED, "a live pool with other points");
+    for (size_t i = 0; i < VADIVUZHEN_MOST_PAIRS; i++)
+        all = all && enter(just, sound(i)) == VADIVUZHEN_FINISHED && live.count[1] == i + 1;
+    due = live;
+    check(all && due_built(VADIVUZHEN_MOST_PAIRS) && as_due(), "200 pairs register, and M and W are what is built from them");
+    check(enter(just, sound(200)) == VADIVUZHEN_TOO_MANY_TOGETHER && as_due(), "one more does not");
+    check(enter(lengths_for(ROOM), sound(200)) == VADIVUZHEN_TOO_MANY_TOGETHER && as_due(), "nor where the tables have room for it");
+    check(enter(just, sound(199)) == VADIVUZHEN_REPEATED_ID && as_due(), "and an id in the pool is told before");
+
+    check(leave(just, sound(77).id) == VADIVUZHEN_FINISHED && live.count[1] == 199, "one withdraws");
+    due = live;
+    check(due_built(199) && as_due(), "and M and W are what is built from those that are left, with the old entries past them");
+    check(enter(just, sound(200)) == VADIVUZHEN_FINISHED && live.count[1] == 200 && live.ids[200] == sound(200).id, "then one more registers");
+    due = live;
+    check(due_built(VADIVUZHEN_MOST_PAIRS) && as_due() && live.ids[1 + 77] == sound(78).id, "at the end");
+}
+
 /* The longest texts, in buffers of the lengths that suffice. */
 static void texts(void)
 {
@@ -450,10 +822,11 @@ static void numbers(void)
               && VADIVUZHEN_LEFT_OVER == 5 && VADIVUZHEN_OUT_OF_RANGE == 6 && VADIVUZHEN_REPEATED_ID == 7 && VADIVUZHEN_NOT_A_SHUFFLE == 8
               && VADIVUZHEN_TOO_SHORT == 9 && VADIVUZHEN_NOT_COMPATIBILITY == 10 && VADIVUZHEN_SHARED_ID == 11
               && VADIVUZHEN_TOO_MANY_TOGETHER == 12 && VADIVUZHEN_FLOOR_TOO_HIGH == 13 && VADIVUZHEN_WRONG_POINTS == 14
-              && VADIVUZHEN_DIFFERENT_POINTS == 15,
+              && VADIVUZHEN_DIFFERENT_POINTS == 15 && VADIVUZHEN_UNKNOWN_ID == 16,
           "the refusals' numbers");
     check(VADIVUZHEN_MOST_PAIRS == 200 && VADIVUZHEN_MOST_FLOOR == 200000 && VADIVUZHEN_POINTS == 6, "the limits");
     check(sizeof(struct vadivuzhen_cycle) == 6, "a record is three numbers of 16 bits");
+    check(sizeof(struct vadivuzhen_points) == 12 && sizeof(struct vadivuzhen_pair) == 32, "six points and a pair have no gaps");
 }
 
 int main(void)
@@ -465,6 +838,11 @@ int main(void)
     joins_by_points();
     a_record();
     floors();
+    starts();
+    lives();
+    taken_out();
+    live_faults();
+    two_hundred();
     texts();
     numbers();
     return 0;

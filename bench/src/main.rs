@@ -1,11 +1,15 @@
-//! Times reading, building, planning and joining by the proved library; beside
-//! its planning the same gates in plain Rust, and a planner that counts
-//! nothing; and beside its joining the same in plain Rust. Planning is timed
-//! with floor 0, and once more with a floor that leaves about half the cycles;
-//! reading and building in version 1, and once more in version 2.
+//! Times reading, building, planning, joining, registering and withdrawing by
+//! the proved library; beside its planning the same gates in plain Rust, and a
+//! planner that counts nothing; and beside its joining, and its live pool, the
+//! same in plain Rust. Planning is timed with floor 0, and once more with a
+//! floor that leaves about half the cycles; reading and building in version 1,
+//! and once more in version 2.
 //!
 //! `cargo run --release [-- SIZE..]` prints Markdown.
 
+mod live;
+
+use live::{Lent, Plain};
 use reference::best::cycle_weight;
 use reference::random::{plain_pool, pools_apart, PoolKind, Random};
 use reference::{gates, sheet, straight, subsets, Plan, Points, Pool, Room, Tally};
@@ -30,9 +34,9 @@ const TOO_OFTEN: usize = 2_000;
 /// times as work on this many pairs takes longer.
 const PAIRS_TO_TIME: usize = 50;
 
-/// Two sheets of any size are joined so soon that it is repeated at least so
-/// often.
-const JOINS_TO_TIME: u32 = 20;
+/// Joining, registering and withdrawing take so little at any size that they are
+/// repeated at least so often.
+const CALLS_TO_TIME: u32 = 20;
 
 fn main() {
     let mut sizes: Vec<usize> = std::env::args()
@@ -44,11 +48,13 @@ fn main() {
     }
     let timed: Vec<Timed> = sizes.into_iter().map(timed).collect();
     println!("Machine: {}, {} cores.", cpu(), cores());
-    println!("Pools: dense, from seed {SEED}. The library's buffers are made once and not cleared between runs; (a), (b) and (c) make theirs anew in each run. Times are the thread's processor time in milliseconds: the median of all runs, and in brackets the least.");
+    println!("Pools: dense, from seed {SEED}. The library's buffers are made once and not cleared between runs; (a), (b) and (c) make theirs anew in each run, and (d) keeps its tables from call to call. Times are the thread's processor time in milliseconds: the median of all runs, and in brackets the least.");
     println!();
     print_times(&timed);
     println!();
     print_joins(&timed);
+    println!();
+    print_lives(&timed);
     println!();
     print_floors(&timed);
     println!();
@@ -102,6 +108,7 @@ struct Timed {
     straight: Times,
     join: Times,
     plain_join: Times,
+    live: LiveTimes,
     /// A floor in the middle of the planned cycles' weights, how many of how
     /// many cycles are planned with it, and planning with it.
     floor: u32,
@@ -111,6 +118,15 @@ struct Timed {
     /// The same pairs in version 2, with document 01's points.
     read_2: Times,
     build_2: Times,
+}
+
+/// The times of a live pool's calls; none where there are no pairs.
+#[derive(Default)]
+struct LiveTimes {
+    register: Times,
+    plain_register: Times,
+    withdraw: Times,
+    plain_withdraw: Times,
 }
 
 impl Timed {
@@ -194,7 +210,7 @@ fn middle_weight(n: usize, m: &[u8], w: &[u16], plan: &Plan) -> u32 {
 fn timed(n: usize) -> Timed {
     let pool = plain_pool(&mut Random::new(SEED), n, PoolKind::Dense);
     let sheet = sheet_of(&pool);
-    let sheet_2 = sheet_of(&pool.with_points(Points::DOCUMENT));
+    let sheet_2 = sheet_of(&pool.clone().with_points(Points::DOCUMENT));
     let halves = [n / 2, n - n / 2];
     let [first, second] = pools_apart(&mut Random::new(SEED), halves, PoolKind::Dense)
         .map(|half| sheet_of(&half.of_version_1()));
@@ -220,6 +236,7 @@ fn timed(n: usize) -> Timed {
         straight: Times::default(),
         join: Times::default(),
         plain_join: Times::default(),
+        live: LiveTimes::default(),
         floor: 0,
         cycles: [0; 2],
         plan_above: Times::default(),
@@ -318,21 +335,75 @@ fn timed(n: usize) -> Timed {
         timed.floor = floor;
         timed.cycles = [above.cycles, plan.cycles];
 
-        let joins = often.max(JOINS_TO_TIME);
-        let join = timed.join.add(joins, || {
+        let calls = often.max(CALLS_TO_TIME);
+        let join = timed.join.add(calls, || {
             raw::join(black_box(&first), black_box(&second), &mut joined)
         });
         let plainly_joined = timed
             .plain_join
-            .add(joins, || {
+            .add(calls, || {
                 reference::join(black_box(&first), black_box(&second), sheet.len())
             })
             .expect("two sheets joined");
         assert_eq!((join.refusal, join.length), (0, joined.len()));
         assert_eq!(joined, plainly_joined);
+        if n > 0 {
+            time_live(&mut timed.live, calls, &pool, (&m, &w));
+        }
         runs += 1;
     }
     timed
+}
+
+/// Times registering the last pair of a pool, and withdrawing the middle one,
+/// whose tables with document 01's points are `built`.
+///
+/// Each call is made on a pool of the same count. To register again, only the
+/// count is set back, as the tables are built anew whatever they hold. To
+/// withdraw again it is set back as well: the last pair is then there twice, and
+/// whichever pair has come to the middle goes, which is the same work. Plain
+/// Rust, whose tables have become shorter, has to fill them up for that, by
+/// 2N − 1 entries of N².
+fn time_live(times: &mut LiveTimes, calls: u32, pool: &Pool, built: (&Vec<u8>, &Vec<u16>)) {
+    let n = pool.len();
+    let mut lent = Lent::new(Points::DOCUMENT, pool);
+    let mut plain = Plain::new(Points::DOCUMENT, lent.pairs());
+    let (last, middle) = (plain.pairs[n - 1], n / 2);
+
+    let registered = times.register.add(calls, || {
+        lent.count = n - 1;
+        lent.register(black_box(last))
+    });
+    let plainly_registered = times.plain_register.add(calls, || {
+        plain.pairs.truncate(n - 1);
+        plain.register(black_box(last))
+    });
+    assert_eq!((registered.refusal, plainly_registered), (0, Ok(())));
+    lent.assert_is(&plain);
+    assert_eq!((&plain.m, &plain.w), built);
+
+    // Once on copies, to be looked at.
+    let (mut shorter, mut plainly_shorter) = (lent.clone(), plain.clone());
+    let id = lent.ids[middle];
+    assert_eq!(shorter.withdraw(id).refusal, 0);
+    assert_eq!(
+        (plainly_shorter.withdraw(id), shorter.count),
+        (Ok(()), n - 1)
+    );
+    shorter.assert_is(&plainly_shorter);
+
+    let withdrawn = times.withdraw.add(calls, || {
+        lent.count = n;
+        lent.withdraw(black_box(lent.ids[middle]))
+    });
+    let plainly_withdrawn = times.plain_withdraw.add(calls, || {
+        plain.pairs.resize(n, last);
+        plain.m.resize(n * n, 0);
+        plain.w.resize(n * n, 0);
+        plain.withdraw(black_box(plain.pairs[middle].id))
+    });
+    assert_eq!((withdrawn.refusal, plainly_withdrawn), (0, Ok(())));
+    assert_eq!((lent.count, plain.pairs.len()), (n - 1, n - 1));
 }
 
 fn print_times(timed: &[Timed]) {
@@ -364,6 +435,23 @@ fn print_joins(timed: &[Timed]) {
             t.join.cell(),
             t.plain_join.cell(),
             ratio(&t.join, &t.plain_join),
+        );
+    }
+}
+
+fn print_lives(timed: &[Timed]) {
+    println!("| pairs | register the last of them | (d) the same in plain Rust | register / (d) | withdraw the middle one | (d) the same in plain Rust | withdraw / (d) |");
+    println!("|--:|--:|--:|--:|--:|--:|--:|");
+    for t in timed.iter().filter(|t| t.n > 0) {
+        println!(
+            "| {} | {} | {} | {} | {} | {} | {} |",
+            t.n,
+            t.live.register.cell(),
+            t.live.plain_register.cell(),
+            ratio(&t.live.register, &t.live.plain_register),
+            t.live.withdraw.cell(),
+            t.live.plain_withdraw.cell(),
+            ratio(&t.live.withdraw, &t.live.plain_withdraw),
         );
     }
 }

@@ -14,6 +14,8 @@
 //! [`join()`] makes one sheet of two, such as a sheet and its addendum.
 //! [`Pool::plan_above`] leaves out exchanges that are too light to travel for.
 //! A pool of version 2 has its registry's own [`Points`] to weigh by.
+//! A [`LivePool`] is kept from match to match: pairs register and withdraw, and
+//! its tables are always those of its pairs.
 //! Nothing here is proved but what is called; [`raw`] has the calls themselves.
 //!
 //! "Document 01", which the comments cite, is the scope agreed with the buyer.
@@ -78,6 +80,7 @@ compile_error!(
 );
 
 mod join;
+mod live;
 mod plan;
 mod points;
 mod pool;
@@ -86,6 +89,7 @@ mod refused;
 mod tables;
 
 pub use crate::join::join;
+pub use crate::live::LivePool;
 pub use crate::plan::{Plan, Tally, MOST_FLOOR};
 pub use crate::points::Points;
 pub use crate::pool::{Age, Blood, Pair, Pool, LONGEST_SHEET, MOST_PAIRS};

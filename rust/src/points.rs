@@ -1,5 +1,7 @@
 //! The points that a registry sets.
 
+use crate::raw;
+
 /// What a registry's edges are weighed by: the weight of a donor for a patient
 /// is the base, plus the step for the mismatches, plus the step for the age
 /// groups. Mismatches are the antigens of the donor that the patient does not
@@ -8,7 +10,8 @@
 ///
 /// Any six numbers can be said; those whose base is 0, and those with which an
 /// edge could weigh more than 65,535, are refused where a pool is made of them
-/// ([`Pool::with_points`](crate::Pool::with_points)).
+/// ([`Pool::with_points`](crate::Pool::with_points)), or a live pool started
+/// ([`LivePool::start`](crate::LivePool::start)).
 ///
 /// ```
 /// use vadivuzhen::Points;
@@ -77,5 +80,19 @@ impl From<Points> for [u16; 6] {
             points.equal_ages,
             points.young_to_senior,
         ]
+    }
+}
+
+/// As [`raw::start`] takes them.
+impl From<Points> for raw::Six {
+    fn from(points: Points) -> raw::Six {
+        raw::Six {
+            base: points.base,
+            none: points.no_mismatch,
+            few: points.few_mismatches,
+            some: points.some_mismatches,
+            equal: points.equal_ages,
+            young_to_senior: points.young_to_senior,
+        }
     }
 }

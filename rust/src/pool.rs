@@ -76,6 +76,36 @@ pub struct Pair {
     pub patient_antibodies: u64,
 }
 
+/// The pairs of these fields, which are in range and all of one length.
+pub(crate) fn pairs(fields: raw::Fields<'_>) -> impl ExactSizeIterator<Item = Pair> + '_ {
+    (0..fields.ids.len()).map(move |i| Pair {
+        id: fields.ids[i],
+        donor_blood: Blood::ALL[usize::from(fields.donor_blood[i])],
+        patient_blood: Blood::ALL[usize::from(fields.patient_blood[i])],
+        donor_age: Age::ALL[usize::from(fields.donor_age[i])],
+        patient_age: Age::ALL[usize::from(fields.patient_age[i])],
+        donor_antigens: fields.donor_antigens[i],
+        patient_antigens: fields.patient_antigens[i],
+        patient_antibodies: fields.patient_antibodies[i],
+    })
+}
+
+/// As [`raw::register`] takes it.
+impl From<Pair> for raw::Pair {
+    fn from(pair: Pair) -> raw::Pair {
+        raw::Pair {
+            id: pair.id,
+            donor_blood: pair.donor_blood as u8,
+            patient_blood: pair.patient_blood as u8,
+            donor_age: pair.donor_age as u8,
+            patient_age: pair.patient_age as u8,
+            donor_antigens: pair.donor_antigens,
+            patient_antigens: pair.patient_antigens,
+            patient_antibodies: pair.patient_antibodies,
+        }
+    }
+}
+
 /// A pool of pairs and its shuffle, with none of the faults that documents 01
 /// and 02 list: there are at most [`MOST_PAIRS`] pairs, no two ids are alike,
 /// the shuffle holds each pair's number once, and the points of version 2 have
@@ -277,16 +307,7 @@ impl Pool {
     /// The pairs, in order of their numbers. How many there are is
     /// [`len`](Pool::len).
     pub fn pairs(&self) -> impl ExactSizeIterator<Item = Pair> + '_ {
-        (0..self.len()).map(|i| Pair {
-            id: self.ids[i],
-            donor_blood: Blood::ALL[usize::from(self.donor_blood[i])],
-            patient_blood: Blood::ALL[usize::from(self.patient_blood[i])],
-            donor_age: Age::ALL[usize::from(self.donor_age[i])],
-            patient_age: Age::ALL[usize::from(self.patient_age[i])],
-            donor_antigens: self.donor_antigens[i],
-            patient_antigens: self.patient_antigens[i],
-            patient_antibodies: self.patient_antibodies[i],
-        })
+        pairs(self.fields())
     }
 
     /// The pairs' ids, in order of the pairs' numbers.

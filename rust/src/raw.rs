@@ -94,6 +94,15 @@ pub struct BuildAnswer {
     pub refusal: u32,
 }
 
+/// What [`start`], [`register`] and [`withdraw`] answer.
+#[repr(C)]
+#[derive(Clone, Copy, Debug, Default, PartialEq, Eq, Hash)]
+#[must_use = "the call may have refused"]
+pub struct LiveAnswer {
+    /// Document 01's number of the refusal, or 0.
+    pub refusal: u32,
+}
+
 /// What [`plan`] answers.
 #[repr(C)]
 #[derive(Clone, Copy, Debug, Default, PartialEq, Eq, Hash)]
@@ -170,6 +179,77 @@ pub struct LentPool<'a> {
     pub patient_antibodies: &'a mut [u64],
     /// The shuffle: place p holds pair `shuffle[p]`.
     pub shuffle: &'a mut [u16],
+}
+
+/// The six points that [`start`] is given, in the order of the sheet.
+#[repr(C)]
+#[derive(Clone, Copy, Debug, Default, PartialEq, Eq, Hash)]
+pub struct Six {
+    /// What every edge weighs at least; not 0.
+    pub base: u16,
+    /// The step for no mismatch.
+    pub none: u16,
+    /// The step for one mismatch or two.
+    pub few: u16,
+    /// The step for three mismatches or four.
+    pub some: u16,
+    /// The step for equal age groups.
+    pub equal: u16,
+    /// The step for a young donor and a senior patient.
+    pub young_to_senior: u16,
+}
+
+/// The pair that [`register`] is given. Its fields may be any.
+#[repr(C)]
+#[derive(Clone, Copy, Debug, Default, PartialEq, Eq, Hash)]
+pub struct Pair {
+    /// Id.
+    pub id: u32,
+    /// Blood of the donor.
+    pub donor_blood: u8,
+    /// Blood of the patient.
+    pub patient_blood: u8,
+    /// Age group of the donor.
+    pub donor_age: u8,
+    /// Age group of the patient.
+    pub patient_age: u8,
+    /// Antigens of the donor.
+    pub donor_antigens: u64,
+    /// Antigens of the patient.
+    pub patient_antigens: u64,
+    /// Antibodies of the patient.
+    pub patient_antibodies: u64,
+}
+
+/// A live pool, lent to [`register`] and [`withdraw`]: the count, the points,
+/// the pairs' fields, M and W. The first N entries of the fields are the pairs,
+/// and M and W are N rows of N, where N is the count.
+#[derive(Debug)]
+pub struct LentLive<'a> {
+    /// The number of pairs, N.
+    pub count: &'a mut usize,
+    /// The points, six.
+    pub points: &'a [u16],
+    /// Ids.
+    pub ids: &'a mut [u32],
+    /// Bloods of the donors.
+    pub donor_blood: &'a mut [u8],
+    /// Bloods of the patients.
+    pub patient_blood: &'a mut [u8],
+    /// Age groups of the donors.
+    pub donor_age: &'a mut [u8],
+    /// Age groups of the patients.
+    pub patient_age: &'a mut [u8],
+    /// Antigens of the donors.
+    pub donor_antigens: &'a mut [u64],
+    /// Antigens of the patients.
+    pub patient_antigens: &'a mut [u64],
+    /// Antibodies of the patients.
+    pub patient_antibodies: &'a mut [u64],
+    /// M.
+    pub m: &'a mut [u8],
+    /// W.
+    pub w: &'a mut [u16],
 }
 
 /// The tables that [`plan`] fills.
@@ -321,6 +401,85 @@ pub fn build(
             m.len(),
             w.as_mut_ptr(),
             w.len(),
+        )
+    }
+}
+
+/// Starts a live pool: stores the points given in the first six entries of the
+/// table, and sets the count to 0, whatever it was.
+pub fn start(given: Six, points: &mut [u16], count: &mut usize) -> LiveAnswer {
+    // SAFETY: as in `read`. The count is a live number that nothing else
+    // borrows, and the six are laid out as the header has them.
+    unsafe { vadivuzhen_start(given, points.as_mut_ptr(), points.len(), count) }
+}
+
+/// Registers the pair at the end of the live pool, and builds M and W anew, one
+/// row and one column longer, whatever they held.
+pub fn register(pool: LentLive<'_>, pair: Pair) -> LiveAnswer {
+    // SAFETY: as in `read`. The count is a live number that nothing else
+    // borrows, and the pair is laid out as the header has it.
+    unsafe {
+        vadivuzhen_register(
+            pool.count,
+            pool.points.as_ptr(),
+            pool.points.len(),
+            pool.ids.as_mut_ptr(),
+            pool.ids.len(),
+            pool.donor_blood.as_mut_ptr(),
+            pool.donor_blood.len(),
+            pool.patient_blood.as_mut_ptr(),
+            pool.patient_blood.len(),
+            pool.donor_age.as_mut_ptr(),
+            pool.donor_age.len(),
+            pool.patient_age.as_mut_ptr(),
+            pool.patient_age.len(),
+            pool.donor_antigens.as_mut_ptr(),
+            pool.donor_antigens.len(),
+            pool.patient_antigens.as_mut_ptr(),
+            pool.patient_antigens.len(),
+            pool.patient_antibodies.as_mut_ptr(),
+            pool.patient_antibodies.len(),
+            pool.m.as_mut_ptr(),
+            pool.m.len(),
+            pool.w.as_mut_ptr(),
+            pool.w.len(),
+            pair,
+        )
+    }
+}
+
+/// Withdraws the first pair with the id from the live pool. The later ones move
+/// down by one, and its row and column are taken out of M and W, whatever these
+/// hold. What then lies past the count's entries is as it was.
+pub fn withdraw(pool: LentLive<'_>, id: u32) -> LiveAnswer {
+    // SAFETY: as in `read`. The count is a live number that nothing else
+    // borrows.
+    unsafe {
+        vadivuzhen_withdraw(
+            pool.count,
+            pool.points.as_ptr(),
+            pool.points.len(),
+            pool.ids.as_mut_ptr(),
+            pool.ids.len(),
+            pool.donor_blood.as_mut_ptr(),
+            pool.donor_blood.len(),
+            pool.patient_blood.as_mut_ptr(),
+            pool.patient_blood.len(),
+            pool.donor_age.as_mut_ptr(),
+            pool.donor_age.len(),
+            pool.patient_age.as_mut_ptr(),
+            pool.patient_age.len(),
+            pool.donor_antigens.as_mut_ptr(),
+            pool.donor_antigens.len(),
+            pool.patient_antigens.as_mut_ptr(),
+            pool.patient_antigens.len(),
+            pool.patient_antibodies.as_mut_ptr(),
+            pool.patient_antibodies.len(),
+            pool.m.as_mut_ptr(),
+            pool.m.len(),
+            pool.w.as_mut_ptr(),
+            pool.w.len(),
+            id,
         )
     }
 }
@@ -491,6 +650,67 @@ extern "C" {
         weights: *mut u16,
         weights_length: usize,
     ) -> BuildAnswer;
+
+    fn vadivuzhen_start(
+        given: Six,
+        points: *mut u16,
+        points_length: usize,
+        count: *mut usize,
+    ) -> LiveAnswer;
+
+    fn vadivuzhen_register(
+        count: *mut usize,
+        points: *const u16,
+        points_length: usize,
+        ids: *mut u32,
+        ids_length: usize,
+        donor_blood: *mut u8,
+        donor_blood_length: usize,
+        patient_blood: *mut u8,
+        patient_blood_length: usize,
+        donor_age: *mut u8,
+        donor_age_length: usize,
+        patient_age: *mut u8,
+        patient_age_length: usize,
+        donor_antigens: *mut u64,
+        donor_antigens_length: usize,
+        patient_antigens: *mut u64,
+        patient_antigens_length: usize,
+        patient_antibodies: *mut u64,
+        patient_antibodies_length: usize,
+        m: *mut u8,
+        m_length: usize,
+        w: *mut u16,
+        w_length: usize,
+        pair: Pair,
+    ) -> LiveAnswer;
+
+    fn vadivuzhen_withdraw(
+        count: *mut usize,
+        points: *const u16,
+        points_length: usize,
+        ids: *mut u32,
+        ids_length: usize,
+        donor_blood: *mut u8,
+        donor_blood_length: usize,
+        patient_blood: *mut u8,
+        patient_blood_length: usize,
+        donor_age: *mut u8,
+        donor_age_length: usize,
+        patient_age: *mut u8,
+        patient_age_length: usize,
+        donor_antigens: *mut u64,
+        donor_antigens_length: usize,
+        patient_antigens: *mut u64,
+        patient_antigens_length: usize,
+        patient_antibodies: *mut u64,
+        patient_antibodies_length: usize,
+        m: *mut u8,
+        m_length: usize,
+        w: *mut u16,
+        w_length: usize,
+        id: u32,
+    ) -> LiveAnswer;
 
     fn vadivuzhen_plan(
         n: usize,

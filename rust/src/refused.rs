@@ -34,7 +34,8 @@ pub enum Refusal {
     NotCompatibility = 10,
     /// 11: an id is in both of the sheets to be joined.
     SharedId = 11,
-    /// 12: two sheets have more than 200 pairs together.
+    /// 12: two sheets have more than 200 pairs together, or one more is to be
+    /// registered in a live pool of 200.
     TooManyTogether = 12,
     /// 13: the floor is above 200,000.
     FloorTooHigh = 13,
@@ -43,6 +44,8 @@ pub enum Refusal {
     WrongPoints = 14,
     /// 15: the versions or points of the sheets to be joined differ.
     DifferentPoints = 15,
+    /// 16: the id is not in the live pool.
+    UnknownId = 16,
 }
 
 impl Refusal {
@@ -63,6 +66,7 @@ impl Refusal {
         Refusal::FloorTooHigh,
         Refusal::WrongPoints,
         Refusal::DifferentPoints,
+        Refusal::UnknownId,
     ];
 
     /// Document 01's number. It is not 0, which in an answer means that the
@@ -175,7 +179,7 @@ impl fmt::Display for Refused {
             ),
             Refusal::TooManyTogether => write!(
                 f,
-                "the two sheets have more than 200 pairs together; join smaller ones"
+                "there would be more than 200 pairs together; join smaller sheets, or withdraw a pair before one more registers"
             ),
             Refusal::FloorTooHigh => write!(
                 f,
@@ -188,6 +192,10 @@ impl fmt::Display for Refused {
             Refusal::DifferentPoints => write!(
                 f,
                 "the two sheets' versions or points differ; ask the sender for a sheet in the version of the other and with its points"
+            ),
+            Refusal::UnknownId => write!(
+                f,
+                "the id isn't in the pool; withdraw a pair by the id that it has there"
             ),
         }
     }

@@ -1,8 +1,8 @@
 //! The safe types: what they refuse, and that a refusal says what to do.
 
 use vadivuzhen::{
-    join, raw, Age, Blood, Cycle, Pair, Plan, Points, Pool, Refusal, Refused, Tables,
-    UnknownRefusal, LONGEST_SHEET, MOST_FLOOR,
+    join, raw, Age, Blood, Cycle, LivePool, Pair, Plan, Points, Pool, Refusal, Refused, Tables,
+    UnknownRefusal, LONGEST_SHEET, MOST_FLOOR, MOST_PAIRS,
 };
 
 /// The pair of that id; any two of these suit each other.
@@ -388,6 +388,441 @@ fn sheets_of_one_version_and_the_same_points_are_joined() {
     }
 }
 
+fn live(points: [u16; 6], pairs: &[Pair]) -> LivePool {
+    let mut live = LivePool::start(points.into()).expect("points that pass");
+    for &pair in pairs {
+        live.register(pair).expect("a pair of its own id");
+    }
+    live
+}
+
+/// Is the live pool that of these pairs, and are its tables those that building
+/// gives for them, at first hand and by its sheet?
+fn assert_holds(live: &LivePool, points: [u16; 6], pairs: &[Pair]) {
+    assert_eq!(live.points(), points.into());
+    assert_eq!(
+        (live.len(), live.is_empty()),
+        (pairs.len(), pairs.is_empty())
+    );
+    assert!(live.pairs().eq(pairs.iter().copied()));
+    assert!(live.ids().iter().eq(pairs.iter().map(|pair| &pair.id)));
+    let shuffle: Vec<u16> = (0..).take(pairs.len()).collect();
+    let pool = Pool::with_points(points.into(), pairs, &shuffle).expect("a sound pool");
+    let tables = pool.tables();
+    assert_eq!(live.compatibilities(), tables.compatibilities());
+    assert_eq!(live.weights(), tables.weights());
+    assert_eq!(live.tables(), tables);
+    assert_eq!(live.pool(&shuffle).as_ref(), Ok(&pool));
+    let sheet = live.write(&shuffle).expect("a sheet");
+    assert_eq!((sheet[4], &sheet), (2, &pool.write()));
+    assert_eq!(Pool::read(&sheet), Ok(pool));
+}
+
+/// Document 01's two pairs, 11 and 12, and a third, 13: O to O, with a senior
+/// donor who has three antigens.
+fn three() -> [Pair; 3] {
+    let bare = |id, donor_blood, patient_blood| Pair {
+        id,
+        donor_blood,
+        patient_blood,
+        donor_age: Age::Young,
+        patient_age: Age::Young,
+        donor_antigens: 0,
+        patient_antigens: 0,
+        patient_antibodies: 0,
+    };
+    let third = Pair {
+        donor_age: Age::Senior,
+        donor_antigens: 7,
+        ..bare(13, Blood::O, Blood::O)
+    };
+    [
+        bare(11, Blood::A, Blood::B),
+        bare(12, Blood::B, Blood::A),
+        third,
+    ]
+}
+
+#[test]
+fn pairs_register_and_withdraw() {
+    let [first, second, third] = three();
+    let mut pool = live(DOCUMENT, &[first, second, third]);
+    assert_holds(&pool, DOCUMENT, &[first, second, third]);
+    assert_eq!(pool.compatibilities(), [0, 1, 0, 1, 0, 0, 1, 1, 0]);
+    let weights = [0, 1_450, 1_450, 1_450, 0, 1_450, 1_100, 1_100, 0];
+    assert_eq!(pool.weights(), weights);
+
+    assert_eq!(pool.withdraw(12), Ok(()));
+    assert_holds(&pool, DOCUMENT, &[first, third]);
+    assert_eq!(pool.compatibilities(), [0, 0, 1, 0]);
+    assert_eq!(pool.weights(), [0, 1_450, 1_100, 0]);
+    assert_eq!(pool.withdraw(12), Err(refused(Refusal::UnknownId, 0)));
+    assert_holds(&pool, DOCUMENT, &[first, third]);
+
+    assert_eq!(pool.register(second), Ok(()));
+    assert_eq!(pool.ids(), [11, 13, 12]);
+    assert_holds(&pool, DOCUMENT, &[first, third, second]);
+}
+
+#[test]
+fn any_pair_withdraws() {
+    let points = [10_000, 1_000, 200, 30, 4, 5];
+    for n in 1..=8 {
+        let pairs: Vec<Pair> = (0..n).map(varied).collect();
+        let all = live(points, &pairs);
+        assert_holds(&all, points, &pairs);
+        for gone in 0..pairs.len() {
+            let mut rest = pairs.clone();
+            let gone = rest.remove(gone);
+            let mut pool = all.clone();
+            assert_eq!(pool.withdraw(gone.id), Ok(()));
+            assert_holds(&pool, points, &rest);
+            // One that never had the pair is equal, whatever lies past it.
+            assert_eq!(pool, live(points, &rest));
+            assert_ne!(pool, all);
+            assert_eq!(pool.register(gone), Ok(()));
+            rest.push(gone);
+            assert_holds(&pool, points, &rest);
+        }
+    }
+}
+
+/// A pair of that id whose other fields are drawn from it.
+fn varied(id: u32) -> Pair {
+    let drawn = (u64::from(id) + 1).wrapping_mul(0x9E37_79B9_7F4A_7C15);
+    let bit = |at: u32| drawn >> at & 1 == 1;
+    let blood = |at| match (bit(at), bit(at + 1)) {
+        (false, false) => Blood::O,
+        (false, true) => Blood::A,
+        (true, false) => Blood::B,
+        (true, true) => Blood::Ab,
+    };
+    let age = |at| if bit(at) { Age::Senior } else { Age::Young };
+    Pair {
+        id,
+        donor_blood: blood(20),
+        patient_blood: blood(24),
+        donor_age: age(28),
+        patient_age: age(30),
+        donor_antigens: drawn >> 32 & 0xFF,
+        patient_antigens: drawn >> 40 & 0xFF,
+        patient_antibodies: drawn >> 48 & drawn >> 56 & 0x0F,
+    }
+}
+
+#[test]
+fn a_live_pool_is_its_calls_whatever_they_are() {
+    let points = [2_000, 600, 500, 400, 3, 2];
+    let mut pool = live(points, &[]);
+    let mut pairs: Vec<Pair> = Vec::new();
+    let mut drawn: u32 = 206;
+    let mut answers = [0; 4];
+    for _ in 0..600 {
+        drawn = drawn.wrapping_mul(1_664_525).wrapping_add(1_013_904_223);
+        let (id, registers) = (drawn >> 16 & 0x1F, drawn >> 28 < 9);
+        let held = pairs.iter().position(|pair| pair.id == id);
+        let (answer, due) = match (registers, held) {
+            (true, None) => {
+                pairs.push(varied(id));
+                (pool.register(varied(id)), Ok(()))
+            }
+            (true, Some(_)) => (pool.register(varied(id)), Err(Refusal::RepeatedId)),
+            (false, Some(number)) => {
+                pairs.remove(number);
+                (pool.withdraw(id), Ok(()))
+            }
+            (false, None) => (pool.withdraw(id), Err(Refusal::UnknownId)),
+        };
+        assert_eq!(
+            answer.map_err(|refused| (refused.why, refused.place)),
+            due.map_err(|why| (why, 0))
+        );
+        assert_holds(&pool, points, &pairs);
+        answers[usize::from(registers) * 2 + usize::from(held.is_some())] += 1;
+    }
+    assert!(answers.iter().all(|&often| often > 50), "{answers:?}");
+}
+
+#[test]
+fn two_hundred_pairs_live_and_no_more() {
+    let pairs: Vec<Pair> = (0..200).map(varied).collect();
+    let mut pool = live(DOCUMENT, &pairs);
+    assert_holds(&pool, DOCUMENT, &pairs);
+    let full = Err(refused(Refusal::TooManyTogether, 0));
+    assert_eq!(pool.register(varied(200)), full);
+    // An id in the pool comes first.
+    let repeated = Err(refused(Refusal::RepeatedId, 0));
+    assert_eq!(pool.register(varied(199)), repeated);
+    assert_holds(&pool, DOCUMENT, &pairs);
+
+    assert_eq!(pool.withdraw(77), Ok(()));
+    assert_eq!(pool.register(varied(200)), Ok(()));
+    let due = pairs.iter().copied().filter(|pair| pair.id != 77);
+    let due: Vec<Pair> = due.chain([varied(200)]).collect();
+    assert_holds(&pool, DOCUMENT, &due);
+    assert_eq!(pool.register(varied(77)), full);
+    for pair in due {
+        assert_eq!(pool.withdraw(pair.id), Ok(()));
+    }
+    assert_holds(&pool, DOCUMENT, &[]);
+}
+
+#[test]
+fn a_live_pool_starts_with_points_that_pass() {
+    let wrong = Err(refused(Refusal::WrongPoints, 0));
+    for points in [
+        [0; 6],
+        [0, 400, 250, 100, 50, 30],
+        [2, 0, 0, 65_534, 0, 0],
+        [2, 65_534, 0, 0, 0, 0],
+        [2, 0, 65_534, 0, 0, 0],
+        [2, 0, 0, 0, 65_534, 0],
+        [2, 0, 0, 0, 0, 65_534],
+        [30_001, 1, 20_000, 2, 3, 15_535],
+        [65_535; 6],
+    ] {
+        assert_eq!(LivePool::start(points.into()), wrong);
+    }
+    for points in [
+        DOCUMENT,
+        [1, 2, 3, 4, 5, 6],
+        [30_000, 1, 20_000, 2, 3, 15_535],
+    ] {
+        assert_holds(&live(points, &[]), points, &[]);
+        assert_holds(&live(points, &three()), points, &three());
+    }
+    assert_ne!(live(DOCUMENT, &three()), live([1, 2, 3, 4, 5, 6], &three()));
+}
+
+#[test]
+fn a_live_pool_is_planned_with_the_shuffle_of_the_match() {
+    let pool = live(DOCUMENT, &three());
+    for shuffle in [[0, 1, 2], [2, 0, 1], [1, 2, 0]] {
+        let whole = pool.pool(&shuffle).expect("a shuffle");
+        assert_eq!(pool.plan(&shuffle), Ok(whole.plan()));
+        assert_eq!(pool.plan_above(2_899, &shuffle), Ok(whole.plan()));
+        assert_eq!(pool.plan_above(2_900, &shuffle), whole.plan_above(2_900));
+        assert_eq!(pool.write(&shuffle), Ok(whole.write()));
+    }
+    let printed = "PLAN 3 1 2900\n11 12 12\n12 11 11\n13 - -\nCOUNTS 5 32 1\n";
+    assert_eq!(pool.plan(&[2, 0, 1]).expect("a plan").print(), printed);
+
+    let no_shuffle = refused(Refusal::NotAShuffle, 0);
+    let none = live(DOCUMENT, &[]);
+    let wrong = [
+        (&pool, &[][..]),
+        (&pool, &[0, 1]),
+        (&pool, &[0, 1, 1]),
+        (&pool, &[0, 1, 3]),
+        (&pool, &[0, 1, 2, 3]),
+        (&none, &[0]),
+    ];
+    for (pool, shuffle) in wrong {
+        assert_eq!(pool.plan(shuffle), Err(no_shuffle));
+        assert_eq!(pool.plan_above(MOST_FLOOR, shuffle), Err(no_shuffle));
+        assert_eq!(pool.write(shuffle), Err(no_shuffle));
+        assert_eq!(pool.pool(shuffle), Err(no_shuffle));
+        let high = Err(refused(Refusal::FloorTooHigh, 0));
+        assert_eq!(pool.plan_above(MOST_FLOOR + 1, shuffle), high);
+    }
+    assert_eq!(
+        none.plan(&[]).expect("a plan").print(),
+        "PLAN 0 0 0\nCOUNTS 0 0 0\n"
+    );
+}
+
+#[test]
+fn a_live_pool_shows_its_pairs() {
+    let mut pool = live(DOCUMENT, &three());
+    pool.withdraw(12).expect("a pair of the pool");
+    let shown = format!("{pool:?}");
+    assert!(
+        shown.contains("id: 11") && shown.contains("id: 13"),
+        "{shown}"
+    );
+    assert!(
+        !shown.contains("id: 12") && shown.contains("base: 1000"),
+        "{shown}"
+    );
+}
+
+/// The tables of a live pool as a caller of the bare calls has them, each with
+/// an entry more than is lent.
+#[derive(Clone, Debug, PartialEq)]
+struct Bare {
+    count: usize,
+    points: Vec<u16>,
+    ids: Vec<u32>,
+    bytes: [Vec<u8>; 4],
+    words: [Vec<u64>; 3],
+    m: Vec<u8>,
+    w: Vec<u16>,
+}
+
+impl Bare {
+    /// Tables with room for `room` pairs, filled with 99.
+    fn new(room: usize) -> Bare {
+        Bare {
+            count: 99,
+            points: vec![99; 7],
+            ids: vec![99; room + 1],
+            bytes: [(); 4].map(|()| vec![99; room + 1]),
+            words: [(); 3].map(|()| vec![99; room + 1]),
+            m: vec![99; room * room + 1],
+            w: vec![99; room * room + 1],
+        }
+    }
+
+    fn lent(&mut self) -> raw::LentLive<'_> {
+        let room = self.ids.len() - 1;
+        let [donor_blood, patient_blood, donor_age, patient_age] = &mut self.bytes;
+        let [donor_antigens, patient_antigens, patient_antibodies] = &mut self.words;
+        raw::LentLive {
+            count: &mut self.count,
+            points: &self.points[..6],
+            ids: &mut self.ids[..room],
+            donor_blood: &mut donor_blood[..room],
+            patient_blood: &mut patient_blood[..room],
+            donor_age: &mut donor_age[..room],
+            patient_age: &mut patient_age[..room],
+            donor_antigens: &mut donor_antigens[..room],
+            patient_antigens: &mut patient_antigens[..room],
+            patient_antibodies: &mut patient_antibodies[..room],
+            m: &mut self.m[..room * room],
+            w: &mut self.w[..room * room],
+        }
+    }
+
+    fn start(&mut self, points: [u16; 6]) -> u32 {
+        let given = Points::from(points).into();
+        raw::start(given, &mut self.points, &mut self.count).refusal
+    }
+
+    fn register(&mut self, pair: Pair) -> u32 {
+        raw::register(self.lent(), pair.into()).refusal
+    }
+
+    fn withdraw(&mut self, id: u32) -> u32 {
+        raw::withdraw(self.lent(), id).refusal
+    }
+}
+
+#[test]
+fn the_bare_calls_of_a_live_pool() {
+    let [first, second, third] = three();
+    let mut pool = Bare::new(3);
+    assert_eq!(pool.start(DOCUMENT), 0);
+    let mut due = Bare::new(3);
+    (due.count, due.points) = (0, [&DOCUMENT[..], &[99]].concat());
+    assert_eq!(pool, due);
+
+    for pair in [first, second, third] {
+        assert_eq!(pool.register(pair), 0);
+    }
+    (due.count, due.ids) = (3, vec![11, 12, 13, 99]);
+    due.bytes = [[1, 2, 0, 99], [2, 1, 0, 99], [0, 0, 1, 99], [0, 0, 0, 99]].map(Vec::from);
+    due.words = [[0, 0, 7, 99], [0, 0, 0, 99], [0, 0, 0, 99]].map(Vec::from);
+    due.m = vec![0, 1, 0, 1, 0, 0, 1, 1, 0, 99];
+    due.w = vec![0, 1_450, 1_450, 1_450, 0, 1_450, 1_100, 1_100, 0, 99];
+    assert_eq!(pool, due);
+    let fourth = Pair { id: 14, ..first };
+    assert_eq!((pool.register(fourth), pool.register(third)), (9, 7));
+    let mut unsound = raw::Pair::from(third);
+    unsound.patient_age = 2;
+    assert_eq!(raw::register(pool.lent(), unsound).refusal, 6);
+    assert_eq!((pool.withdraw(14), pool.start([0; 6])), (16, 14));
+    let five = |pool: &mut Bare, given: raw::Six| {
+        raw::start(given, &mut pool.points[..5], &mut pool.count).refusal
+    };
+    assert_eq!(five(&mut pool, raw::Six::default()), 14);
+    assert_eq!(five(&mut pool, Points::DOCUMENT.into()), 9);
+    assert_eq!(pool, due);
+
+    // What lies past the new count's entries is as it was.
+    assert_eq!(pool.withdraw(12), 0);
+    (due.count, due.ids) = (2, vec![11, 13, 13, 99]);
+    due.bytes = [[1, 0, 0, 99], [2, 0, 0, 99], [0, 1, 1, 99], [0, 0, 0, 99]].map(Vec::from);
+    due.words[0] = vec![0, 7, 7, 99];
+    due.m[..4].copy_from_slice(&[0, 0, 1, 0]);
+    due.w[..4].copy_from_slice(&[0, 1_450, 1_100, 0]);
+    assert_eq!(pool, due);
+    assert_eq!(pool.withdraw(12), 16);
+    assert_eq!(pool, due);
+
+    // A count above 200, then stored points, in either call; nothing changes.
+    due.points[0] = 0;
+    due.count = MOST_PAIRS + 1;
+    pool = due.clone();
+    assert_eq!((pool.register(second), pool.withdraw(11)), (4, 4));
+    assert_eq!(pool, due);
+    due.count = 4;
+    pool = due.clone();
+    assert_eq!((pool.register(second), pool.withdraw(11)), (9, 9));
+    due.count = 3;
+    pool = due.clone();
+    assert_eq!((pool.register(second), pool.withdraw(12)), (14, 14));
+    assert_eq!(pool, due);
+    // An id twice is 7, after a blood of 4; withdrawn is the first of the two.
+    due.points[0] = 1_000;
+    pool = due.clone();
+    assert_eq!(pool.register(second), 7);
+    pool.bytes[0][0] = 4;
+    assert_eq!(pool.register(second), 6);
+    assert_eq!(pool.withdraw(13), 0);
+    assert_eq!((pool.count, &pool.ids[..2]), (2, &[11, 13][..]));
+    // Of what M and W hold, the middle row and column are taken out.
+    assert_eq!(pool.m[..4], [0, 1, 1, 0]);
+    assert_eq!(pool.w[..4], [0, 1_100, 1_100, 0]);
+}
+
+/// The first entries of a lent table.
+fn first<T>(table: &mut &mut [T], length: usize) {
+    *table = &mut std::mem::take(table)[..length];
+}
+
+#[test]
+fn a_live_pool_needs_all_its_tables() {
+    // Of each table as many entries as a number of pairs and one of entries say.
+    let shorten: [fn(&mut raw::LentLive<'_>, usize, usize); 10] = [
+        |lent, n, _| first(&mut lent.ids, n),
+        |lent, n, _| first(&mut lent.donor_blood, n),
+        |lent, n, _| first(&mut lent.patient_blood, n),
+        |lent, n, _| first(&mut lent.donor_age, n),
+        |lent, n, _| first(&mut lent.patient_age, n),
+        |lent, n, _| first(&mut lent.donor_antigens, n),
+        |lent, n, _| first(&mut lent.patient_antigens, n),
+        |lent, n, _| first(&mut lent.patient_antibodies, n),
+        |lent, _, entries| first(&mut lent.m, entries),
+        |lent, _, entries| first(&mut lent.w, entries),
+    ];
+    let mut pool = Bare::new(4);
+    assert_eq!(pool.start(DOCUMENT), 0);
+    for pair in three() {
+        assert_eq!(pool.register(pair), 0);
+    }
+    let due = pool.clone();
+    for shorten in shorten {
+        // Too short for the three, and for one more.
+        for (n, entries, withdrawn) in [(2, 8, 9), (3, 15, 16)] {
+            let mut lent = pool.lent();
+            shorten(&mut lent, n, entries);
+            assert_eq!(raw::register(lent, pair(14).into()).refusal, 9);
+            let mut lent = pool.lent();
+            shorten(&mut lent, n, entries);
+            assert_eq!(raw::withdraw(lent, 14).refusal, withdrawn);
+            assert_eq!(pool, due);
+        }
+    }
+    let mut lent = pool.lent();
+    lent.points = &lent.points[..5];
+    assert_eq!(raw::register(lent, pair(14).into()).refusal, 9);
+    let mut lent = pool.lent();
+    lent.points = &lent.points[..5];
+    assert_eq!(raw::withdraw(lent, 11).refusal, 9);
+    assert_eq!(pool, due);
+    assert_eq!((pool.register(pair(14)), pool.withdraw(14)), (0, 0));
+}
+
 #[test]
 fn own_tables_are_planned_or_refused() {
     let made = |n: u32, m, w| Tables::new((0..n).collect(), vec![0; m], vec![0; w]);
@@ -581,7 +1016,7 @@ fn a_plan_is_printed_with_its_own_pairs_ids() {
 
 #[test]
 fn every_refusal_has_its_number_and_says_what_to_do() {
-    assert_eq!(Refusal::ALL.len(), 15);
+    assert_eq!(Refusal::ALL.len(), 16);
     for (&why, number) in Refusal::ALL.iter().zip(1..) {
         assert_eq!(why.number(), number);
         assert_eq!(Refusal::try_from(number), Ok(why));
@@ -591,14 +1026,14 @@ fn every_refusal_has_its_number_and_says_what_to_do() {
         assert!(told.starts_with(&format!("refusal {number}: ")));
         assert!(told.contains("; "), "{told}");
     }
-    let longest = refused(Refusal::DifferentPoints, usize::MAX);
-    assert_eq!(longest.print(), format!("REFUSED 15 {}\n", usize::MAX));
+    let longest = refused(Refusal::UnknownId, usize::MAX);
+    assert_eq!(longest.print(), format!("REFUSED 16 {}\n", usize::MAX));
 }
 
 #[test]
 fn a_number_of_no_refusal_is_said_to_be_unknown() {
     // 0 is a call that finished; later requests go up to 22.
-    for number in (16..=22).chain([0, 23, 256 + 1, u32::MAX]) {
+    for number in (17..=22).chain([0, 23, 256 + 1, u32::MAX]) {
         let unknown = Refusal::try_from(number).expect_err("no refusal");
         assert_eq!(unknown, UnknownRefusal(number));
         assert!(unknown.to_string().starts_with(&format!("{number} is ")));

@@ -25,6 +25,7 @@
 //! | [`tables`]     | W-204: the laboratories' new mismatch rule         |
 //! | [`points`]     | W-205: points set by each registry                 |
 //! | [`sheet`]      | W-205: sheet version 2                             |
+//! | [`live`]       | W-206: a pool that lives between matches           |
 //!
 //! Beside the planner by rounds stand four others:
 //!
@@ -72,6 +73,7 @@ pub mod algorithm1;
 pub mod best;
 pub mod gates;
 pub mod join;
+pub mod live;
 pub mod planner;
 pub mod points;
 pub mod pool;
@@ -87,6 +89,7 @@ pub mod tally;
 pub use crate::algorithm1::algorithm1;
 pub use crate::best::{best, best_above};
 pub use crate::join::join;
+pub use crate::live::{Call, Live, Pair};
 pub use crate::planner::{plan, Plan, Room, MOST_FLOOR};
 pub use crate::points::Points;
 pub use crate::pool::{Fields, Pool};

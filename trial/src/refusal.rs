@@ -28,7 +28,8 @@ pub enum Reason {
     Entry = 10,
     /// 11: an id is in both of the sheets to be joined.
     SharedId = 11,
-    /// 12: two sheets have more than 200 pairs together.
+    /// 12: two sheets have more than 200 pairs together, or a live pool that is
+    /// to get one more has 200.
     TooManyTogether = 12,
     /// 13: the floor is above 200,000.
     FloorTooHigh = 13,
@@ -37,11 +38,13 @@ pub enum Reason {
     WrongPoints = 14,
     /// 15: the versions or points of the sheets to be joined differ.
     DifferentPoints = 15,
+    /// 16: the id to be withdrawn is not in the pool.
+    UnknownId = 16,
 }
 
 impl Reason {
     /// All reasons, by number.
-    pub const ALL: [Reason; 15] = [
+    pub const ALL: [Reason; 16] = [
         Reason::CutOff,
         Reason::NotDue,
         Reason::Version,
@@ -57,6 +60,7 @@ impl Reason {
         Reason::FloorTooHigh,
         Reason::WrongPoints,
         Reason::DifferentPoints,
+        Reason::UnknownId,
     ];
 
     /// Document 01's number.
@@ -75,7 +79,8 @@ impl Reason {
 
 /// What reading, writing and joining answer when they turn an input back.
 ///
-/// Building and planning give a bare [`Reason`], since theirs has no place.
+/// Building, planning and the calls of a live pool give a bare [`Reason`], since
+/// theirs has no place.
 #[derive(Clone, Copy, Debug, PartialEq, Eq, Hash)]
 pub struct Refusal {
     /// Why.

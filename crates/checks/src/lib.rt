@@ -43,7 +43,7 @@ pub fn room(
 }
 
 // 6: a blood group above 3 or an age group above 1.
-fn groups(donor_blood: u8, patient_blood: u8, donor_age: u8, patient_age: u8) -> Verdict
+pub fn groups(donor_blood: u8, patient_blood: u8, donor_age: u8, patient_age: u8) -> Verdict
     ensures { λ r. ⌜ ((o : ℕ) → faultAt o r ≡ groupFault o «donor_blood» «patient_blood» «donor_age» «patient_age») ⌝ }
 {
     if donor_blood > 3 {

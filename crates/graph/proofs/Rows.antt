@@ -1,8 +1,8 @@
 -- Tables filled row by row: a turn of the loop over the columns, and of the loop over the rows. Assumes nothing.
 use mathlib.Core.Path.{_≡_, refl, sym, ap, ap₂, _∙_}
-use mathlib.Core.List.{List, [], _∷_, _++_, append-assoc, append-nil}
+use mathlib.Core.List.{List, [], _∷_, _++_}
 use Prim.Native.Nat.{ℕ, zero, suc, _+_, _*_, _/_, _%_, _≤_, _<_}
-use native.Mathlib.Nat.{add-zero, add-suc, zero-add, suc-mul, mul-le-mul, mul-le-mul-right, zero-mul}
+use native.Mathlib.Nat.{zero-add, suc-mul, mul-le-mul, mul-le-mul-right, zero-mul}
 use native.Mathlib.Numerals.{add-one}
 use native.Mathlib.Omega.{arith}
 use lib.Arith.{digits-div, digits-mod}
@@ -10,7 +10,7 @@ use lib.ListN.{length, getD, set, length-set}
 use lib.Seq.{set-split}
 use Rattle.laws.specs.Below.{table}
 use Rattle.laws.specs.Lent.{filled, stored}
-use Rattle.laws.proofs.Below.{length-table, getD-table, table-cong}
+use Rattle.laws.proofs.Below.{length-table, getD-table, table-cong, table-add}
 use Rattle.laws.proofs.Lent.{Filling, filling-none, getD-filled, length-stored, stored-none, stored-filled, stored-then}
 use Rattle.graph.specs.Graph.{inRows}
 
@@ -52,14 +52,6 @@ module _ (at : ℕ) (f : ℕ → ℕ) (old : List ℕ) where
   storing-all i n t w e = w .holds ∙ ap (λ (k : ℕ). stored at (table k f) old) e
 
 -- ## A loop over the rows
-
-table-add : (a b : ℕ) (f : ℕ → ℕ) → table (a + b) f ≡ table a f ++ table b (λ j. f (a + j))
-unfolding table
-table-add a zero f = ap (λ (k : ℕ). table k f) (add-zero a) ∙ sym (append-nil (table a f))
-table-add a (suc b) f =
-    ap (λ (k : ℕ). table k f) (add-suc a b)
-    ∙ ap (λ (l : List ℕ). l ++ (f (a + b) ∷ [])) (table-add a b f)
-    ∙ append-assoc (table a f) (table b (λ j. f (a + j))) (f (a + b) ∷ [])
 
 -- what stands at k of n rows of n
 unfoldable pub cell : ℕ → (ℕ → ℕ → ℕ) → ℕ → ℕ

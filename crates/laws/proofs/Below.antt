@@ -2,9 +2,9 @@
 use mathlib.Core.Path.{_≡_, refl, sym, ap, ap₂, _∙_, subst}
 use mathlib.Core.Bool.{Bool, true, false, _&&_}
 use mathlib.Core.Logic.{_⊎_, inl, inr}
-use mathlib.Core.List.{List, [], _∷_, _++_, map, map-append}
+use mathlib.Core.List.{List, [], _∷_, _++_, append-assoc, append-nil, map, map-append}
 use Prim.Native.Nat.{ℕ, zero, suc, _+_, _-_, _≤_, _<_}
-use native.Mathlib.Nat.{add-zero}
+use native.Mathlib.Nat.{add-zero, add-suc}
 use native.Mathlib.Numerals.{add-one}
 use native.Mathlib.Omega.{arith}
 use native.Mathlib.Decide.{decLt}
@@ -263,6 +263,15 @@ pub table-getD : {A : Type 0} (d : A) (l : List A) (n : ℕ) (f : ℕ → A) →
 table-getD d l n f e h =
     ext-getD d (table n f) l (length-table n f ∙ sym e)
     (λ i k. let m : i < n = rw length-table at k in getD-table n f d i m ∙ h i m)
+
+-- a table in two parts
+pub table-add : {A : Type 0} (a b : ℕ) (f : ℕ → A) → table (a + b) f ≡ table a f ++ table b (λ j. f (a + j))
+unfolding table
+table-add {A} a zero f = ap (λ (k : ℕ). table k f) (add-zero a) ∙ sym (append-nil (table a f))
+table-add {A} a (suc b) f =
+    ap (λ (k : ℕ). table k f) (add-suc a b)
+    ∙ ap (λ (l : List A). l ++ (f (a + b) ∷ [])) (table-add a b f)
+    ∙ append-assoc (table a f) (table b (λ j. f (a + j))) (f (a + b) ∷ [])
 
 -- two tables in a row
 pub length-tables : {A : Type 0} (n m : ℕ) (f g : ℕ → A) → length (table n f ++ table m g) ≡ n + m

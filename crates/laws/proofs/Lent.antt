@@ -6,7 +6,7 @@ use native.Mathlib.Nat.{zero-add, add-zero}
 use native.Mathlib.Numerals.{add-one}
 use native.Mathlib.Omega.{arith}
 use lib.ListN.{length, getD, take, drop, set, length-append, length-take, length-drop, length-set, take-append-drop, List·getD-append}
-use lib.Seq.{drop-drop, take-at, set-at, drop-cons, drop-append-add, take-set-le, drop-set-add, take-append-seam, set-split}
+use lib.Seq.{drop-drop, take-at, set-at, drop-cons, drop-append-add, take-set-le, drop-set-add, take-append-seam, set-split, getD-drop, getD-append-add}
 use Rattle.laws.specs.Below.{table}
 use Rattle.laws.specs.Digits.{bytes}
 use Rattle.laws.specs.Lent.{filled, stored}
@@ -80,6 +80,27 @@ module _ {A : Type 0} where
   pub stored-one : (at : ℕ) (x : A) (old : List A) → at < length old → set old at x ≡ stored at (x ∷ []) old
   unfolding stored
   stored-one at x old h = set-split old at x h ∙ ap (λ (k : ℕ). take at old ++ (x ∷ drop k old)) (sym (add-one at))
+
+  -- past what is stored all stands as it did
+  pub getD-stored-past : (at : ℕ) (l old : List A) (d : A) (i : ℕ) → at + length l ≤ length old → at + length l ≤ i → getD (stored at l old) i d ≡ getD old i d
+  unfolding stored
+  getD-stored-past at l old d i h k =
+      let xs : List A = take at old ++ l in
+      let n = at + length l in
+      let g : length xs ≡ n = simp (length-append, length-take) (omega arith) in
+      let e : i ≡ length xs + (i - n) = omega arith in
+      let f : n + (i - n) ≡ i = omega arith in
+      ap₂ (λ (m : List A) (j : ℕ). getD m j d) (sym (append-assoc (take at old) l (drop n old))) e
+      ∙ getD-append-add xs (drop n old) (i - n) d
+      ∙ getD-drop n old (i - n) d
+      ∙ ap (λ (j : ℕ). getD old j d) f
+
+  -- what is filled from the start on, the first entries of which are what stood there, is what is stored after these
+  pub filled-stored : (at : ℕ) (l old : List A) → at ≤ length old → filled (take at old ++ l) old ≡ stored at l old
+  unfolding filled stored
+  filled-stored at l old h =
+      let g : length (take at old ++ l) ≡ at + length l = simp (length-append, length-take) (omega arith) in
+      rw (g, append-assoc)
 
   -- one list after another
   stored-stored : (at n : ℕ) (l m old : List A) → n ≡ at + length l → at + length l ≤ length old → stored n m (stored at l old) ≡ stored at (l ++ m) old

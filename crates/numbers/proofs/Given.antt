@@ -15,6 +15,9 @@ use Rattle.joining.specs.declared.Joining.the-variants as Joining
 use Rattle.weighing.specs.Answers as Weighing
 use Rattle.weighing.specs.declared.Building.{Building}
 use Rattle.weighing.specs.declared.Building.the-variants as Building
+use Rattle.live.specs.Answers as Live
+use Rattle.live.specs.declared.Change.{Change}
+use Rattle.live.specs.declared.Change.the-variants as Change
 use Rattle.planner.specs.Answers as Planner
 use Rattle.planner.specs.declared.Planned.{Planned}
 use Rattle.planner.specs.declared.Planning.{Planning}
@@ -22,7 +25,7 @@ use Rattle.planner.specs.declared.Planning.the-variants as Planning
 use Rattle.printout.specs.Answers as Printout
 use Rattle.printout.specs.declared.Printing.{Printing}
 use Rattle.printout.specs.declared.Printing.the-variants as Printing
-use Rattle.numbers.specs.Numbers.{readNumbers, writeNumbers, joinNumbers, buildNumbers, planNumbers, printNumbers}
+use Rattle.numbers.specs.Numbers.{readNumbers, writeNumbers, joinNumbers, buildNumbers, liveNumbers, planNumbers, printNumbers}
 
 pub read-refused : (r : Reading) (why : Refusal) (o : ℕ) → r ≡ Reading.Refused why o → (k : ℕ) → k ≡ numberOf why
     → record { refusal = k; version = 0; place = o; pairs = 0 } ≡ readNumbers (Reader.answerOf r)
@@ -60,6 +63,15 @@ build-refused r why e k f = rw (e, f)
 pub build-finished : (r : Building) → r ≡ Building.Built → record { refusal = 0 } ≡ buildNumbers (Weighing.answerOf r)
 unfolding buildNumbers Weighing.answerOf
 build-finished r e = rw e
+
+pub live-refused : (r : Change) (why : Refusal) → r ≡ Change.Refused why → (k : ℕ) → k ≡ numberOf why
+    → record { refusal = k } ≡ liveNumbers (Live.answerOf r)
+unfolding liveNumbers Live.answerOf
+live-refused r why e k f = rw (e, f)
+
+pub live-finished : (r : Change) → r ≡ Change.Done → record { refusal = 0 } ≡ liveNumbers (Live.answerOf r)
+unfolding liveNumbers Live.answerOf
+live-finished r e = rw e
 
 pub plan-refused : (r : Planning) (why : Refusal) → r ≡ Planning.Refused why → (k : ℕ) → k ≡ numberOf why
     → record { refusal = k; cycles = 0; weight = 0; comparisons = 0; products = 0; rounds = 0 } ≡ planNumbers (Planner.answerOf r)

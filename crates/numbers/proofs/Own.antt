@@ -5,7 +5,8 @@ use native.Mathlib.Omega.{arith}
 use Rattle.refusal.specs.Answer.{Answer, finished, refused}
 use Rattle.refusal.specs.Number.{numberOf}
 use Rattle.refusal.specs.declared.Refusal.{Refusal}
-use Rattle.refusal.specs.declared.Refusal.the-variants.{CutOff, WrongField, WrongVersion, TooManyPairs, LeftOver, OutOfRange, RepeatedId, NotAShuffle, TooShort, NotCompatibility, SharedId, TooManyTogether, FloorTooHigh, WrongPoints, DifferentPoints}
+use Rattle.refusal.specs.declared.Refusal.the-variants.{CutOff, WrongField, WrongVersion, TooManyPairs, LeftOver, OutOfRange, RepeatedId, NotAShuffle, TooShort, NotCompatibility}
+use Rattle.refusal.specs.declared.Refusal.the-variants.{SharedId, TooManyTogether, FloorTooHigh, WrongPoints, DifferentPoints, UnknownId}
 use Rattle.greedy.specs.Tally.{tally}
 use Rattle.pool.specs.Calls.{head}
 use Rattle.exchange.specs.Planning.{Plan, plan}
@@ -21,6 +22,9 @@ use Rattle.joining.specs.declared.Joining.the-variants as Joining
 use Rattle.weighing.specs.Answers as Weighing
 use Rattle.weighing.specs.declared.Building.{Building}
 use Rattle.weighing.specs.declared.Building.the-variants as Building
+use Rattle.live.specs.Answers as Live
+use Rattle.live.specs.declared.Change.{Change}
+use Rattle.live.specs.declared.Change.the-variants as Change
 use Rattle.planner.specs.Answers as Planner
 use Rattle.planner.specs.declared.Planning.{Planning}
 use Rattle.planner.specs.declared.Planning.the-variants as Planning
@@ -28,7 +32,7 @@ use Rattle.printout.specs.Answers as Printout
 use Rattle.printout.specs.declared.Printing.{Printing}
 use Rattle.printout.specs.declared.Printing.the-variants as Printing
 use Rattle.numbers.specs.declared.PlanAnswer.{PlanAnswer}
-use Rattle.numbers.specs.Numbers.{readNumbers, writeNumbers, joinNumbers, buildNumbers, planNumbers, printNumbers}
+use Rattle.numbers.specs.Numbers.{readNumbers, writeNumbers, joinNumbers, buildNumbers, liveNumbers, planNumbers, printNumbers}
 use Rattle.numbers.specs.Promises.{Numbered, NumberedAt0, Own, OneAnswer}
 
 -- ## What each call answers
@@ -49,6 +53,7 @@ from-one TooManyTogether = omega arith
 from-one FloorTooHigh = omega arith
 from-one WrongPoints = omega arith
 from-one DifferentPoints = omega arith
+from-one UnknownId = omega arith
 
 at-0 : {Result : Type 0} (why : Refusal) → NumberedAt0 {Result = Result} (refused (numberOf why) 0)
 at-0 why k o e = let f : k ≡ numberOf why = cc in let g : o ≡ 0 = cc in (rw f (from-one why), g)
@@ -78,6 +83,11 @@ pub build-numbered : (r : Building) → NumberedAt0 (Weighing.answerOf r)
 unfolding Weighing.answerOf
 build-numbered Building.Built = of-finished tt
 build-numbered (Building.Refused why) = at-0 why
+
+pub live-numbered : (r : Change) → NumberedAt0 (Live.answerOf r)
+unfolding Live.answerOf
+live-numbered Change.Done = of-finished tt
+live-numbered (Change.Refused why) = at-0 why
 
 pub plan-numbered : (r : Planning) → NumberedAt0 (Planner.answerOf r)
 unfolding Planner.answerOf
@@ -125,6 +135,13 @@ own-build (finished m) (refused k o) p q e = not-0 (q k o refl .0) (ap (λ x. x 
 own-build (refused k o) (finished n) p q e = not-0 (p k o refl .0) (sym (ap (λ x. x .refusal) e))
 own-build (refused k o) (refused l u) p q e = same-refusal (ap (λ x. x .refusal) e) (p k o refl .1) (q l u refl .1)
 
+own-live : Own NumberedAt0 liveNumbers
+unfolding liveNumbers
+own-live (finished u) (finished v) p q e = refl
+own-live (finished m) (refused k o) p q e = not-0 (q k o refl .0) (ap (λ x. x .refusal) e)
+own-live (refused k o) (finished n) p q e = not-0 (p k o refl .0) (sym (ap (λ x. x .refusal) e))
+own-live (refused k o) (refused l u) p q e = same-refusal (ap (λ x. x .refusal) e) (p k o refl .1) (q l u refl .1)
+
 planGiven : PlanAnswer → Plan
 planGiven r = plan (r .weight) (r .cycles) (tally (r .comparisons) (r .products) (r .rounds))
 
@@ -143,4 +160,4 @@ own-print (refused k o) (finished n) p q e = not-0 (p k o refl .0) (sym (ap (λ 
 own-print (refused k o) (refused l u) p q e = same-refusal (ap (λ x. x .refusal) e) (p k o refl .1) (q l u refl .1)
 
 pub one-answer : OneAnswer
-one-answer = record { read = own-read; write = own-write; join = own-join; build = own-build; plan = own-plan; print = own-print }
+one-answer = record { read = own-read; write = own-write; join = own-join; build = own-build; live = own-live; plan = own-plan; print = own-print }

@@ -8,6 +8,7 @@ use Rattle.numbers.specs.declared.ReadAnswer.{ReadAnswer}
 use Rattle.numbers.specs.declared.WriteAnswer.{WriteAnswer}
 use Rattle.numbers.specs.declared.JoinAnswer.{JoinAnswer}
 use Rattle.numbers.specs.declared.BuildAnswer.{BuildAnswer}
+use Rattle.numbers.specs.declared.LiveAnswer.{LiveAnswer}
 use Rattle.numbers.specs.declared.PlanAnswer.{PlanAnswer}
 use Rattle.numbers.specs.declared.PrintAnswer.{PrintAnswer}
 
@@ -30,6 +31,11 @@ joinNumbers (refused k o) = record { refusal = k; place = o; length = 0 }
 unfoldable pub buildNumbers : Answer (Unit {0}) → BuildAnswer
 buildNumbers (finished u) = record { refusal = 0 }
 buildNumbers (refused k o) = record { refusal = k }
+
+-- starting, registering and withdrawing give the number likewise
+unfoldable pub liveNumbers : Answer (Unit {0}) → LiveAnswer
+liveNumbers (finished u) = record { refusal = 0 }
+liveNumbers (refused k o) = record { refusal = k }
 
 -- "the plan's weight, number of cycles and tally", or the number
 unfoldable pub planNumbers : Answer Plan → PlanAnswer

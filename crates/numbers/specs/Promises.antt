@@ -3,7 +3,7 @@
 use Prim.Native.Nat.{ℕ, _≤_}
 use mathlib.Core.Path.{_≡_}
 use Rattle.refusal.specs.Answer.{Answer, refused}
-use Rattle.numbers.specs.Numbers.{readNumbers, writeNumbers, joinNumbers, buildNumbers, planNumbers, printNumbers}
+use Rattle.numbers.specs.Numbers.{readNumbers, writeNumbers, joinNumbers, buildNumbers, liveNumbers, planNumbers, printNumbers}
 
 -- a refusal has a number from 1 on: no finished call has its numbers
 abbrev pub Numbered : {Result : Type 0} → Answer Result → Type 0
@@ -23,5 +23,6 @@ pub record OneAnswer : Type 0 where
   pub write : Own NumberedAt0 writeNumbers
   pub join : Own Numbered joinNumbers
   pub build : Own NumberedAt0 buildNumbers
+  pub live : Own NumberedAt0 liveNumbers
   pub plan : Own NumberedAt0 planNumbers
   pub print : Own NumberedAt0 printNumbers

@@ -1,6 +1,7 @@
 // The answers of the library's calls as structs of numbers, for the C boundary (include/vadivuzhen.h). In each `refusal` is document 01's number, or 0
 // where the call finished; a field that the answer does not use is 0.
 use joining::Joining;
+use live::Change;
 use planner::Planning;
 use printout::Printing;
 use reader::Reading;
@@ -13,9 +14,10 @@ ghost use Rattle.reader.specs.Answers.{answerOf as Reader·answerOf};
 ghost use Rattle.writer.specs.Answers.{answerOf as Writer·answerOf};
 ghost use Rattle.joining.specs.Answers.{answerOf as Joiner·answerOf};
 ghost use Rattle.weighing.specs.Answers.{answerOf as Weighing·answerOf};
+ghost use Rattle.live.specs.Answers.{answerOf as Live·answerOf};
 ghost use Rattle.planner.specs.Answers.{answerOf as Planner·answerOf};
 ghost use Rattle.printout.specs.Answers.{answerOf as Printout·answerOf};
-ghost use Rattle.numbers.specs.Numbers.{readNumbers, writeNumbers, joinNumbers, buildNumbers, planNumbers, printNumbers};
+ghost use Rattle.numbers.specs.Numbers.{readNumbers, writeNumbers, joinNumbers, buildNumbers, liveNumbers, planNumbers, printNumbers};
 
 // The sheet's version and N, or the refusal's place.
 #[repr(C)]
@@ -43,6 +45,12 @@ pub struct JoinAnswer {
 
 #[repr(C)]
 pub struct BuildAnswer {
+    pub refusal: u32,
+}
+
+// Of starting, registering and withdrawing.
+#[repr(C)]
+pub struct LiveAnswer {
     pub refusal: u32,
 }
 
@@ -130,6 +138,17 @@ pub fn build_numbers(answer: Building) -> BuildAnswer
             refusal: number_of(why),
         },
         Building::Built => BuildAnswer { refusal: 0 },
+    }
+}
+
+pub fn live_numbers(answer: Change) -> LiveAnswer
+    ensures { λ r. ⌜ r ≡ liveNumbers (Live·answerOf answer) ⌝ }
+{
+    match answer {
+        Change::Refused(why) => LiveAnswer {
+            refusal: number_of(why),
+        },
+        Change::Done => LiveAnswer { refusal: 0 },
     }
 }
 

@@ -10,6 +10,7 @@ ghost use Rattle.pool.specs.Tables.{itemIn};
 ghost use Rattle.pool.specs.Faults.{pointsFault};
 ghost use Rattle.points.specs.Named.{named};
 
+#[repr(C)]
 pub struct Points {
     pub base: u16,
     // Mismatches: none, 1 or 2, 3 or 4.

@@ -5,8 +5,8 @@ use Prim.Native.Nat.{ℕ, _<_}
 use native.Mathlib.Omega.{arith}
 use borrow.Author.Tests.{le-ltb, ltb-true, ltb-false, ne-eqb, eqb-true, eqb-false, not-true, not-false}
 use lib.Dec.{eqb}
-use Rattle.refusal.specs.Fault.{none, fault, refuse, _then_}
-use Rattle.refusal.proofs.Faults.{then-none, refuse-none, none-refuse, by-refuse, by-then}
+use Rattle.refusal.specs.Fault.{Fault, none, fault, refuse, _then_}
+use Rattle.refusal.proofs.Faults.{then-none, none-then, refuse-none, none-refuse, by-refuse, by-then}
 use Rattle.laws.specs.Below.{countBelow, Once}
 use Rattle.laws.proofs.Below.{any-none, none-any, any-found, any-cong, count-cong, once-count, count-once}
 use Rattle.pool.specs.Pool.{Pair}
@@ -15,23 +15,18 @@ use Rattle.pool.specs.Points.{pointCount}
 use Rattle.pool.specs.Faultless.{InRange, EachOnce, Faultless}
 use Rattle.pool.proofs.Points.{points-cong}
 
--- ## 6 and 7 of pair i
+-- ## 6 of one pair
 
-module _ (o : ℕ) (pair : ℕ → Pair) (i : ℕ) where
-  pub pair-none : InRange (pair i) → ((j : ℕ) → j < i → pair j .id ≡ pair i .id → ⊥) → pairFault o pair i ≡ none
-  unfolding pairFault groupFault idFault refuse _then_
-  pair-none r u =
-      simp (
-        le-ltb 3 _ (r .donorBlood),
-        le-ltb 3 _ (r .patientBlood),
-        le-ltb 1 _ (r .donorAge),
-        le-ltb 1 _ (r .patientAge),
-        none-any i (λ j. eqb (pair j .id) (pair i .id)) (λ j l. ne-eqb _ _ (u j l)),
-      )
+module _ (o : ℕ) (q : Pair) where
+  abbrev pub groups : Fault
+  groups = groupFault o (q .donorBlood) (q .patientBlood) (q .donorAge) (q .patientAge)
 
-  groups-passed :
-      groupFault o (pair i .donorBlood) (pair i .patientBlood) (pair i .donorAge) (pair i .patientAge) ≡ none
-      → InRange (pair i)
+  pub groups-none : InRange q → groups ≡ none
+  unfolding groupFault refuse _then_
+  groups-none r =
+      simp (le-ltb 3 _ (r .donorBlood), le-ltb 3 _ (r .patientBlood), le-ltb 1 _ (r .donorAge), le-ltb 1 _ (r .patientAge))
+
+  pub groups-passed : groups ≡ none → InRange q
   unfolding groupFault
   groups-passed e =
       let r1 = then-none _ _ e in
@@ -44,23 +39,48 @@ module _ (o : ℕ) (pair : ℕ → Pair) (i : ℕ) where
         patientAge = ltb-false _ _ (refuse-none _ _ _ (r3 .1));
       }
 
+  pub groups-fault : (P : ℕ → ℕ → Type 0) → ((InRange q → ⊥) → P 6 o) → (k p : ℕ) → groups ≡ fault k p → P k p
+  unfolding groupFault
+  groups-fault P six =
+      by-then P _ _ (by-refuse P 6 o _ (λ e. six (λ r. omega (arith, ltb-true 3 (q .donorBlood) e, r .donorBlood))))
+      (λ _. by-then P _ _ (by-refuse P 6 o _ (λ e. six (λ r. omega (arith, ltb-true 3 (q .patientBlood) e, r .patientBlood))))
+      (λ _. by-then P _ _ (by-refuse P 6 o _ (λ e. six (λ r. omega (arith, ltb-true 1 (q .donorAge) e, r .donorAge))))
+      (λ _. by-refuse P 6 o _ (λ e. six (λ r. omega (arith, ltb-true 1 (q .patientAge) e, r .patientAge))))))
+
+-- ## 7 of the pair at i
+
+module _ (o : ℕ) (id : ℕ → ℕ) (i : ℕ) where
+  pub id-none : ((j : ℕ) → j < i → id j ≡ id i → ⊥) → idFault o id i ≡ none
+  unfolding idFault
+  id-none u = none-refuse 7 o _ (none-any i (λ j. eqb (id j) (id i)) (λ j l. ne-eqb _ _ (u j l)))
+
+  pub id-passed : idFault o id i ≡ none → (j : ℕ) → j < i → id j ≡ id i → ⊥
+  unfolding idFault
+  id-passed e j l = eqb-false _ _ (any-none i (λ j. eqb (id j) (id i)) (refuse-none _ _ _ e) j l)
+
+  pub id-fault : (P : ℕ → ℕ → Type 0) → ((j : ℕ) → j < i → id j ≡ id i → P 7 o) → (k p : ℕ) → idFault o id i ≡ fault k p → P k p
+  unfolding idFault
+  id-fault P seven =
+      by-refuse P 7 o _ (λ e. let f = any-found i (λ j. eqb (id j) (id i)) e in seven (f .0) (f .1) (eqb-true _ _ (f .2)))
+
+-- ## 6 and 7 of pair i
+
+module _ (o : ℕ) (pair : ℕ → Pair) (i : ℕ) where
+  pub pair-none : InRange (pair i) → ((j : ℕ) → j < i → pair j .id ≡ pair i .id → ⊥) → pairFault o pair i ≡ none
+  unfolding pairFault
+  pair-none r u = none-then _ _ (groups-none o (pair i) r) ∙ id-none o (λ j. pair j .id) i u
+
   pub pair-passed : pairFault o pair i ≡ none → InRange (pair i) × ((j : ℕ) → j < i → pair j .id ≡ pair i .id → ⊥)
-  unfolding pairFault idFault
+  unfolding pairFault
   pair-passed e =
       let s = then-none _ _ e in
-      (groups-passed (s .0), λ j l. eqb-false _ _ (any-none i (λ j. eqb (pair j .id) (pair i .id)) (refuse-none _ _ _ (s .1)) j l))
+      (groups-passed o (pair i) (s .0), id-passed o (λ j. pair j .id) i (s .1))
 
   pub pair-fault : (P : ℕ → ℕ → Type 0) → ((InRange (pair i) → ⊥) → P 6 o)
       → ((j : ℕ) → j < i → InRange (pair i) → pair j .id ≡ pair i .id → P 7 o) → (k p : ℕ) → pairFault o pair i ≡ fault k p → P k p
-  unfolding pairFault groupFault idFault
+  unfolding pairFault
   pair-fault P six seven =
-      by-then P _ _
-      (by-then P _ _ (by-refuse P 6 o _ (λ e. six (λ r. omega (arith, ltb-true 3 (pair i .donorBlood) e, r .donorBlood))))
-      (λ _. by-then P _ _ (by-refuse P 6 o _ (λ e. six (λ r. omega (arith, ltb-true 3 (pair i .patientBlood) e, r .patientBlood))))
-      (λ _. by-then P _ _ (by-refuse P 6 o _ (λ e. six (λ r. omega (arith, ltb-true 1 (pair i .donorAge) e, r .donorAge))))
-      (λ _. by-refuse P 6 o _ (λ e. six (λ r. omega (arith, ltb-true 1 (pair i .patientAge) e, r .patientAge)))))))
-      (λ g. by-refuse P 7 o _
-      (λ e. let f = any-found i (λ j. eqb (pair j .id) (pair i .id)) e in seven (f .0) (f .1) (groups-passed g) (eqb-true _ _ (f .2))))
+      by-then P _ _ (groups-fault o (pair i) P six) (λ g. id-fault o (λ j. pair j .id) i P (λ j l. seven j l (groups-passed o (pair i) g)))
 
 -- ## 8
 

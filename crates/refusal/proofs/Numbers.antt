@@ -7,7 +7,7 @@ use Rattle.refusal.specs.Number.{numberOf}
 use Rattle.refusal.specs.Promises.{OwnNumbers}
 use Rattle.refusal.specs.declared.Refusal.{Refusal}
 use Rattle.refusal.specs.declared.Refusal.the-variants.{CutOff, WrongField, WrongVersion, TooManyPairs, LeftOver, OutOfRange, RepeatedId, NotAShuffle, TooShort, NotCompatibility}
-use Rattle.refusal.specs.declared.Refusal.the-variants.{SharedId, TooManyTogether, FloorTooHigh, WrongPoints, DifferentPoints}
+use Rattle.refusal.specs.declared.Refusal.the-variants.{SharedId, TooManyTogether, FloorTooHigh, WrongPoints, DifferentPoints, UnknownId}
 
 abbrev named : ℕ → Refusal
 named k =
@@ -28,6 +28,7 @@ named k =
     ∷ FloorTooHigh
     ∷ WrongPoints
     ∷ DifferentPoints
+    ∷ UnknownId
     ∷ []) k CutOff
 
 named-number : (a : Refusal) → named (numberOf a) ≡ a
@@ -46,6 +47,7 @@ named-number TooManyTogether = refl
 named-number FloorTooHigh = refl
 named-number WrongPoints = refl
 named-number DifferentPoints = refl
+named-number UnknownId = refl
 
 pub own-numbers : OwnNumbers
 own-numbers a b e = sym (named-number a) ∙ ap named e ∙ named-number b

@@ -24,7 +24,7 @@ pub enum Refusal {
     NotCompatibility,
     // The hospital again (document 02): an id is in both of two sheets that are joined.
     SharedId,
-    // Whoever joins two sheets: they have more than 200 pairs together.
+    // Whoever joins two sheets, or registers: they have more than 200 pairs together, or a live pool has 200 already.
     TooManyTogether,
     // The calling program again: the floor is above 200,000.
     FloorTooHigh,
@@ -32,6 +32,8 @@ pub enum Refusal {
     WrongPoints,
     // The versions or the points of two sheets that are joined differ.
     DifferentPoints,
+    // The calling program again: no pair of a live pool has the id that is withdrawn.
+    UnknownId,
 }
 
 // What a check of one thing finds.
@@ -60,5 +62,6 @@ pub fn number(why: Refusal) -> u8
         Refusal::FloorTooHigh => 13,
         Refusal::WrongPoints => 14,
         Refusal::DifferentPoints => 15,
+        Refusal::UnknownId => 16,
     }
 }

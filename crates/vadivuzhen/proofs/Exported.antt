@@ -8,13 +8,19 @@ use Rattle.pool.specs.Calls.{Head}
 use Rattle.pool.specs.Promises.{ReadsRightly}
 use Rattle.graph.specs.Graph.{Graph}
 use Rattle.weighing.specs.Promises.{BuildsRightly}
+use Rattle.pool.specs.Pool.{Pair}
+use Rattle.pool.specs.Points.{Points}
+use Rattle.live.specs.Live.{Live}
+use Rattle.live.specs.Calls.{Beginning}
+use Rattle.live.specs.Promises.{StartsRightly, RegistersRightly, WithdrawsRightly}
 use Rattle.exchange.specs.Input.{Request}
 use Rattle.exchange.specs.Planning.{Lent, Plan, planning}
 use Rattle.exchange.specs.Promises.{PlansRightly}
-use Rattle.numbers.specs.Numbers.{readNumbers, buildNumbers, planNumbers}
+use Rattle.numbers.specs.Numbers.{readNumbers, buildNumbers, liveNumbers, planNumbers}
 use Rattle.numbers.specs.Promises.{Numbered, NumberedAt0}
 use Rattle.numbers.specs.declared.ReadAnswer.{ReadAnswer}
 use Rattle.numbers.specs.declared.BuildAnswer.{BuildAnswer}
+use Rattle.numbers.specs.declared.LiveAnswer.{LiveAnswer}
 use Rattle.numbers.specs.declared.PlanAnswer.{PlanAnswer}
 
 -- what an exported call ensures, for the numbers r and what is left of all that was lent, where `due` is due
@@ -53,3 +59,27 @@ pub kept-plan : {q : Request} {t left : Lent} {a : Answer Plan} {r : PlanAnswer}
     → PlansRightly q t (outcome a left)
     → Ensures planNumbers NumberedAt0 (PlansRightly q t) r left (planning q t)
 kept-plan {q} {t} e are w = kept planNumbers NumberedAt0 (PlansRightly q t) e are (w .equal) w
+
+pub kept-started : {q : Points} {old new : Beginning} {a : Answer (Unit {0})} {r : LiveAnswer} {due : Outcome (Unit {0}) Beginning}
+    → r ≡ liveNumbers a
+    → NumberedAt0 a
+    → outcome a new ≡ due
+    → StartsRightly q old (outcome a new)
+    → Ensures liveNumbers NumberedAt0 (StartsRightly q old) r new due
+kept-started {q} {old} = kept liveNumbers NumberedAt0 (StartsRightly q old)
+
+pub kept-registered : {p : Pair} {old new : Live} {a : Answer (Unit {0})} {r : LiveAnswer} {due : Outcome (Unit {0}) Live}
+    → r ≡ liveNumbers a
+    → NumberedAt0 a
+    → outcome a new ≡ due
+    → RegistersRightly p old (outcome a new)
+    → Ensures liveNumbers NumberedAt0 (RegistersRightly p old) r new due
+kept-registered {p} {old} = kept liveNumbers NumberedAt0 (RegistersRightly p old)
+
+pub kept-withdrawn : {id : ℕ} {old new : Live} {a : Answer (Unit {0})} {r : LiveAnswer} {due : Outcome (Unit {0}) Live}
+    → r ≡ liveNumbers a
+    → NumberedAt0 a
+    → outcome a new ≡ due
+    → WithdrawsRightly id old (outcome a new)
+    → Ensures liveNumbers NumberedAt0 (WithdrawsRightly id old) r new due
+kept-withdrawn {id} {old} = kept liveNumbers NumberedAt0 (WithdrawsRightly id old)

@@ -1,11 +1,14 @@
 // The library's calls with a C boundary (include/vadivuzhen.h). Each hands its arguments on, and answers in numbers (crate `numbers`).
 use cycle::Cycle;
+use live::Pair;
 use numbers::BuildAnswer;
 use numbers::JoinAnswer;
+use numbers::LiveAnswer;
 use numbers::PlanAnswer;
 use numbers::PrintAnswer;
 use numbers::ReadAnswer;
 use numbers::WriteAnswer;
+use points::Points;
 ghost use mathlib.Core.Path.{_≡_};
 ghost use Rattle.pool.specs.Lent.{lentFields, lentTables};
 ghost use Rattle.pool.specs.Calls.{reading, writing};
@@ -15,6 +18,11 @@ ghost use Rattle.pool.specs.Joinable.{JoinsRightly};
 ghost use Rattle.graph.specs.Lent.{lentGraph};
 ghost use Rattle.weighing.specs.Building.{building};
 ghost use Rattle.weighing.specs.Promises.{BuildsRightly};
+ghost use Rattle.points.specs.Named.{named as namedPoints};
+ghost use Rattle.live.specs.Calls.{starting, registering, withdrawing};
+ghost use Rattle.live.specs.Answers.{named};
+ghost use Rattle.live.specs.Lent.{lentBeginning, lentLive};
+ghost use Rattle.live.specs.Promises.{StartsRightly, RegistersRightly, WithdrawsRightly};
 ghost use Rattle.exchange.specs.Input.{request};
 ghost use Rattle.exchange.specs.Planning.{planning};
 ghost use Rattle.exchange.specs.Lent.{lentPlan};
@@ -22,7 +30,7 @@ ghost use Rattle.exchange.specs.Promises.{PlansRightly};
 ghost use Rattle.printout.specs.Printed.{printedPlan};
 ghost use Rattle.printout.specs.Calls.{printingPlan, printingRefusal};
 ghost use Rattle.printout.specs.Promises.{PrintsPlan, PrintsRefused};
-ghost use Rattle.numbers.specs.Numbers.{readNumbers, writeNumbers, joinNumbers, buildNumbers, planNumbers, printNumbers};
+ghost use Rattle.numbers.specs.Numbers.{readNumbers, writeNumbers, joinNumbers, buildNumbers, liveNumbers, planNumbers, printNumbers};
 ghost use Rattle.numbers.specs.Promises.{Numbered, NumberedAt0};
 
 // Each contract says: the numbers are those of the answer that is due, and of no other; all that was lent is left as is due; and the call's promise holds
@@ -164,6 +172,109 @@ pub extern "C" fn vadivuzhen_build(
         weights,
     );
     numbers::build_numbers(answer)
+}
+
+// Starts a live pool with no pairs and these points.
+#[no_mangle]
+pub extern "C" fn vadivuzhen_start(
+    given: Points,
+    points: &mut [u16],
+    count: &mut usize,
+) -> LiveAnswer
+    ensures { λ r.
+        let b = lentBeginning count points in
+        let due = starting (namedPoints given) (b .entry) in
+        ⌜ (r ≡ liveNumbers (due .answer)) × NumberedAt0 (due .answer) ⌝
+        ∗ ⌜ b .exit ≡ due .lent ⌝
+        ∗ ⌜ StartsRightly (namedPoints given) (b .entry) due ⌝ }
+{
+    numbers::live_numbers(keeping::start(given, points, count))
+}
+
+// Registers a pair at the end of a live pool, and builds its tables anew.
+#[no_mangle]
+pub extern "C" fn vadivuzhen_register(
+    count: &mut usize,
+    points: &[u16],
+    ids: &mut [u32],
+    donor_blood: &mut [u8],
+    patient_blood: &mut [u8],
+    donor_age: &mut [u8],
+    patient_age: &mut [u8],
+    donor_antigens: &mut [u64],
+    patient_antigens: &mut [u64],
+    patient_antibodies: &mut [u64],
+    compatibilities: &mut [u8],
+    weights: &mut [u16],
+    pair: Pair,
+) -> LiveAnswer
+    ensures { λ r.
+        let l = lentLive count points ids «donor_blood» «patient_blood» «donor_age» «patient_age»
+        «donor_antigens» «patient_antigens» «patient_antibodies» compatibilities weights in
+        let due = registering (named pair) (l .entry) in
+        ⌜ (r ≡ liveNumbers (due .answer)) × NumberedAt0 (due .answer) ⌝
+        ∗ ⌜ l .exit ≡ due .lent ⌝
+        ∗ ⌜ RegistersRightly (named pair) (l .entry) due ⌝ }
+{
+    let answer = registering::register(
+        count,
+        points,
+        ids,
+        donor_blood,
+        patient_blood,
+        donor_age,
+        patient_age,
+        donor_antigens,
+        patient_antigens,
+        patient_antibodies,
+        compatibilities,
+        weights,
+        pair,
+    );
+    numbers::live_numbers(answer)
+}
+
+// Withdraws the first pair of a live pool that has this id, with its row and its column.
+#[no_mangle]
+pub extern "C" fn vadivuzhen_withdraw(
+    count: &mut usize,
+    points: &[u16],
+    ids: &mut [u32],
+    donor_blood: &mut [u8],
+    patient_blood: &mut [u8],
+    donor_age: &mut [u8],
+    patient_age: &mut [u8],
+    donor_antigens: &mut [u64],
+    patient_antigens: &mut [u64],
+    patient_antibodies: &mut [u64],
+    compatibilities: &mut [u8],
+    weights: &mut [u16],
+    id: u32,
+) -> LiveAnswer
+    ensures { λ r.
+        let l = lentLive count points ids «donor_blood» «patient_blood» «donor_age» «patient_age»
+        «donor_antigens» «patient_antigens» «patient_antibodies» compatibilities weights in
+        let due = withdrawing id (l .entry) in
+        ⌜ (r ≡ liveNumbers (due .answer)) × NumberedAt0 (due .answer) ⌝
+        ∗ ⌜ l .exit ≡ due .lent ⌝
+        ∗ ⌜ WithdrawsRightly id (l .entry) due ⌝ }
+{
+    let answer = withdrawing::withdraw(
+        count,
+        points,
+        ids,
+        donor_blood,
+        patient_blood,
+        donor_age,
+        patient_age,
+        donor_antigens,
+        patient_antigens,
+        patient_antibodies,
+        compatibilities,
+        weights,
+        id,
+    );
+    numbers::live_numbers(answer)
 }
 
 // Plans the pool of n pairs whose tables are m and w, with the floor and the shuffle.

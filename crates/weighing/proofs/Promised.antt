@@ -30,7 +30,7 @@ use Rattle.weighing.proofs.Faults.{build-none, build-passed, build-faul
 -- ## What is built, by points q
 
 module _ (q : Points) (n : ℕ) (f : Fields) where
-  filled-entries : (old : Graph) → Entries q n f (filledGraph q n (pairIn f) old)
+  pub filled-entries : (old : Graph) → Entries q n f (filledGraph q n (pairIn f) old)
   unfolding filledGraph
   filled-entries old = record { compatibilities = rows-entry n (compatibility (pairIn f)) _; weights = rows-entry n (weight q (pairIn f)) _ }
 
@@ -102,12 +102,45 @@ module _ (v n : ℕ) (l : List ℕ) (f : Fields) (old : Graph) where
   pub rightly : (a : Answer (Unit {0})) (new : Graph) → outcome a new ≡ building v n l f old → BuildsRightly v n l f old (outcome a new)
   rightly a new e = subst (λ (o : Outcome (Unit {0}) Graph). BuildsRightly v n l f old o) (sym e) builds-rightly
 
--- ## The call, by what `judge` found
+-- ## What filling asks of the fields, and what it gives
 
 -- the fields without the ids, which play no part in the tables
 abbrev pub idless : Fields → Fields
 idless f =
     fields [] (f .donorBlood) (f .patientBlood) (f .donorAge) (f .patientAge) (f .donorAntigens) (f .patientAntigens) (f .patientAntibodies)
+
+module _ (v n : ℕ) (l : List ℕ) (f : Fields) (old : Graph) (q : Points) (r : q ≡ pointsOfTable v l) where
+  pub buildable : FaultlessFields v n l f → Fit n old → Buildable q n (idless f) old
+  unfolding pairIn
+  buildable w fit =
+      record {
+        few = w .few;
+        forM =
+            record {
+              inDonorBlood = w .hold .donorBlood;
+              inPatientBlood = w .hold .patientBlood;
+              inDonorAntigens = w .hold .donorAntigens;
+              inPatientAntibodies = w .hold .patientAntibodies;
+              donorGroup = λ i l. w .inRange i l .donorBlood;
+              patientGroup = λ j l. w .inRange j l .patientBlood;
+            };
+        forW =
+            record {
+              inDonorAge = w .hold .donorAge;
+              inPatientAge = w .hold .patientAge;
+              inDonorAntigens = w .hold .donorAntigens;
+              inPatientAntigens = w .hold .patientAntigens;
+            };
+        inCompatibilities = fit .compatibilities;
+        inWeights = fit .weights;
+        points = subst SoundPoints (sym r) (w .points);
+      }
+
+  pub filled-whole : (new : Graph) → new ≡ filledGraph q n (pairIn (idless f)) old → new ≡ filledGraph (pointsOfTable v l) n (pairIn f) old
+  unfolding filledGraph compatibility weight pairIn
+  filled-whole new g = g ∙ ap (λ (p : Points). filledGraph p n (pairIn f) old) r
+
+-- ## The call, by what `judge` found
 
 module _ (v n : ℕ) (l : List ℕ) (f : Fields) (old : Graph) (found : Verdict)
     (e : faultAt 0 found ≡ buildFault v n l f (length (old .compatibilities)) (length (old .weights))) where
@@ -115,41 +148,15 @@ module _ (v n : ℕ) (l : List ℕ) (f : Fields) (old : Graph) (found : Verdict)
   unfolding building answerOf
   call-refused why h = sym (unless-fault _ tt (filledGraph (pointsOfTable v l) n (pairIn f) old) old (numberOf why) 0 (faulty-fault 0 found e why h))
 
-  module _ (h : found ≡ Sound) where
-    passed : FaultlessFields v n l f × Fit n old
-    passed = build-passed v n l f old (sound-none 0 found e h)
+  -- q is what the pool is weighed by
+  module _ (h : found ≡ Sound) (q : Points) (r : q ≡ pointsOfTable v l) where
+    pub call-buildable : Buildable q n (idless f) old
+    call-buildable =
+        let passed = build-passed v n l f old (sound-none 0 found e h) in
+        buildable v n l f old q r (passed .0) (passed .1)
 
-    -- q is what the pool is weighed by
-    module _ (q : Points) (r : q ≡ pointsOfTable v l) where
-      pub call-buildable : Buildable q n (idless f) old
-      unfolding pairIn
-      call-buildable =
-          let w = passed .0 in
-          record {
-            few = w .few;
-            forM =
-                record {
-                  inDonorBlood = w .hold .donorBlood;
-                  inPatientBlood = w .hold .patientBlood;
-                  inDonorAntigens = w .hold .donorAntigens;
-                  inPatientAntibodies = w .hold .patientAntibodies;
-                  donorGroup = λ i l. w .inRange i l .donorBlood;
-                  patientGroup = λ j l. w .inRange j l .patientBlood;
-                };
-            forW =
-                record {
-                  inDonorAge = w .hold .donorAge;
-                  inPatientAge = w .hold .patientAge;
-                  inDonorAntigens = w .hold .donorAntigens;
-                  inPatientAntigens = w .hold .patientAntigens;
-                };
-            inCompatibilities = passed .1 .compatibilities;
-            inWeights = passed .1 .weights;
-            points = subst SoundPoints (sym r) (w .points);
-          }
-
-      pub call-built : (new : Graph) → new ≡ filledGraph q n (pairIn (idless f)) old → outcome (answerOf Built) new ≡ building v n l f old
-      unfolding building answerOf filledGraph compatibility weight pairIn
-      call-built new g =
-          ap (outcome (finished tt)) (g ∙ ap (λ (p : Points). filledGraph p n (pairIn f) old) r)
-          ∙ sym (unless-none _ tt (filledGraph (pointsOfTable v l) n (pairIn f) old) old (sound-none 0 found e h))
+    pub call-built : (new : Graph) → new ≡ filledGraph q n (pairIn (idless f)) old → outcome (answerOf Built) new ≡ building v n l f old
+    unfolding building answerOf
+    call-built new g =
+        ap (outcome (finished tt)) (filled-whole v n l f old q r new g)
+        ∙ sym (unless-none _ tt (filledGraph (pointsOfTable v l) n (pairIn f) old) old (sound-none 0 found e h))

@@ -1,6 +1,7 @@
 //! Faults of an input, one by one and any two at once.
 
 use crate::lent::Answered;
+use crate::lives::FIELDS;
 use crate::plans::Input;
 use crate::sheets::{Lengths, TABLES};
 use crate::Cases;
@@ -10,7 +11,7 @@ use reference::random::move_points;
 use reference::sheet::{
     length, offset_of_pair, offset_of_shuffle, offsets, points_field, OFFSET_OF_POINTS, START,
 };
-use reference::{Points, Pool, MOST_FLOOR};
+use reference::{Live, Pair, Points, Pool, MOST_FLOOR};
 
 /// Something that makes an input faulty, unless another fault undoes it.
 pub struct Fault<T> {
@@ -39,11 +40,26 @@ impl<T: Clone + 'static> Faults<T> {
         &self,
         sound: &T,
         cases: &mut Cases,
+        answered: impl FnMut(&T) -> Answered,
+    ) -> Result<(), String> {
+        self.some_two(sound, 1, cases, answered)
+    }
+
+    /// Tries a sound input, then with each fault by itself, which is put in
+    /// twice, and with one of so many twos after each other.
+    pub fn some_two(
+        &self,
+        sound: &T,
+        one_of: usize,
+        cases: &mut Cases,
         mut answered: impl FnMut(&T) -> Answered,
     ) -> Result<(), String> {
         cases.add(answered(sound)?);
-        for first in &self.0 {
-            for second in &self.0 {
+        for (i, first) in self.0.iter().enumerate() {
+            for (j, second) in self.0.iter().enumerate() {
+                if i != j && (i + j * j) % one_of != 0 {
+                    continue;
+                }
                 let mut input = sound.clone();
                 (first.apply)(&mut input);
                 (second.apply)(&mut input);
@@ -57,7 +73,7 @@ impl<T: Clone + 'static> Faults<T> {
 }
 
 /// Numbers of pairs that are too great, some of them so that a square wraps.
-const TOO_MANY: [usize; 5] = [MOST_PAIRS + 1, 1 << 16, 1 << 32, 1 << 63, usize::MAX];
+pub const TOO_MANY: [usize; 5] = [MOST_PAIRS + 1, 1 << 16, 1 << 32, 1 << 63, usize::MAX];
 
 /// Floors that are too high: by one; such as would pass if bits were lost or a
 /// sign were seen; and the greatest numbers.
@@ -126,7 +142,7 @@ fn some_of(n: usize) -> Vec<usize> {
 }
 
 /// Puts an entry, if the table reaches so far.
-fn put<T>(table: &mut [T], at: usize, entry: T) {
+pub fn put<T>(table: &mut [T], at: usize, entry: T) {
     if let Some(old) = table.get_mut(at) {
         *old = entry;
     }
@@ -519,6 +535,206 @@ pub fn of_planning(sound: &Input) -> Faults<Input> {
                 });
             }
         }
+    }
+    faults
+}
+
+/// A live pool that is to be started, and with what.
+#[derive(Clone)]
+pub struct Starting {
+    /// The pool.
+    pub live: Live,
+    /// The points.
+    pub given: Points,
+}
+
+/// Faults of starting a live pool. What it held before is none, whatever it
+/// was.
+pub fn of_starting() -> Faults<Starting> {
+    let mut faults = Faults(Vec::new());
+    // The last of these are no faults, and must hide none.
+    for points in WRONG_POINTS.into_iter().chain(LAST_POINTS) {
+        faults.add(
+            format!("{points:?} are given"),
+            move |input: &mut Starting| input.given = Points::of(&points),
+        );
+        faults.add(format!("{points:?} are stored"), move |input| {
+            for (stored, point) in input.live.points.iter_mut().zip(points) {
+                *stored = point;
+            }
+        });
+    }
+    for length in 0..COUNT + 3 {
+        faults.add(format!("points have {length}"), move |input| {
+            input.live.points.resize(length, 77)
+        });
+    }
+    for count in TOO_MANY.into_iter().chain([0, 1, MOST_PAIRS]) {
+        faults.add(format!("a count of {count}"), move |input| {
+            input.live.count = count
+        });
+    }
+    faults
+}
+
+/// Cuts one of a live pool's field tables off at an end.
+type CutLive = fn(&mut Live, usize);
+
+const CUTS: [(&str, CutLive); FIELDS] = [
+    ("ids", |live, end| live.ids.truncate(end)),
+    ("donor_blood", |live, end| live.donor_bloods.truncate(end)),
+    ("patient_blood", |live, end| {
+        live.patient_bloods.truncate(end)
+    }),
+    ("donor_age", |live, end| live.donor_ages.truncate(end)),
+    ("patient_age", |live, end| live.patient_ages.truncate(end)),
+    ("donor_antigens", |live, end| {
+        live.donor_antigens.truncate(end)
+    }),
+    ("patient_antigens", |live, end| {
+        live.patient_antigens.truncate(end)
+    }),
+    ("patient_antibodies", |live, end| {
+        live.patient_antibodies.truncate(end)
+    }),
+];
+
+/// Lengths that are too short for `one_more` entries, some of them for `least`
+/// too: none, one less than `least`, `least`, and one less than `one_more`.
+fn about(least: usize, one_more: usize) -> Vec<usize> {
+    let mut lengths = vec![0, least.saturating_sub(1), least, one_more - 1];
+    lengths.sort();
+    lengths.dedup();
+    lengths
+}
+
+/// Faults of a live pool of `n` pairs, whose tables just hold one more. Some are
+/// none, or none for one of the calls, and must hide none.
+fn of_live(n: usize) -> Faults<Live> {
+    let mut faults = Faults(Vec::new());
+    let near = [0, n.saturating_sub(1), n + 1, n + 2, MOST_PAIRS];
+    for count in TOO_MANY.into_iter().chain(near) {
+        faults.add(format!("a count of {count}"), move |live: &mut Live| {
+            live.count = count
+        });
+    }
+    for (table, cut) in CUTS {
+        for short in about(n, n + 1) {
+            faults.add(format!("{table} has {short}"), move |live| cut(live, short));
+        }
+    }
+    for short in about(n * n, (n + 1) * (n + 1)) {
+        faults.add(format!("M has {short}"), move |live| live.m.truncate(short));
+        faults.add(format!("W has {short}"), move |live| live.w.truncate(short));
+    }
+    for length in shorter(COUNT).into_iter().chain([COUNT + 2]) {
+        faults.add(format!("points have {length}"), move |live| {
+            live.points.resize(length, 0)
+        });
+    }
+    for points in WRONG_POINTS.into_iter().chain(LAST_POINTS) {
+        faults.add(format!("points are {points:?}"), move |live| {
+            for (stored, point) in live.points.iter_mut().zip(points) {
+                *stored = point;
+            }
+        });
+    }
+    // The first past the count too, which is not looked at.
+    for i in some_of(n).into_iter().chain([n]) {
+        for above in [1, 200] {
+            let (blood, age) = (MOST_BLOOD + above, MOST_AGE + above);
+            faults.add(format!("donor {i} has blood {blood}"), move |live| {
+                put(&mut live.donor_bloods, i, blood)
+            });
+            faults.add(format!("patient {i} has blood {blood}"), move |live| {
+                put(&mut live.patient_bloods, i, blood)
+            });
+            faults.add(format!("donor {i} has age {age}"), move |live| {
+                put(&mut live.donor_ages, i, age)
+            });
+            faults.add(format!("patient {i} has age {age}"), move |live| {
+                put(&mut live.patient_ages, i, age)
+            });
+        }
+        for j in some_of(n).into_iter().chain([n]).filter(move |&j| j > i) {
+            faults.add(format!("pair {j} has the id of {i}"), move |live| {
+                if let Some(&id) = live.ids.get(i) {
+                    put(&mut live.ids, j, id);
+                }
+            });
+        }
+    }
+    faults.add("M is full".to_string(), |live| live.m.fill(u8::MAX));
+    faults.add("W is full".to_string(), |live| live.w.fill(u16::MAX));
+    faults
+}
+
+/// A live pool, and a pair that is to be registered there.
+#[derive(Clone)]
+pub struct Registering {
+    /// The pool.
+    pub live: Live,
+    /// The pair.
+    pub pair: Pair,
+}
+
+/// Faults of registering in a live pool of `n` pairs, whose tables just hold one
+/// more.
+pub fn of_registering(n: usize) -> Faults<Registering> {
+    let mut faults = Faults(Vec::new());
+    faults.add_of("", |input: &mut Registering| &mut input.live, of_live(n));
+    for above in [1, 200] {
+        let (blood, age) = (MOST_BLOOD + above, MOST_AGE + above);
+        faults.add(format!("the donor has blood {blood}"), move |input| {
+            input.pair.donor_blood = blood
+        });
+        faults.add(format!("the patient has blood {blood}"), move |input| {
+            input.pair.patient_blood = blood
+        });
+        faults.add(format!("the donor has age {age}"), move |input| {
+            input.pair.donor_age = age
+        });
+        faults.add(format!("the patient has age {age}"), move |input| {
+            input.pair.patient_age = age
+        });
+    }
+    for i in some_of(n) {
+        faults.add(format!("the id is that of {i}"), move |input| {
+            if let Some(&id) = input.live.ids.get(i) {
+                input.pair.id = id;
+            }
+        });
+    }
+    // No fault: the count does not reach so far.
+    faults.add(format!("the id stands at {n} already"), move |input| {
+        put(&mut input.live.ids, n, input.pair.id)
+    });
+    faults
+}
+
+/// A live pool, and an id that is to be withdrawn.
+#[derive(Clone)]
+pub struct Withdrawing {
+    /// The pool.
+    pub live: Live,
+    /// The id.
+    pub id: u32,
+}
+
+/// Faults of withdrawing from a live pool of `n` pairs, whose tables just hold
+/// one more and have that id past the count. `strange` is no pair's.
+pub fn of_withdrawing(n: usize, strange: u32) -> Faults<Withdrawing> {
+    let mut faults = Faults(Vec::new());
+    faults.add_of("", |input: &mut Withdrawing| &mut input.live, of_live(n));
+    faults.add("the id is no pair's".to_string(), move |input| {
+        input.id = strange
+    });
+    for i in some_of(n).into_iter().chain([n]) {
+        faults.add(format!("the id is that of {i}"), move |input| {
+            if let Some(&id) = input.live.ids.get(i) {
+                input.id = id;
+            }
+        });
     }
     faults
 }

@@ -3,15 +3,19 @@
 //! through all of them.
 
 use crate::faults::{
-    of_fields, of_joining, of_planning, of_reading, Fields, Joining, Reading, LAST_POINTS,
-    TOO_HIGH, WRONG_POINTS,
+    of_fields, of_joining, of_planning, of_reading, of_registering, of_starting, of_withdrawing,
+    Fields, Joining, Reading, Registering, Starting, Withdrawing, LAST_POINTS, TOO_HIGH,
+    WRONG_POINTS,
 };
 use crate::lent::{same, Answered, Outcome};
+use crate::lists::listed;
+use crate::lives::{sound, Kept};
 use crate::plans::{made, plans, prints, prints_refusal, weights, Input};
 use crate::sheets::{
     builds, enough, joins, lend, more, reads, there_and_back, writes, Lengths, TABLES,
 };
 use crate::Cases;
+use reference::live;
 use reference::points::COUNT;
 use reference::pool::MOST_PAIRS;
 use reference::printout::{self, Printed};
@@ -21,7 +25,8 @@ use reference::random::{
 };
 use reference::sheet::{self, length};
 use reference::{
-    best, best_above, build_pool, Plan, Points, Pool, Reason, Room, Tables, Tally, MOST_FLOOR,
+    best, best_above, build_pool, Live, Pair, Plan, Points, Pool, Reason, Room, Tables, Tally,
+    MOST_FLOOR,
 };
 
 /// Trials of one sort.
@@ -37,7 +42,7 @@ pub struct Group {
 }
 
 /// All groups.
-pub const ALL: [Group; 18] = [
+pub const ALL: [Group; 22] = [
     Group {
         name: "plans",
         trials: SIZES * KINDS * 3,
@@ -115,6 +120,12 @@ pub const ALL: [Group; 18] = [
         run: joined_sheets,
     },
     Group {
+        name: "live-pools",
+        trials: 4_000,
+        due: &[0, 4, 6, 7, 9, 12, 14, 16],
+        run: listed,
+    },
+    Group {
         name: "faults-of-reading",
         trials: 4 * REGISTRIES,
         due: &[0, 1, 2, 3, 4, 5, 6, 7, 8, 9, 14],
@@ -145,6 +156,24 @@ pub const ALL: [Group; 18] = [
         run: faults_of_planning,
     },
     Group {
+        name: "faults-of-starting",
+        trials: 3,
+        due: &[0, 9, 14],
+        run: faults_of_starting,
+    },
+    Group {
+        name: "faults-of-registering",
+        trials: FAULTY_LIVE.len() as u64 * 2,
+        due: &[0, 4, 6, 7, 9, 12, 14],
+        run: faults_of_registering,
+    },
+    Group {
+        name: "faults-of-withdrawing",
+        trials: FAULTY_LIVE.len() as u64 * 2,
+        due: &[0, 4, 9, 14, 16],
+        run: faults_of_withdrawing,
+    },
+    Group {
         name: "printed-plans",
         trials: 600,
         due: &[0, 9],
@@ -159,7 +188,7 @@ pub const ALL: [Group; 18] = [
     Group {
         name: "safe-crate",
         trials: 2_000,
-        due: &[0, 1, 2, 3, 4, 5, 6, 7, 8, 11, 12, 13, 14, 15],
+        due: &[0, 1, 2, 3, 4, 5, 6, 7, 8, 11, 12, 13, 14, 15, 16],
         run: safe_crate,
     },
 ];
@@ -389,7 +418,7 @@ fn sheet_with(pool: &Pool, points: Points) -> Vec<u8> {
 }
 
 /// Points that pass or do not, often at their limits.
-fn any_points(random: &mut Random) -> Points {
+pub fn any_points(random: &mut Random) -> Points {
     match random.below(4) {
         0 => Points::of(&random.one_of(&WRONG_POINTS)),
         1 => Points::of(&random.one_of(&LAST_POINTS)),
@@ -724,6 +753,62 @@ fn faults_of_planning(seed: u64, random: &mut Random, cases: &mut Cases) -> Resu
     })
 }
 
+/// Sizes of live pools for any two faults; of the greatest, one two of so many,
+/// as there are many entries.
+const FAULTY_LIVE: [usize; 7] = [0, 1, 2, 3, 4, 7, MOST_PAIRS];
+const ONE_OF_THE_GREATEST: usize = 11;
+
+/// The size of that trial's pool, and of how many twos it tries one.
+fn faulty_live(seed: u64) -> (usize, usize) {
+    match FAULTY_LIVE[(seed % FAULTY_LIVE.len() as u64) as usize] {
+        MOST_PAIRS => (MOST_PAIRS, ONE_OF_THE_GREATEST),
+        n => (n, 1),
+    }
+}
+
+fn faults_of_starting(_: u64, random: &mut Random, cases: &mut Cases) -> Result<(), String> {
+    let n = random.below(4);
+    let sound = Starting {
+        live: sound_live(random, n).0,
+        given: points(random),
+    };
+    of_starting().any_two(&sound, cases, |input| {
+        Kept::of(random, input.live.clone()).start(input.given)
+    })
+}
+
+/// A live pool of `n` pairs in tables for one more, and two pairs that it does
+/// not hold. What lies past the count is any.
+fn sound_live(random: &mut Random, n: usize) -> (Live, [Pair; 2]) {
+    let kind = random.one_of(&PoolKind::ALL);
+    let pool = plain_pool(random, n + 2, kind);
+    let pair = |i| Pair::of(&pool, i);
+    let pairs: Vec<Pair> = (0..n).map(pair).collect();
+    let registry = points(random);
+    let live = sound(random, registry, &pairs);
+    (live, [pair(n), pair(n + 1)])
+}
+
+fn faults_of_registering(seed: u64, random: &mut Random, cases: &mut Cases) -> Result<(), String> {
+    let (n, one_of) = faulty_live(seed);
+    let (live, [pair, _]) = sound_live(random, n);
+    let sound = Registering { live, pair };
+    of_registering(n).some_two(&sound, one_of, cases, |input| {
+        Kept::of(random, input.live.clone()).register(input.pair)
+    })
+}
+
+fn faults_of_withdrawing(seed: u64, random: &mut Random, cases: &mut Cases) -> Result<(), String> {
+    let (n, one_of) = faulty_live(seed);
+    let (mut live, [stale, strange]) = sound_live(random, n);
+    live.ids[n] = stale.id;
+    let id = live.ids[random.below(n.max(1))];
+    let sound = Withdrawing { live, id };
+    of_withdrawing(n, strange.id).some_two(&sound, one_of, cases, |input| {
+        Kept::of(random, input.live.clone()).withdraw(input.id)
+    })
+}
+
 /// A number with any number of bits.
 fn any_number(random: &mut Random) -> u64 {
     random.bits() >> random.below(64)
@@ -791,9 +876,9 @@ const MANY: usize = 1 << 62;
 
 /// The refusals that there are, and other numbers.
 fn printed_refusals(seed: u64, random: &mut Random, cases: &mut Cases) -> Result<(), String> {
-    let number = match seed % 18 {
-        number @ 0..=15 => number as u32,
-        16 => u32::MAX,
+    let number = match seed % 19 {
+        number @ 0..=16 => number as u32,
+        17 => u32::MAX,
         _ => any_number(random) as u32,
     };
     let place = match random.below(4) {
@@ -846,9 +931,64 @@ fn safely_above(random: &mut Random, pool: &vadivuzhen::Pool) -> Answered {
     Ok(number)
 }
 
+/// A live pool kept by the safe crate, which lends the tables itself: a few
+/// pairs come and go, and at last it is written and planned.
+fn safely_lived(random: &mut Random, cases: &mut Cases) -> Outcome {
+    let pool = any_pool(random, 8);
+    let read = vadivuzhen::Pool::read(&sheet_of(&pool)).map_err(|refused| refused.to_string())?;
+    let pairs: Vec<vadivuzhen::Pair> = read.pairs().collect();
+    let given = any_points(random);
+    let safely = vadivuzhen::LivePool::start(given.table().into());
+    let started = live::start(&Live::zeros(pool.len()), given);
+    let answer = safely.as_ref().map(|_| ()).map_err(|refused| *refused);
+    cases.add(safely_answered(answer, started.as_ref().err())?);
+    let (Ok(mut safely), Ok(mut state)) = (safely, started) else {
+        return Ok(());
+    };
+
+    for _ in 0..20 {
+        let i = random.below(pool.len());
+        let (answer, left) = if random.chance(1, 3) {
+            let id = pool.ids[i];
+            (safely.withdraw(id), live::withdraw(&state, id))
+        } else {
+            let pair = Pair::of(&pool, i);
+            (safely.register(pairs[i]), live::register(&state, pair))
+        };
+        cases.add(safely_answered(answer, left.as_ref().err())?);
+        state = left.unwrap_or(state);
+        let (n, square) = (state.count, state.count * state.count);
+        same("ids, safely", safely.ids(), &state.ids[..n])?;
+        same("M, safely", safely.compatibilities(), &state.m[..square])?;
+        same("W, safely", safely.weights(), &state.w[..square])?;
+    }
+
+    let mut held = live::pool_of(given, &state.pairs());
+    held.shuffle = random.shuffle(state.count);
+    let sheet = sheet_of(&held);
+    let printed = safely.plan(&held.shuffle).map(|plan| plan.print());
+    same("the printout", printed, Ok(printout::program(&sheet)))?;
+    same("the sheet", safely.write(&held.shuffle), Ok(sheet))
+}
+
+/// The number of the refusal that a call of the safe crate gives, 0 for none,
+/// which must be this one, with place 0.
+fn safely_answered(answer: Result<(), vadivuzhen::Refused>, due: Option<&Reason>) -> Answered {
+    let refused = answer
+        .err()
+        .map(|refused| (refused.why.number(), refused.place));
+    same(
+        "the answer",
+        refused,
+        due.map(|reason| (reason.number().into(), 0)),
+    )?;
+    Ok(due.map_or(0, |reason| reason.number()))
+}
+
 /// Sheets through the safe crate, from the bytes to the printout.
 fn safe_crate(_: u64, random: &mut Random, cases: &mut Cases) -> Result<(), String> {
     safely_joined(random, cases)?;
+    safely_lived(random, cases)?;
     let (_, sheet) = any_sheet(random);
     let (number, text) = match reference::read(&sheet) {
         Ok(pool) if pool.len() > 40 => return Ok(()),

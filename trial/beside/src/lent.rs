@@ -55,6 +55,12 @@ impl Entry for u64 {
     }
 }
 
+impl Entry for usize {
+    fn any(random: &mut Random) -> usize {
+        random.bits() as usize
+    }
+}
+
 impl Entry for Cycle {
     fn any(random: &mut Random) -> Cycle {
         Cycle {

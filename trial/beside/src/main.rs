@@ -9,6 +9,8 @@
 mod faults;
 mod groups;
 mod lent;
+mod lists;
+mod lives;
 mod plans;
 mod sheets;
 

@@ -303,6 +303,32 @@ pub fn builds(random: &mut Random, n: usize, pool: &Pool, m: usize, w: usize) ->
     }
 }
 
+/// M and W that the library builds of what it reads in this sheet, which is of
+/// version 2 and has `n` pairs.
+pub fn built_of_sheet(
+    random: &mut Random,
+    bytes: &[u8],
+    n: usize,
+) -> Result<(Vec<u8>, Vec<u16>), String> {
+    let lengths = Lengths {
+        points: COUNT,
+        tables: [n; TABLES],
+    };
+    let mut read = Tables::empty(random, lengths);
+    let answer = raw::read(bytes, read.fill());
+    let expected = ReadAnswer {
+        version: 2,
+        pairs: n,
+        ..ReadAnswer::default()
+    };
+    same("the answer of reading", answer, expected)?;
+    let (mut m, mut w) = (vec![0; n * n], vec![0; n * n]);
+    let points = read.points.read();
+    let answer = raw::build(2, n, points, read.read(), &mut m, &mut w);
+    same("the answer of building", answer, BuildAnswer { refusal: 0 })?;
+    Ok((m, w))
+}
+
 /// A pool is written and read back, and its sheet read and written again, by
 /// the library alone.
 pub fn there_and_back(random: &mut Random, pool: &Pool) -> Outcome {

@@ -1,0 +1,63 @@
+-- What starting, registering and withdrawing refuse, in which order; every refusal has place 0. Assumes nothing.
+use Prim.Native.Nat.{ℕ, _+_, _*_}
+use mathlib.Core.Bool.{not}
+use mathlib.Core.List.{List}
+use lib.ListN.{length}
+use lib.Dec.{eqb, ltb}
+use Rattle.laws.specs.Below.{anyBelow}
+use Rattle.refusal.specs.Fault.{Fault, refuse, _then_, firstBelow}
+use Rattle.pool.specs.Pool.{Pair}
+use Rattle.pool.specs.Points.{Points, registryPoints}
+use Rattle.pool.specs.Tables.{fieldRoom, pointsOfTable}
+use Rattle.pool.specs.Faults.{groupFault, idFault, pointsFault, roomFault, tablesFault}
+use Rattle.live.specs.Live.{Live, liveVersion, pairOf}
+
+-- "Starting refuses 14, then 9 where the points don't fit their lent table", of so many entries
+unfoldable pub startFault : Points → ℕ → Fault
+startFault given points = pointsFault 0 given then roomFault points registryPoints
+
+-- 9 where n rows of n don't fit M or W, of so many entries
+unfoldable pub graphFault : ℕ → ℕ → ℕ → Fault
+graphFault n compatibilities weights = roomFault compatibilities (n * n) then roomFault weights (n * n)
+
+-- "Both calls refuse 4 for a lent count above 200, 9 where a lent table can't hold that count or the points, then 14": n is the count, `space` the entries of
+-- the shortest table of the fields, the next two those of M and W
+unfoldable pub keptFault : ℕ → ℕ → ℕ → ℕ → List ℕ → Fault
+keptFault n space compatibilities weights points =
+    refuse 4 0 (ltb 200 n)
+    then tablesFault liveVersion n space points
+    then graphFault n compatibilities weights
+    then pointsFault 0 (pointsOfTable liveVersion points)
+
+-- "6 over all pairs, stored ones and the new one"
+abbrev pub groupsFault : Pair → Fault
+groupsFault q = groupFault 0 (q .donorBlood) (q .patientBlood) (q .donorAge) (q .patientAge)
+
+unfoldable pub rangeFault : ℕ → (ℕ → Pair) → Pair → Fault
+rangeFault n stored new = firstBelow n (λ i. groupsFault (stored i)) then groupsFault new
+
+-- "then 7 over them"
+unfoldable pub likeFault : ℕ → (ℕ → Pair) → Pair → Fault
+likeFault n stored new = firstBelow n (idFault 0 (λ j. stored j .id)) then refuse 7 0 (anyBelow n (λ j. eqb (stored j .id) (new .id)))
+
+-- "12 at 200 pairs, and 9 where one more doesn't fit"
+unfoldable pub moreFault : ℕ → ℕ → ℕ → ℕ → Fault
+moreFault n space compatibilities weights =
+    refuse 12 0 (eqb n 200) then roomFault space (n + 1) then graphFault (n + 1) compatibilities weights
+
+-- ## The calls, on the pool l
+
+abbrev pub storedFault : Live → Fault
+storedFault l =
+    keptFault (l .count) (fieldRoom (l .fields)) (length (l .graph .compatibilities)) (length (l .graph .weights)) (l .points)
+
+unfoldable pub registerFault : Pair → Live → Fault
+registerFault p l =
+    storedFault l
+    then rangeFault (l .count) (pairOf l) p
+    then likeFault (l .count) (pairOf l) p
+    then moreFault (l .count) (fieldRoom (l .fields)) (length (l .graph .compatibilities)) (length (l .graph .weights))
+
+-- "withdrawing refuses 16 where the id isn't in the pool"
+unfoldable pub withdrawFault : ℕ → Live → Fault
+withdrawFault id l = storedFault l then refuse 16 0 (not (anyBelow (l .count) (λ j. eqb (pairOf l j .id) id)))

@@ -1,0 +1,66 @@
+-- What registering answers and leaves, by what was found. Assumes nothing.
+use mathlib.Core.Path.{_≡_, sym, ap, ap₂, _∙_}
+use mathlib.Core.List.{List}
+use Prim.Native.Nat.{ℕ, _+_, _≤_, _<_}
+use lib.ListN.{length}
+use Rattle.refusal.specs.Fault.{_then_}
+use Rattle.refusal.specs.Answer.{outcome}
+use Rattle.refusal.specs.Number.{numberOf, faultAt}
+use Rattle.refusal.specs.declared.Refusal.{Refusal}
+use Rattle.refusal.specs.declared.Verdict.{Verdict}
+use Rattle.refusal.specs.declared.Verdict.the-variants.{Sound, Faulty}
+use Rattle.refusal.proofs.Faults.{sound-none, faulty-fault, unless-none, unless-fault}
+use Rattle.pool.specs.Pool.{Pair}
+use Rattle.pool.specs.Points.{Points}
+use Rattle.pool.specs.Tables.{Fields, fieldRoom, pairIn}
+use Rattle.graph.specs.Graph.{Graph, filledGraph}
+use Rattle.graph.specs.Preconditions.{Buildable}
+use Rattle.weighing.proofs.Promised.{idless, buildable, filled-whole}
+use Rattle.live.specs.Live.{Live, live, liveVersion, weighedBy, pairOf}
+use Rattle.live.specs.Faults.{keptFault, rangeFault, likeFault, moreFault, registerFault}
+use Rattle.live.specs.Calls.{withPair, registered, registering}
+use Rattle.live.specs.Answers.{answerOf}
+use Rattle.live.specs.declared.Change.the-variants.{Done, Refused}
+use Rattle.live.specs.Faultless.{Registrable}
+use Rattle.live.proofs.Faults.{register-passed}
+use Rattle.live.proofs.Promised.{new-faultless}
+
+-- ## A pair that is added: f is what is left of the fields, q what the pool is weighed by
+
+module _ (p : Pair) (l : Live) (f : Fields) (stored : f ≡ withPair (l .count) p (l .fields)) (q : Points) (r : q ≡ weighedBy l) where
+  pub add-buildable : Registrable p l → Buildable q (l .count + 1) (idless f) (l .graph)
+  add-buildable w =
+      rw stored
+      (buildable liveVersion (l .count + 1) (l .points) (withPair (l .count) p (l .fields)) (l .graph) q r (new-faultless p l w) (w .more .graph))
+
+  pub is-added : (g : Graph) → g ≡ filledGraph q (l .count + 1) (pairIn (idless f)) (l .graph)
+      → live (l .count + 1) (l .points) f g ≡ registered p l
+  unfolding registered
+  is-added g k =
+      ap₂ (live (l .count + 1) (l .points)) stored
+      (filled-whole liveVersion (l .count + 1) (l .points) f (l .graph) q r g k
+      ∙ ap (λ (x : Fields). filledGraph (weighedBy l) (l .count + 1) (pairIn x) (l .graph)) stored)
+
+-- ## The call, by what `judge` found in tables of which the shortest has `space` entries
+
+module _ (p : Pair) (l : Live) (space : ℕ) (s : space ≡ fieldRoom (l .fields)) (found : Verdict)
+    (e : faultAt 0 found
+    ≡ (keptFault (l .count) space (length (l .graph .compatibilities)) (length (l .graph .weights)) (l .points)
+    then rangeFault (l .count) (pairOf l) p
+    then likeFault (l .count) (pairOf l) p
+    then moreFault (l .count) space (length (l .graph .compatibilities)) (length (l .graph .weights)))) where
+  whole : faultAt 0 found ≡ registerFault p l
+  unfolding registerFault
+  whole = rw (← s) e
+
+  pub call-refused : (why : Refusal) → found ≡ Faulty why → outcome (answerOf (Refused why)) l ≡ registering p l
+  unfolding registering answerOf
+  call-refused why h = sym (unless-fault _ tt (registered p l) l (numberOf why) 0 (faulty-fault 0 found whole why h))
+
+  module _ (h : found ≡ Sound) where
+    pub call-registrable : Registrable p l
+    call-registrable = register-passed p l (sound-none 0 found whole h)
+
+    pub call-registered : (new : Live) → new ≡ registered p l → outcome (answerOf Done) new ≡ registering p l
+    unfolding registering answerOf
+    call-registered new k = ap (outcome (answerOf Done)) k ∙ sym (unless-none _ tt (registered p l) l (sound-none 0 found whole h))

@@ -1,0 +1,53 @@
+-- `registering::add` meets its contract. Assumes nothing.
+use native.Mathlib.Omega.{arith}
+use borrow.Author.Needs.{needs}
+use Rattle.pool.specs.Points.{hasPoints, pointsOf}
+use Rattle.points.specs.Named.{named}
+use Rattle.registering.proofs.Answered.{add-buildable, is-added}
+use Rattle.registering.proofs.add.Statement.{statement}
+use Rattle.registering.proofs.add.Tie as tie
+
+-- moments, each seen from a later one: the start, before the pair's fields were put; these put; the points read
+abbrev start-of : tie.After-put-pair → tie.Start
+start-of c = c .before .before .before .before .before .before .before .before .before .before .before .before .before .before .before .before .before .before .before .before
+
+abbrev put-before : tie.After-own → tie.After-put-pair
+put-before c = c .before .before .before .before .before .before .before .before .before .before .before .before .before .before .before .before .before
+
+abbrev own-before : tie.After-fill → tie.After-own
+own-before c = c .before .before .before .before .before .before .before .before .before .before
+
+abbrev filled : tie.After-slice-known20 → tie.After-fill
+filled c = c .before .before .before .before
+
+own-requires : tie.Need-own-requires
+own-requires c κs = start-of (c .before .before .before .before .before .before .before .before .before .before .before .before .before .before .before .before) .pre .kept .keep .points
+
+add-fill : tie.Need-add-fill
+add-fill c = omega (arith, start-of (put-before c) .pre .room)
+
+fill-requires : tie.Need-fill-requires
+unfolding pointsOf hasPoints
+fill-requires c κs =
+    let o = c .before .before .before .before .before .before .before .before .before in
+    let p = put-before o in
+    add-buildable _ _ _ (p .put-pair .ensures) (named (o .own .result)) (o .own .ensures) (start-of p .pre)
+
+returns : tie.Need-returns
+unfolding pointsOf hasPoints
+returns c =
+    let f = filled c in
+    let o = own-before f in
+    is-added _ _ _ (put-before o .put-pair .ensures) (named (o .own .result)) (o .own .ensures) _ (f .fill .ensures)
+
+pub add-spec : {M : Type 1} → statement M
+add-spec =
+    tie.close
+    (tie.spec (λ c κs. search needs) own-requires add-fill fill-requires (λ c. put-before (own-before (filled c)) .put-pair .kept .1 .0)
+    (λ c. put-before (own-before (filled c)) .put-pair .kept .1 .1 .0) (λ c. put-before (own-before (filled c)) .put-pair .kept .1 .1 .1 .0)
+    (λ c. put-before (own-before (filled c)) .put-pair .kept .1 .1 .1 .1 .0)
+    (λ c. put-before (own-before (filled c)) .put-pair .kept .1 .1 .1 .1 .1 .0)
+    (λ c. put-before (own-before (filled c)) .put-pair .kept .1 .1 .1 .1 .1 .1 .0)
+    (λ c. put-before (own-before (filled c)) .put-pair .kept .1 .1 .1 .1 .1 .1 .1 .0)
+    (λ c. put-before (own-before (filled c)) .put-pair .kept .1 .1 .1 .1 .1 .1 .1 .1 .0)
+    (λ c. filled c .fill .kept .1 .1 .1 .1 .1 .1 .1 .1 .1 .0) (λ c. filled c .fill .kept .1 .1 .1 .1 .1 .1 .1 .1 .1 .1 .0) returns)

@@ -1,0 +1,2 @@
+-- `Preconditions`: what the steps ask of their tables.
+pub mod Preconditions

@@ -1,0 +1,2 @@
+-- `Preconditions`: what taking a pair out asks of the tables.
+pub mod Preconditions
