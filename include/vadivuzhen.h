@@ -11,8 +11,9 @@
  * What the caller owes:
  *   - A table or buffer is a pointer and then its length in elements. The pointer is aligned and has that many elements behind it, all of them
  *     initialized, those to be filled too. It is not null, also where the length is 0.
- *   - The count of a live pool is lent as a pointer alone. It is aligned, not null, and the number behind it is initialized.
- *   - A table or buffer that a call may fill overlaps, over its whole length, no other that is lent to that call, nor the count.
+ *   - The count of a live pool is lent as a pointer alone. It is aligned, not null, the number behind it is initialized, and it overlaps nothing else that
+ *     is lent to that call.
+ *   - A table or buffer that a call may fill overlaps, over its whole length, no other that is lent to that call.
  *
  * Memory: a refusal leaves all lent memory as it was. A call that finishes fills the stated number of elements from each table's start and changes
  * nothing past them. So tables may be longer than they need to be. The library allocates nothing and keeps nothing from call to call; calls on
@@ -218,11 +219,11 @@ VADIVUZHEN_ANSWERS struct vadivuzhen_build_answer vadivuzhen_build(
 /* A live pool is the caller's, from call to call: a count, which is one number; a table of VADIVUZHEN_POINTS points; the eight tables of the pairs' fields;
  * and M and W. With the count at N, the pairs stand in the first N entries of each table of the fields, in order of registration, and M and W are N rows
  * of N, with the entry for donor i and patient j at i * N + j: what vadivuzhen_build gives for these pairs and points in version 2, and what
- * vadivuzhen_plan takes. As the length of a row changes with the count, each call that finishes moves the rows. There is no shuffle: it is drawn
- * for a match, and vadivuzhen_write makes a sheet of version 2 of the pool with it.
+ * vadivuzhen_plan takes. As the length of a row changes with the count, a pair that registers or withdraws changes where every entry stands. There is no
+ * shuffle: it is drawn for a match, and vadivuzhen_write makes a sheet of version 2 of the pool with it.
  *
  * Tables of VADIVUZHEN_MOST_PAIRS entries, and M and W of VADIVUZHEN_ENTRIES(VADIVUZHEN_MOST_PAIRS), always suffice. They may be shorter, with room for
- * fewer pairs, and may be moved between calls to longer ones. What they hold past the count's entries does not matter, and stays as it is: after a
+ * fewer pairs. What they hold past the count's entries does not matter, and stays as it is: after a
  * withdrawal the last pair's fields, and the last entries of the former M and W, are still there, past the new count.
  *
  * Proved, for every list of registrations and withdrawals after a finished start, refused ones among them, where nothing else changes the tables or the

@@ -739,7 +739,7 @@ static int refused_first(enum fault one, enum fault other, int registers)
 {
     for (size_t way = 0; way < ways[one]; way++)
         for (size_t other_way = 0; other_way < ways[other]; other_way++) {
-            size_t n = one == ABOVE ? ROOM : one == FULL || other == FULL ? VADIVUZHEN_MOST_PAIRS : 3;
+            size_t n = one == ABOVE || one == FULL || other == FULL ? VADIVUZHEN_MOST_PAIRS : 3;
             struct call call = call_on(n);
             spoil(&call, n, other, one == other ? way : other_way);
             spoil(&call, n, one, way);

@@ -255,6 +255,8 @@ fn refused_withdrawals() {
     let left = withdrawing("11 where it stands twice", 11, |live| live.ids[1] = 11);
     if let Some(left) = left {
         println!("{}", line("ids", &left.ids[..left.count]));
+        // The donor's blood tells the second from the first.
+        println!("{}", line("blood", &left.donor_bloods[..left.count]));
     }
 }
 

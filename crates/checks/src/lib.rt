@@ -1,4 +1,4 @@
-// What two or more of reading, writing, building and planning check alike: 6, 7, 8 and 9 of a pool's tables, and of lent ones 3, 4 and 14 before these.
+// What two or more of reading, writing, building, planning and the calls of a live pool check alike: 6, 7, 8 and 9 of a pool's tables, and of lent ones 3, 4 and 14 before these.
 use refusal::Refusal;
 use refusal::Verdict;
 ghost use mathlib.Core.Path.{_≡_};

@@ -10,14 +10,14 @@ use Rattle.pool.specs.Faults.{groupFault, idFault, pointsFault, roomFault, tabl
 use Rattle.donation.specs.Compatibility.{bloodTable, suits, has, shareBit, compatibility}
 use Rattle.donation.specs.Weight.{mismatches, mismatchPoints, agePoints, weight}
 use Rattle.graph.specs.Graph.{inRows, filledGraph}
-use Rattle.live.specs.Faults.{graphFault, keptFault, rangeFault, likeFault, moreFault, registerFault, withdrawFault}
-use Rattle.live.specs.Calls.{withPair, registered, registering, placeOf, up, withoutEntry, withoutRow, withoutPair, withoutAt, withdrawing}
+use Rattle.live.specs.Faults.{startFault, graphFault, keptFault, rangeFault, likeFault, moreFault, registerFault, withdrawFault}
+use Rattle.live.specs.Calls.{inOrder, starting, withPair, registered, registering, placeOf, up, withoutEntry, withoutRow, withoutPair, withoutAt, withdrawing}
 use Rattle.live.specs.Lists.{does, after, trace, takesOut, withdrawnIn, staying, broughtIn, held}
 use Rattle.live.specs.Examples.{LiveRun}
 
 pub live-run : LiveRun
 unfolding table either anyBelow countBelow one filled stored refuse _then_ firstBelow unless documentPoints hasPoints pointCount pointsOf heaviest fieldRoom pairIn
     groupFault idFault pointsFault roomFault tablesFault bloodTable suits has shareBit compatibility mismatches mismatchPoints agePoints weight inRows
-    filledGraph graphFault keptFault rangeFault likeFault moreFault registerFault withdrawFault withPair registered registering placeOf up withoutEntry
+    filledGraph startFault graphFault keptFault rangeFault likeFault moreFault registerFault withdrawFault inOrder starting withPair registered registering placeOf up withoutEntry
     withoutRow withoutPair withoutAt withdrawing does after trace takesOut withdrawnIn staying broughtIn held
-live-run = record { three = refl; two = refl; moved = refl; answers = refl; ids = refl; holds = refl }
+live-run = record { start = refl; three = refl; two = refl; moved = refl; answers = refl; ids = refl; holds = refl }

@@ -130,21 +130,21 @@ module _ (p : Pair) (l : Live) where
   range-none : AllInRange p l → rangeFault (n l) (pairOf l) p ≡ none
   unfolding rangeFault
   range-none r =
-      none-then _ _ (none-first (n l) (λ i. groupsFault (pairOf l i)) (λ i k. groups-none 0 (pairOf l i) (r .kept i k))) ∙ groups-none 0 p (r .new)
+      none-then _ _ (none-first (n l) (λ i. groupsFault (pairOf l i)) (λ i k. groups-none 0 (pairOf l i) (r .stored i k))) ∙ groups-none 0 p (r .new)
 
   range-passed : rangeFault (n l) (pairOf l) p ≡ none → AllInRange p l
   unfolding rangeFault
   range-passed e =
       let s = then-none _ _ e in
       record {
-        kept = λ i k. groups-passed 0 (pairOf l i) (first-none (n l) (λ i. groupsFault (pairOf l i)) (s .0) i k);
+        stored = λ i k. groups-passed 0 (pairOf l i) (first-none (n l) (λ i. groupsFault (pairOf l i)) (s .0) i k);
         new = groups-passed 0 p (s .1);
       }
 
   range-fault : (P : ℕ → ℕ → Type 0) → ((AllInRange p l → ⊥) → P 6 0) → (k o : ℕ) → rangeFault (n l) (pairOf l) p ≡ fault k o → P k o
   unfolding rangeFault
   range-fault P six =
-      by-then P _ _ (by-first P (n l) (λ i. groupsFault (pairOf l i)) (λ i k _. groups-fault 0 (pairOf l i) P (λ no. six (λ r. no (r .kept i k)))))
+      by-then P _ _ (by-first P (n l) (λ i. groupsFault (pairOf l i)) (λ i k _. groups-fault 0 (pairOf l i) P (λ no. six (λ r. no (r .stored i k)))))
       (λ _. groups-fault 0 p P (λ no. six (λ r. no (r .new))))
 
   abbrev id : ℕ → ℕ
@@ -153,7 +153,7 @@ module _ (p : Pair) (l : Live) where
   like-none : AllUnlike p l → likeFault (n l) (pairOf l) p ≡ none
   unfolding likeFault
   like-none u =
-      none-then _ _ (none-first (n l) (idFault 0 id) (λ i k. id-none 0 id i (λ j h. u .kept i j h k)))
+      none-then _ _ (none-first (n l) (idFault 0 id) (λ i k. id-none 0 id i (λ j h. u .stored i j h k)))
       ∙ none-refuse 7 0 _ (none-any (n l) (λ j. eqb (id j) (p .id)) (λ j k. ne-eqb _ _ (u .new j k)))
 
   like-passed : likeFault (n l) (pairOf l) p ≡ none → AllUnlike p l
@@ -161,14 +161,14 @@ module _ (p : Pair) (l : Live) where
   like-passed e =
       let s = then-none _ _ e in
       record {
-        kept = λ i j h k. id-passed 0 id i (first-none (n l) (idFault 0 id) (s .0) i k) j h;
+        stored = λ i j h k. id-passed 0 id i (first-none (n l) (idFault 0 id) (s .0) i k) j h;
         new = λ j k. eqb-false _ _ (any-none (n l) (λ j. eqb (id j) (p .id)) (refuse-none _ _ _ (s .1)) j k);
       }
 
   like-fault : (P : ℕ → ℕ → Type 0) → ((AllUnlike p l → ⊥) → P 7 0) → (k o : ℕ) → likeFault (n l) (pairOf l) p ≡ fault k o → P k o
   unfolding likeFault
   like-fault P seven =
-      by-then P _ _ (by-first P (n l) (idFault 0 id) (λ i k _. id-fault 0 id i P (λ j h e. seven (λ u. u .kept i j h k e))))
+      by-then P _ _ (by-first P (n l) (idFault 0 id) (λ i k _. id-fault 0 id i P (λ j h e. seven (λ u. u .stored i j h k e))))
       (λ _. by-refuse P 7 0 _
       (λ e. let f = any-found (n l) (λ j. eqb (id j) (p .id)) e in seven (λ u. u .new (f .0) (f .1) (eqb-true _ _ (f .2)))))
 

@@ -8,10 +8,10 @@ use Rattle.laws.specs.Below.{table, Some}
 use Rattle.laws.specs.Lent.{filled}
 use Rattle.laws.proofs.Below.{length-table, getD-table, map-table}
 use Rattle.laws.proofs.Lent.{take-filled}
-use Rattle.refusal.specs.Answer.{finished, Outcome, outcome}
+use Rattle.refusal.specs.Answer.{Answer, finished, Outcome, outcome}
 use Rattle.refusal.proofs.Faults.{unless-none}
 use Rattle.pool.specs.Pool.{Pair, Pool}
-use Rattle.pool.specs.Points.{Points, registryPoints, hasPoints, pointCount}
+use Rattle.pool.specs.Points.{Points, registryPoints, pointsBy, hasPoints, pointCount, pointsOf}
 use Rattle.pool.specs.Sheet.{sheetLength}
 use Rattle.pool.specs.Tables.{Fields, Tables, tables, itemIn, pairIn, pointsOfTable, poolIn, filledFields, filledTables}
 use Rattle.pool.specs.Calls.{Head, head, reading, writing}
@@ -26,13 +26,14 @@ use Rattle.graph.specs.Graph.{Graph, graph, inRows, filledGraph}
 use Rattle.weighing.specs.Building.{building, buildFault}
 use Rattle.weighing.specs.Promises.{FaultlessFields, Fit}
 use Rattle.weighing.proofs.Faults.{build-none}
+use Rattle.weighing.proofs.Promised.{rightly}
 use Rattle.live.specs.Live.{Live, liveVersion, weighedBy, pairOf, pairsOf}
-use Rattle.live.specs.Calls.{registering, up, withoutAt, withdrawing}
+use Rattle.live.specs.Calls.{inOrder, starting, registering, up, withoutAt, withdrawing}
 use Rattle.live.specs.Faultless.{Kept, NoneHas, Registrable, Withdrawable}
 use Rattle.live.specs.Lists.{Call, after, trace, held, staying}
-use Rattle.live.specs.Promises.{Empty, OnASheet, Holds, LiveHolds, HasId, Welcome, AnswersBy, LiveAnswers, MayReturn}
+use Rattle.live.specs.Promises.{Empty, OnASheet, Holds, LiveHolds, startedWith, StartHolds, HasId, Welcome, AnswersBy, LiveAnswers, MayReturn}
 use Rattle.live.proofs.Tables.{rows-cong, past-hold, up-not, up-below, pair-moved}
-use Rattle.live.proofs.Promised.{registering-done, registering-accepts, gone, gone-first, is-without, withdrawing-done, withdrawing-accepts}
+use Rattle.live.proofs.Promised.{rightly-started, starts-empty, registering-done, registering-accepts, gone, gone-first, is-without, withdrawing-done, withdrawing-accepts}
 use Rattle.live.proofs.Lists.{Right, compatibility-moved, weight-moved, empty-right, less-right, other-id, kept-by}
 
 -- ## Building changes nothing
@@ -180,6 +181,7 @@ right-holds ps l w e =
       number = sym (length-table (l .count) (pairOf l)) ∙ ap length e;
       pairs = e;
       built = right-built l w;
+      plannable = rightly liveVersion (l .count) (l .points) (l .fields) (l .graph) (finished tt) (l .graph) (sym (right-built l w)) .plannable refl;
       sheet = λ s out other g once long typed room hold fit. on-a-sheet l w s out other g once long typed room hold fit ps e;
     }
 
@@ -197,7 +199,23 @@ module _ (l : Live) (calls : List Call) (w : Empty l) where
 
 pub live-holds : LiveHolds
 live-holds l calls w =
-    (right-holds _ (after calls l) (list-right l calls w) (list-pairs l calls w), kept-by calls l (empty-right l w (w .none)) .points)
+    let k = kept-by calls l (empty-right l w (w .none)) in
+    record { holds = right-holds _ (after calls l) (list-right l calls w) (list-pairs l calls w); points = k .points; long = k .long }
+
+-- from a finished start on
+six-numbers : (p : ℕ → ℕ) → table registryPoints p ≡ inOrder (pointsBy p)
+unfolding table inOrder
+six-numbers p = refl
+
+pub start-holds : StartHolds
+unfolding pointsOf hasPoints
+start-holds given old f g calls e =
+    let begun = starting given old .lent in
+    let l = startedWith given old f g in
+    let s = starts-empty given old begun f g (starting given old) (rightly-started given old _ refl) (ap (λ (a : Answer (Unit {0})). outcome a begun) e) in
+    let left = live-holds l calls (s .0) in
+    let same : weighedBy (after calls l) ≡ given = ap (λ (t : List ℕ). pointsBy (itemIn t)) (left .points) ∙ s .1 in
+    record { left = left; points = six-numbers (itemIn (after calls l .points)) ∙ ap inOrder same; weighed = same }
 
 -- ## Which calls finish
 
@@ -232,8 +250,8 @@ module _ (l : Live) (w : Right l) where
   welcome-right p h =
       record {
         kept = w .kept;
-        inRange = record { kept = w .inRange; new = h .inRange };
-        unlike = record { kept = w .unlike; new = λ j k e. h .unlike (there-has (p .id) l (record { at = j; below = k; there = e })) };
+        inRange = record { stored = w .inRange; new = h .inRange };
+        unlike = record { stored = w .unlike; new = λ j k e. h .unlike (there-has (p .id) l (record { at = j; below = k; there = e })) };
         room = omega (arith, h .few, length-table (l .count) (pairOf l));
         more = h .room;
       }
@@ -274,8 +292,8 @@ may-return l calls x p w e r same =
     (registering-accepts p left
     (record {
       kept = again .kept;
-      inRange = record { kept = again .inRange; new = r };
-      unlike = record { kept = again .unlike; new = nobody };
+      inRange = record { stored = again .inRange; new = r };
+      unlike = record { stored = again .unlike; new = nobody };
       room = omega (arith, f .below, right .kept .few);
       more =
           record {

@@ -18,7 +18,7 @@ use Rattle.laws.proofs.Lists.{flatMap-append, flatMap-suc}
 use Rattle.refusal.specs.Answer.{Answer, finished, refused, Outcome, outcome}
 use Rattle.pool.specs.Pool.{Pair}
 use Rattle.pool.specs.Points.{Points}
-use Rattle.pool.specs.Tables.{Fields, itemIn, pairIn}
+use Rattle.pool.specs.Tables.{Fields, itemIn, fieldRoom, pairIn}
 use Rattle.pool.specs.Faultless.{InRange, Unlike, SoundPoints, FieldsHold}
 use Rattle.pool.proofs.Rooms.{fieldRoom-hold, hold-fieldRoom}
 use Rattle.donation.specs.Compatibility.{compatibility}
@@ -30,7 +30,7 @@ use Rattle.live.specs.Live.{Live, weighedBy, pairOf, pairsOf}
 use Rattle.live.specs.Calls.{registered, registering, up, withoutRow, withoutAt, withdrawing, withPair, withoutPair}
 use Rattle.live.specs.Faultless.{Kept, Registrable, Withdrawable}
 use Rattle.live.specs.Lists.{Call, does, after, said, Said, trace, takesOut, withdrawnIn, staying, broughtIn, held}
-use Rattle.live.specs.Promises.{Empty, FirstWith}
+use Rattle.live.specs.Promises.{AllPast, Empty, AsLong, FirstWith}
 use Rattle.live.proofs.Tables.{filled-again, rows-cong, past-hold, pair-there, pair-other, with-past, up-before, up-from, up-below, up-not, up-less, up-same, pair-moved, without-past, row-past}
 use Rattle.live.proofs.Promised.{is-registered, new-faultless, registering-done, registering-left, gone, gone-first, is-without, withdrawing-done, withdrawing-left}
 
@@ -298,9 +298,33 @@ unfolding flatMap
 stays-all s since h [] = refl
 stays-all s since h (p ∷ ps) = ap₂ (λ (x y : List Pair). x ++ y) (stays-one s since h p) (stays-all s since h ps)
 
+-- tables that are as long as they were: at once, one after another, and where nothing changed past a place
+long-same : (l : Live) → AsLong l l
+long-same l = record { fields = refl; compatibilities = refl; weights = refl }
+
+long-after : (l m n : Live) → AsLong l m → AsLong m n → AsLong l n
+long-after l m n a b =
+    record {
+      fields = b .fields ∙ a .fields;
+      compatibilities = b .compatibilities ∙ a .compatibilities;
+      weights = b .weights ∙ a .weights;
+    }
+
+past-long : (n : ℕ) (old new : Live) → AllPast n old new → AsLong old new
+unfolding fieldRoom
+past-long n old new p =
+    let f = p .fields in
+    record {
+      fields =
+          rw (f .ids .long, f .donorBlood .long, f .patientBlood .long, f .donorAge .long, f .patientAge .long, f .donorAntigens .long, f .patientAntigens .long, f .patientAntibodies .long);
+      compatibilities = p .compatibilities .long;
+      weights = p .weights .long;
+    }
+
 -- after a list of calls the pool is right, holds of its pairs those not withdrawn and then those that the list brought in, and has its points
 pub record Kept-by (l : Live) (calls : List Call) : Type 0 where
   pub right : Right (after calls l)
+  pub long : AsLong l (after calls l)
   pub pairs : pairsOf (after calls l) ≡ flatMap (staying (trace calls l)) (pairsOf l) ++ held (trace calls l)
   pub points : after calls l .points ≡ l .points
 
@@ -311,6 +335,7 @@ nothing-said (p ∷ ps) = ap (λ (l : List Pair). p ∷ l) (nothing-said ps)
 
 -- a call c that answers a and leaves l′, and the list after it
 module _ (c : Call) (cs : List Call) (l l′ : Live) (a : Answer (Unit {0})) (e : does c l ≡ outcome a l′) (w : Kept-by l′ cs) (same : l′ .points ≡ l .points)
+    (as-long : AsLong l l′)
     (brings : flatMap (staying (trace cs l′)) (pairsOf l′)
     ≡ flatMap (staying (said c a ∷ trace cs l′)) (pairsOf l) ++ broughtIn c a (trace cs l′)) where
   kept-next : Kept-by l (c ∷ cs)
@@ -320,17 +345,19 @@ module _ (c : Call) (cs : List Call) (l l′ : Live) (a : Answer (Unit {0})) (e 
       subst
       (λ (o : Outcome (Unit {0}) Live).
       Right (after cs (o .lent))
+      × AsLong l (after cs (o .lent))
       × (pairsOf (after cs (o .lent))
       ≡ flatMap (staying (said c (o .answer) ∷ trace cs (o .lent))) (pairsOf l)
       ++ (broughtIn c (o .answer) (trace cs (o .lent)) ++ held (trace cs (o .lent))))
       × (after cs (o .lent) .points ≡ l .points))
       (sym e) (
         w .right,
+        long-after l l′ (after cs l′) as-long (w .long),
         w .pairs ∙ ap (λ (ps : List Pair). ps ++ held (trace cs l′)) brings
             ∙ append-assoc (flatMap (staying (said c a ∷ trace cs l′)) (pairsOf l)) (broughtIn c a (trace cs l′)) (held (trace cs l′)),
         w .points ∙ same,
       ) in
-      record { right = r .0; pairs = r .1; points = r .2 }
+      record { right = r .0; long = r .1; pairs = r .2; points = r .3 }
 
 module _ (cs : List Call) (l : Live) (w : Right l) (later : (l′ : Live) → Right l′ → Kept-by l′ cs) where
   -- a refused call, whatever it was
@@ -339,7 +366,7 @@ module _ (cs : List Call) (l : Live) (w : Right l) (later : (l′ : Live) → Ri
   kept-refused c k o e none nothing =
       let s = said c (refused k o) in
       let t = trace cs l in
-      kept-next c cs l l (refused k o) e (later l w) refl
+      kept-next c cs l l (refused k o) e (later l w) refl (long-same l)
       (sym
       (ap (λ (ps : List Pair). flatMap (staying (s ∷ t)) (pairsOf l) ++ ps) (nothing t)
       ∙ append-nil _
@@ -356,6 +383,7 @@ module _ (cs : List Call) (l : Live) (w : Right l) (later : (l′ : Live) → Ri
           let s = said (Call.register p) (finished tt) in
           let t = trace cs l′ in
           kept-next (Call.register p) cs l l′ (finished tt) (ap₂ outcome h (d .1)) (later l′ (more-right p l w (d .0))) (is-registered p l (d .0) .past .points)
+          (past-long _ l l′ (is-registered p l (d .0) .past))
           (ap (flatMap (staying t)) (more-pairs p l w (d .0))
           ∙ flatMap-append (staying t) (pairsOf l) (p ∷ [])
           ∙ ap₂ (λ (x y : List Pair). x ++ y) (sym (stays-all s t (record { all = λ x. refl }) (pairsOf l))) (append-nil (staying t p)))
@@ -374,12 +402,13 @@ module _ (cs : List Call) (l : Live) (w : Right l) (later : (l′ : Live) → Ri
           let t = trace cs l′ in
           kept-next (Call.withdraw x) cs l l′ (finished tt) (ap₂ outcome h (d .1)) (later l′ (less-right (gone x l) l w (f .below)))
           (is-without l (w .kept) (gone x l) (f .below) .past .points)
+          (past-long _ l l′ (is-without l (w .kept) (gone x l) (f .below) .past))
           (sym (append-nil _ ∙ taken-out x l w (gone x l) f t))
       go (refused k o) h =
           kept-refused (Call.withdraw x) k o (ap₂ outcome h (withdrawing-left x l k o h)) (λ x. refl) (λ t. refl)
 
 pub kept-by : (calls : List Call) (l : Live) → Right l → Kept-by l calls
 unfolding after trace held
-kept-by [] l w = record { right = w; pairs = sym (append-nil _ ∙ nothing-said (pairsOf l)); points = refl }
+kept-by [] l w = record { right = w; long = long-same l; pairs = sym (append-nil _ ∙ nothing-said (pairsOf l)); points = refl }
 kept-by (Call.register p ∷ cs) l w = kept-register cs l w (kept-by cs) p
 kept-by (Call.withdraw x ∷ cs) l w = kept-withdraw cs l w (kept-by cs) x

@@ -112,13 +112,13 @@ module _ (p : Pair) (l : Live) where
         held = λ _. r .kept .keep .points;
         points = r .kept .sound;
         inRange =
-            next {P = λ i. InRange (pairIn f i)} n (λ i h. subst InRange (sym (others i h)) (r .inRange .kept i h))
+            next {P = λ i. InRange (pairIn f i)} n (λ i h. subst InRange (sym (others i h)) (r .inRange .stored i h))
             (subst InRange (sym last) (r .inRange .new));
         unlike =
             λ i j k h.
             next {P = λ i. (j : ℕ) → j < i → pairIn f j .id ≡ pairIn f i .id → ⊥} n
             (λ i h j k e.
-            r .unlike .kept i j k h
+            r .unlike .stored i j k h
             (sym (ap (λ (q : Pair). q .id) (others j (omega (arith, k, h)))) ∙ e ∙ ap (λ (q : Pair). q .id) (others i h)))
             (λ j k e. r .unlike .new j k (sym (ap (λ (q : Pair). q .id) (others j k)) ∙ e ∙ ap (λ (q : Pair). q .id) last)) i h j k;
       }

@@ -65,7 +65,7 @@ unfoldable pub placeOf : ℕ → (ℕ → ℕ) → ℕ → ℕ
 placeOf zero id x = 0
 placeOf (suc n) id x = cond (anyBelow n (λ j. eqb (id j) x)) (placeOf n id x) (cond (eqb (id n) x) n (suc n))
 
--- what stands at i when the entry at a is out stood here before
+-- what stands at i once the entry at a is out stood here before
 unfoldable pub up : ℕ → ℕ → ℕ
 up a i = cond (ltb i a) i (i + 1)
 

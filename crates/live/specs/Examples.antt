@@ -3,11 +3,13 @@ use Prim.Native.Nat.{ℕ}
 use mathlib.Core.Path.{_≡_}
 use mathlib.Core.List.{List, [], _∷_, _++_, map}
 use lib.ListN.{replicate}
-use Rattle.refusal.specs.Answer.{Answer, finished, refused}
+use Rattle.refusal.specs.Answer.{finished, refused, outcome}
 use Rattle.pool.specs.Pool.{Pair}
-use Rattle.pool.specs.Tables.{fields}
+use Rattle.pool.specs.Points.{pointsBy}
+use Rattle.pool.specs.Tables.{fields, itemIn}
 use Rattle.graph.specs.Graph.{graph}
 use Rattle.live.specs.Live.{Live, live}
+use Rattle.live.specs.Calls.{beginning, starting}
 use Rattle.live.specs.Lists.{Call, after, trace, held}
 
 -- an id, the donor's blood, age and antigens, and the patient's blood and age: a patient with no antigens and no antibodies
@@ -24,10 +26,10 @@ examplePair id blood age antigens patientBlood patientAge =
       patientAntibodies = 0;
     }
 
--- no pairs, in tables for four. The points: base 2,000; 500 for no mismatch, 300 for 1 or 2, 70 for 3 or 4; 40 for equal ages, 9 from young to senior
+-- no pairs, in tables for four, as a start leaves the count and the points, whose table has seven entries. The points: base 2,000; 500 for no mismatch, 300 for 1 or 2, 70 for 3 or 4; 40 for equal ages, 9 from young to senior
 abbrev pub exampleRoom : Live
 exampleRoom =
-    live 0 (2000 ∷ 500 ∷ 300 ∷ 70 ∷ 40 ∷ 9 ∷ [])
+    live 0 (2000 ∷ 500 ∷ 300 ∷ 70 ∷ 40 ∷ 9 ∷ 5 ∷ [])
     (fields (replicate 4 9) (replicate 4 9) (replicate 4 9) (replicate 4 9) (replicate 4 9) (replicate 4 9) (replicate 4 9) (replicate 4 9))
     (graph (replicate 16 7) (replicate 16 77))
 
@@ -39,17 +41,19 @@ threeCalls =
 abbrev pub fourCalls : List Call
 fourCalls = threeCalls ++ (Call.withdraw 12 ∷ [])
 
-abbrev pub sixCalls : List Call
-sixCalls = fourCalls ++ (Call.withdraw 12 ∷ Call.register (examplePair 12 2 0 0 1 0) ∷ [])
+abbrev pub sevenCalls : List Call
+sevenCalls =
+    fourCalls ++ (Call.withdraw 12 ∷ Call.register (examplePair 11 0 0 0 0 0) ∷ Call.register (examplePair 12 2 0 0 1 0) ∷ [])
 
 -- three rows of three; without the second row and column two of two, and past them what stood there: the rest of the three of three
 pub record LiveRun : Type 0 where
+  pub start : starting (pointsBy (itemIn (exampleRoom .points))) (beginning 3 (replicate 7 5)) ≡ outcome (finished tt) (beginning 0 (exampleRoom .points))
   pub three : after threeCalls exampleRoom .graph
       ≡ graph (0 ∷ 1 ∷ 0 ∷ 1 ∷ 0 ∷ 0 ∷ 1 ∷ 1 ∷ 0 ∷ replicate 7 7) (0 ∷ 2540 ∷ 2509 ∷ 2540 ∷ 0 ∷ 2509 ∷ 2070 ∷ 2070 ∷ 0 ∷ replicate 7 77)
   pub two : after fourCalls exampleRoom .graph
       ≡ graph (0 ∷ 0 ∷ 1 ∷ 0 ∷ 0 ∷ 0 ∷ 1 ∷ 1 ∷ 0 ∷ replicate 7 7) (0 ∷ 2509 ∷ 2070 ∷ 0 ∷ 0 ∷ 2509 ∷ 2070 ∷ 2070 ∷ 0 ∷ replicate 7 77)
   pub moved : after fourCalls exampleRoom .fields .ids ≡ 11 ∷ 13 ∷ 13 ∷ 9 ∷ []
-  pub answers : map (λ s. s .answer) (trace sixCalls exampleRoom)
-      ≡ finished tt ∷ finished tt ∷ finished tt ∷ finished tt ∷ refused 16 0 ∷ finished tt ∷ []
-  pub ids : after sixCalls exampleRoom .fields .ids ≡ 11 ∷ 13 ∷ 12 ∷ 9 ∷ []
-  pub holds : map (λ q. q .id) (held (trace sixCalls exampleRoom)) ≡ 11 ∷ 13 ∷ 12 ∷ []
+  pub answers : map (λ s. s .answer) (trace sevenCalls exampleRoom)
+      ≡ finished tt ∷ finished tt ∷ finished tt ∷ finished tt ∷ refused 16 0 ∷ refused 7 0 ∷ finished tt ∷ []
+  pub ids : after sevenCalls exampleRoom .fields .ids ≡ 11 ∷ 13 ∷ 12 ∷ 9 ∷ []
+  pub holds : map (λ q. q .id) (held (trace sevenCalls exampleRoom)) ≡ 11 ∷ 13 ∷ 12 ∷ []

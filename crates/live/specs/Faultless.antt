@@ -38,7 +38,7 @@ pub data StartFault (given : Points) (points : ℕ) : ℕ → Type 0 where
 
 -- of the stored pairs and the new one
 pub record AllInRange (p : Pair) (l : Live) : Type 0 where
-  pub kept : (i : ℕ) → i < l .count → InRange (pairOf l i)
+  pub stored : (i : ℕ) → i < l .count → InRange (pairOf l i)
   pub new : InRange p
 
 -- none of the stored pairs has this id
@@ -46,7 +46,7 @@ abbrev pub NoneHas : ℕ → Live → Type 0
 NoneHas id l = (j : ℕ) → j < l .count → pairOf l j .id ≡ id → ⊥
 
 pub record AllUnlike (p : Pair) (l : Live) : Type 0 where
-  pub kept : Unlike (l .count) (pairOf l)
+  pub stored : Unlike (l .count) (pairOf l)
   pub new : NoneHas (p .id) l
 
 -- one pair more fits every table

@@ -52,7 +52,7 @@ withdrawnIn x (s ∷ t) = either (takesOut x (s .call) (s .answer)) (withdrawnIn
 unfoldable pub staying : List Said → Pair → List Pair
 staying since p = cond (withdrawnIn (p .id) since) [] (p ∷ [])
 
--- what one call brought in, of which this is left
+-- the pair that a call brought in, where it is still there; a refused call, and a withdrawal, bring in none
 unfoldable pub broughtIn : Call → Answer (Unit {0}) → List Said → List Pair
 broughtIn (register p) (finished done) since = staying since p
 broughtIn (register p) (refused k place) since = []

@@ -11,15 +11,15 @@ use Rattle.refusal.specs.Answer.{finished, refused, Outcome, outcome}
 use Rattle.pool.specs.Pool.{Pair, Pool}
 use Rattle.pool.specs.Points.{Points, registryPoints, pointsBy}
 use Rattle.pool.specs.Sheet.{sheetLength}
-use Rattle.pool.specs.Tables.{Fields, Tables, tables, itemIn, filledTables}
+use Rattle.pool.specs.Tables.{Fields, Tables, tables, itemIn, fieldRoom, filledTables}
 use Rattle.pool.specs.Calls.{head, reading, writing}
 use Rattle.pool.specs.Faultless.{SoundPoints, InRange, EachOnce, TablesHold}
 use Rattle.pool.specs.Promises.{TablesTyped}
 use Rattle.graph.specs.Graph.{Graph, graph}
 use Rattle.weighing.specs.Building.{building}
-use Rattle.weighing.specs.Promises.{Fit, Entries, entryAt}
-use Rattle.live.specs.Live.{Live, liveVersion, weighedBy, pairOf, pairsOf}
-use Rattle.live.specs.Calls.{Beginning, registering, withdrawing}
+use Rattle.weighing.specs.Promises.{Fit, Entries, Plannable, entryAt}
+use Rattle.live.specs.Live.{Live, live, liveVersion, weighedBy, pairOf, pairsOf}
+use Rattle.live.specs.Calls.{Beginning, inOrder, starting, registering, withdrawing}
 use Rattle.live.specs.Faultless.{StartFault, Registrable, RegisterFault, OneMoreFits, Withdrawable, WithdrawFault}
 use Rattle.live.specs.Lists.{Call, after, trace, held}
 
@@ -118,8 +118,7 @@ StartsEmpty =
     (given : Points) (old new : Beginning) (f : Fields) (g : Graph) (o : Outcome (Unit {0}) Beginning)
     → StartsRightly given old o
     → o ≡ outcome (finished tt) new
-    → Empty (record { count = new .count; points = new .points; fields = f; graph = g })
-    × (weighedBy (record { count = new .count; points = new .points; fields = f; graph = g }) ≡ given)
+    → Empty (live (new .count) (new .points) f g) × (weighedBy (live (new .count) (new .points) f g) ≡ given)
 
 -- "its compatibility and weight tables are those of a sheet with these pairs and points": with any shuffle s they are written as a sheet, which reads back as
 -- these points, these pairs and this shuffle, and building from what was read gives the entries of M and W that the pool l has
@@ -143,12 +142,13 @@ pub record OnASheet (l : Live) (ps : List Pair) (s out : List ℕ) (other : Tabl
       (graph (filled (take (l .count * l .count) (l .graph .compatibilities)) (g .compatibilities))
       (filled (take (l .count * l .count) (l .graph .weights)) (g .weights)))
 
--- what a pool holds that is ps by what was said: the count and the first entries of the tables are those of ps; M and W are what building gives, so that
--- building changes nothing; and they are those of a sheet
+-- the pool l holds the pairs ps: the count and the first entries of the tables are theirs; M and W are what building gives, so that building changes nothing,
+-- and can be planned; and they are those of a sheet. That the tables' entries fit their words (`TablesTyped`) is what the types of the slices give
 pub record Holds (ps : List Pair) (l : Live) : Type 0 where
   pub number : l .count ≡ length ps
   pub pairs : pairsOf l ≡ ps
   pub built : building liveVersion (l .count) (l .points) (l .fields) (l .graph) ≡ outcome (finished tt) (l .graph)
+  pub plannable : Plannable (weighedBy l) (l .count) (l .graph)
   pub sheet : (s out : List ℕ) (other : Tables) (g : Graph)
       → EachOnce (l .count) (itemIn s)
       → l .count ≤ length s
@@ -158,9 +158,35 @@ pub record Holds (ps : List Pair) (l : Live) : Type 0 where
       → Fit (l .count) g
       → OnASheet l ps s out other g
 
+-- tables as long as they were: the shortest of the fields', M and W
+pub record AsLong (old new : Live) : Type 0 where
+  pub fields : fieldRoom (new .fields) ≡ fieldRoom (old .fields)
+  pub compatibilities : length (new .graph .compatibilities) ≡ length (old .graph .compatibilities)
+  pub weights : length (new .graph .weights) ≡ length (old .graph .weights)
+
+-- what a list of calls from the pool l leaves: a pool that holds the pairs registered and not withdrawn since, with the points and the lengths of l
+pub record LeftBy (calls : List Call) (l : Live) : Type 0 where
+  pub holds : Holds (held (trace calls l)) (after calls l)
+  pub points : after calls l .points ≡ l .points
+  pub long : AsLong l (after calls l)
+
 abbrev pub LiveHolds : Type 0
-LiveHolds =
-    (l : Live) (calls : List Call) → Empty l → Holds (held (trace calls l)) (after calls l) × (after calls l .points ≡ l .points)
+LiveHolds = (l : Live) (calls : List Call) → Empty l → LeftBy calls l
+
+-- the same from a finished start on, with whatever other tables: on the pool's sheet stand the six points given
+abbrev pub startedWith : Points → Beginning → Fields → Graph → Live
+startedWith given old f g = live (starting given old .lent .count) (starting given old .lent .points) f g
+
+pub record FromAStart (given : Points) (old : Beginning) (f : Fields) (g : Graph) (calls : List Call) : Type 0 where
+  pub left : LeftBy calls (startedWith given old f g)
+  pub points : table registryPoints (itemIn (after calls (startedWith given old f g) .points)) ≡ inOrder given
+  pub weighed : weighedBy (after calls (startedWith given old f g)) ≡ given
+
+abbrev pub StartHolds : Type 0
+StartHolds =
+    (given : Points) (old : Beginning) (f : Fields) (g : Graph) (calls : List Call)
+    → starting given old .answer ≡ finished tt
+    → FromAStart given old f g calls
 
 -- one of the pairs has this id
 abbrev pub HasId : ℕ → List Pair → Type 0

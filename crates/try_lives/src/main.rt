@@ -552,6 +552,11 @@ fn try_twice() {
     print(b"ids");
     print_ids(ids, 0, left.count);
     print(b"\n");
+    // the donor's blood tells the second from the first
+    let donor_blood = left.donor_blood;
+    print(b"blood");
+    print_number(donor_blood[0] as u64);
+    print(b"\n");
 }
 
 // The pair of that number, from 0, of many.

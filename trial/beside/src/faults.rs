@@ -46,7 +46,8 @@ impl<T: Clone + 'static> Faults<T> {
     }
 
     /// Tries a sound input, then with each fault by itself, which is put in
-    /// twice, and with one of so many twos after each other.
+    /// twice, and with two different ones, of which every `one_of`th couple is
+    /// tried.
     pub fn some_two(
         &self,
         sound: &T,

@@ -753,12 +753,12 @@ fn faults_of_planning(seed: u64, random: &mut Random, cases: &mut Cases) -> Resu
     })
 }
 
-/// Sizes of live pools for any two faults; of the greatest, one two of so many,
-/// as there are many entries.
+/// Sizes of live pools for any two faults. With the greatest only every so many
+/// couples of faults are tried, as there are many entries.
 const FAULTY_LIVE: [usize; 7] = [0, 1, 2, 3, 4, 7, MOST_PAIRS];
 const ONE_OF_THE_GREATEST: usize = 11;
 
-/// The size of that trial's pool, and of how many twos it tries one.
+/// The size of that trial's pool, and of how many couples of faults it tries one.
 fn faulty_live(seed: u64) -> (usize, usize) {
     match FAULTY_LIVE[(seed % FAULTY_LIVE.len() as u64) as usize] {
         MOST_PAIRS => (MOST_PAIRS, ONE_OF_THE_GREATEST),

@@ -262,6 +262,13 @@ impl Kept {
 
 /// The table begins with these entries.
 fn begins<T: Entry>(what: &str, table: &[T], entries: &[T]) -> Outcome {
+    if table.len() < entries.len() {
+        return Err(format!(
+            "{what}: {} entries, not {}",
+            table.len(),
+            entries.len()
+        ));
+    }
     let both = || table.iter().zip(entries);
     match both().position(|(here, due)| here != due) {
         Some(at) => Err(format!(
