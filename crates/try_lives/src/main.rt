@@ -31,6 +31,10 @@ fn print_number(n: u64) {
     io::print_decimal(1, n);
 }
 
+fn print_byte(byte: u8) {
+    print_number(byte as u64);
+}
+
 fn print_answer(answer: u8) {
     if answer == 0 {
         print(b": done");
@@ -555,7 +559,7 @@ fn try_twice() {
     // the donor's blood tells the second from the first
     let donor_blood = left.donor_blood;
     print(b"blood");
-    print_number(donor_blood[0] as u64);
+    print_byte(donor_blood[0]);
     print(b"\n");
 }
 
