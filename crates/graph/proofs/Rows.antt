@@ -13,6 +13,7 @@ use Rattle.laws.specs.Lent.{filled, stored}
 use Rattle.laws.proofs.Below.{length-table, getD-table, table-cong, table-add}
 use Rattle.laws.proofs.Lent.{Filling, filling-none, getD-filled, length-stored, stored-none, stored-filled, stored-then}
 use Rattle.graph.specs.Graph.{inRows}
+use Rattle.graph.specs.Preconditions.{Row}
 
 -- ## Sizes
 
@@ -23,6 +24,13 @@ row-fits {i} {n} h = rw (← suc-mul i n) (mul-le-mul-right n h)
 -- n rows of n, for n up to 200
 pub rows-few : {n : ℕ} → n ≤ 200 → n * n ≤ 40000
 rows-few h = mul-le-mul h h
+
+-- so a place of row i is in the table, and small
+pub in-row : {i n j : ℕ} {t : List ℕ} → Row i n t → j < n → i * n + j < length t
+in-row r l = omega (arith, row-fits (r .inside), r .fits)
+
+pub small-in-row : {i n j : ℕ} {t : List ℕ} → Row i n t → j < n → i * n + j < 40000
+small-in-row r l = omega (arith, row-fits (r .inside), rows-few (r .few))
 
 -- ## A loop over the columns: t is `old` with i elements stored from `at` on, and as long
 

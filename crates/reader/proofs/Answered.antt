@@ -74,3 +74,12 @@ module _ (b : List ℕ) (t : Tables) (r : Reading) (a : answerOf r ≡ reading b
 -- an answer and tables that are reading's keep its promise
 pub rightly : (b : List ℕ) (t : Tables) {o : Outcome Head Tables} → o ≡ reading b t → ReadsRightly b t o
 rightly b t e = subst (λ (o : Outcome Head Tables). ReadsRightly b t o) (sym e) (reads-rightly b t)
+
+-- the two at once, where the tables left are those filled
+pub finished-rightly : (b : List ℕ) (t : Tables) (r : Reading)
+    → answerOf r ≡ reading b t .answer → (v n : ℕ) → r ≡ Pairs v n → (left : Tables)
+    → left ≡ filledTables (poolOf b) t
+    → (outcome (answerOf (Pairs v n)) left ≡ reading b t) × ReadsRightly b t (outcome (answerOf (Pairs v n)) left)
+finished-rightly b t r a v n e left f =
+    let w = ap (outcome (answerOf (Pairs v n))) f ∙ finished-leaves b t r a v n e in
+    (w, rightly b t w)

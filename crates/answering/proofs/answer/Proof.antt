@@ -1,12 +1,15 @@
 -- `answering::answer` meets its contract. Assumes nothing.
 use borrow.Author.Needs.{needs}
-use mathlib.Core.Path.{refl}
+use mathlib.Core.Path.{refl, sym}
 use Rattle.pool.specs.Tables.{fieldRoom, room}
 use Rattle.answering.proofs.Sheets.{read-accepted, refused-answer, accepted-answer}
 use Rattle.answering.proofs.answer.Statement.{statement}
 use Rattle.answering.proofs.answer.Tie as tie
 
 -- moments, each seen from a later one
+abbrev read-before : tie.After-points3 → tie.After-read
+read-before c = c .before .before .before .before .before .before .before .before .before .before .before .before .before .before
+
 abbrev after-version : tie.After-print-pool-arg → tie.After-version
 after-version c = c .before .before .before .before .before .before .before .before .before .before .before .before
 
@@ -38,8 +41,14 @@ returns-2 c =
 pub answer-spec : {M : Type 1} → statement M
 answer-spec =
     tie.close
-    (tie.spec (λ c. search needs) (λ c. search needs) (λ c. search needs) (λ c. search needs) (λ c. search needs) (λ c. search needs)
-    (λ c. search needs) (λ c. search needs) (λ c. search needs) (λ c. search needs) (λ c κs. search needs) (λ c. search needs)
-    (λ c κs. search needs) (λ c. search needs) (λ c. search needs) (λ c. search needs) (λ c. search needs) (λ c. search needs)
-    (λ c. search needs) (λ c. search needs) (λ c. search needs) (λ c. search needs) (λ c. search needs) (λ c. search needs)
+    (tie.spec (λ c. refl) (λ c. refl) (λ c. refl) (λ c. refl) (λ c. refl) (λ c. refl) (λ c. refl) (λ c. refl) (λ c. refl) (λ c. refl)
+    (λ c κs. search needs) (λ c. search needs) (λ c κs. search needs) (λ c. search needs) (λ c. sym (read-before c .read .kept .1 .0))
+    (λ c. sym (read-before (c .before) .read .kept .1 .1 .0)) (λ c. sym (read-before (c .before .before) .read .kept .1 .1 .1 .0))
+    (λ c. sym (read-before (c .before .before .before) .read .kept .1 .1 .1 .1 .0))
+    (λ c. sym (read-before (c .before .before .before .before) .read .kept .1 .1 .1 .1 .1 .0))
+    (λ c. sym (read-before (c .before .before .before .before .before) .read .kept .1 .1 .1 .1 .1 .1 .0))
+    (λ c. sym (read-before (c .before .before .before .before .before .before) .read .kept .1 .1 .1 .1 .1 .1 .1 .0))
+    (λ c. sym (read-before (c .before .before .before .before .before .before .before) .read .kept .1 .1 .1 .1 .1 .1 .1 .1 .0))
+    (λ c. sym (read-before (c .before .before .before .before .before .before .before .before) .read .kept .1 .1 .1 .1 .1 .1 .1 .1 .1 .0))
+    (λ c. sym (read-before (c .before .before .before .before .before .before .before .before .before) .read .kept .1 .1 .1 .1 .1 .1 .1 .1 .1 .1 .0))
     print-pool-requires returns returns-2)

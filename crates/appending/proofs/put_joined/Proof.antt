@@ -55,6 +55,9 @@ started c = c .before .before .before .before
 abbrev raised : tie.After-put-raised2 → tie.After-put-raised
 raised c = c .before .before .before .before
 
+abbrev put-both : tie.After-put-pairs2 → tie.After-pairs-in2
+put-both c = counted (headed (pointed (first-put c)))
+
 -- ## What each call requires; the buffer keeps its length
 
 put-points-requires : tie.Need-put-points-requires
@@ -198,7 +201,13 @@ returns c =
 pub put-joined-spec : {M : Type 1} → statement M
 put-joined-spec =
     tie.close
-    (tie.spec (λ c κs. search needs) (λ c κs. search needs) (λ c κs. search needs) (λ c. search needs) (λ c. search needs) (λ c κs. search needs)
-    put-points-requires (λ c κs. search needs) put-pairs-requires (λ c κs. search needs) put-pairs-requires-2 (λ c. search needs)
-    (λ c κs. search needs) (λ c. search needs) (λ c. search needs) put-start-requires (λ c. search needs) put-raised-requires (λ c. search needs)
-    (λ c. search needs) (λ c. search needs) put-raised-requires-2 (λ c. search needs) sheet-length-requires same-length returns)
+    (tie.spec (λ c κs. c .before .before .before .pre .0 .first .head .field .whole) (λ c κs. c .before .before .before .before .pre .0 .first .head .field .whole)
+    (λ c κs. c .before .before .before .before .before .pre .0 .second .head .field .whole) (λ c. search needs) (λ c. omega (arith, few (c .before)))
+    (λ c κs. omega (arith, long (c .before))) put-points-requires (λ c κs. tt) put-pairs-requires
+    (λ c κs. omega (arith, few (counted (headed (pointed (c .before .before .before)))))) put-pairs-requires-2 (λ c. omega (arith, few (put-both (c .before .before))))
+    (λ c κs. few (put-both (c .before .before))) (λ c. omega (arith, few (put-both (second-put (c .before)))))
+    (λ c. omega (arith, few (put-both (second-put (c .before))))) put-start-requires (λ c. omega (arith, placed (c .before .before .before) .pair-place2 .ensures))
+    put-raised-requires (λ c. omega (arith, placed (started (c .before .before .before)) .pair-place2 .ensures))
+    (λ c. omega (arith, few (put-both (second-put (placed (started (c .before .before .before)))))))
+    (λ c. omega (arith, few (put-both (second-put (placed (started (c .before .before .before))))), placed (started (c .before .before .before)) .pair-place2 .ensures))
+    put-raised-requires-2 (λ c. omega (arith, few (put-both (second-put (placed (started (raised (c .before .before)))))))) sheet-length-requires same-length returns)

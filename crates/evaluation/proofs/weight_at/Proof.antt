@@ -24,13 +24,13 @@ edge-requires : tie.Need-edge-requires
 edge-requires c κs =
     let pre = start c .pre in
     let asked = asks-two _ _ _ _ _ (pre .0) (pre .1) (pre .2) in
-    search (needs, pre .0, asked .first, asked .second, asked .third)
+    (pre .0, asked .first, asked .second)
 
 edge-requires-2 : tie.Need-edge-requires-2
 edge-requires-2 c κs =
     let pre = start (c .before) .pre in
     let asked = asks-two _ _ _ _ _ (pre .0) (pre .1) (pre .2) in
-    search (needs, pre .0, asked .first, asked .second, asked .third)
+    (pre .0, asked .second, asked .first)
 
 returns : tie.Need-returns
 returns c =
@@ -48,28 +48,28 @@ edge-requires-3 : tie.Need-edge-requires-3
 edge-requires-3 c κs =
     let pre = looked (c .before .before) .pre in
     let asked = asks-triple _ _ _ _ _ (pre .0) (pre .1) (pre .2) (c .before .if1 .left) in
-    search (needs, pre .0, asked .first, asked .second, asked .third)
+    (pre .0, asked .second, asked .third)
 
 edge-requires-4 : tie.Need-edge-requires-4
 edge-requires-4 c κs =
     let here = c .before .before in
     let pre = looked (here .before) .pre in
     let asked = asks-triple _ _ _ _ _ (pre .0) (pre .1) (pre .2) (here .if1 .left) in
-    search (needs, pre .0, asked .first, asked .second, asked .third)
+    (pre .0, asked .third, asked .first)
 
 edge-requires-5 : tie.Need-edge-requires-5
 edge-requires-5 c κs =
     let here = c .before .before .before in
     let pre = looked (here .before) .pre in
     let asked = asks-triple _ _ _ _ _ (pre .0) (pre .1) (pre .2) (here .if1 .left) in
-    search (needs, pre .0, asked .first, asked .second, asked .third)
+    (pre .0, asked .first, asked .third)
 
 edge-requires-6 : tie.Need-edge-requires-6
 edge-requires-6 c κs =
     let here = c .before .before .before .before in
     let pre = looked (here .before) .pre in
     let asked = asks-triple _ _ _ _ _ (pre .0) (pre .1) (pre .2) (here .if1 .left) in
-    search (needs, pre .0, asked .first, asked .second, asked .third)
+    (pre .0, asked .third, asked .second)
 
 triple-requires : tie.Need-triple-requires
 triple-requires c κs =

@@ -8,7 +8,7 @@ use Rattle.donation.specs.Compatibility.{compatibility}
 use Rattle.graph.specs.Graph.{withRow}
 use Rattle.graph.specs.Sources.{fieldsOfM}
 use Rattle.graph.specs.Preconditions.{Row, ReadableForM}
-use Rattle.graph.proofs.Rows.{row-fits, rows-few, Storing, storing-none, storing-more, storing-all}
+use Rattle.graph.proofs.Rows.{row-fits, rows-few, in-row, small-in-row, Storing, storing-none, storing-more, storing-all}
 use Rattle.graph.proofs.compatibility_row.Statement.{statement}
 use Rattle.graph.proofs.compatibility_row.Tie as tie
 
@@ -43,11 +43,14 @@ loop-again : tie.Need-loop-again Inv-loop μ-loop
 unfolding compatibility pairIn
 loop-again c =
     let l = at-loop c .loop in
-    let v = l .inv in (
+    let v = l .inv in
+    let a = at-loop c .before .before .before .before .before .before .before .before .args in
+    let read = fieldsOfM (a .donor-blood .now) (a .patient-blood .now) (a .donor-antigens .now) (a .patient-antibodies .now) in (
       omega arith,
       v .1,
       v .2,
-      storing-more _ _ _ (l .j) (l .compatibilities) _ (v .3) (c .compatibility .ensures) (omega (arith, row-fits (v .1 .inside), v .1 .fits)),
+      storing-more (a .i * a .n) (compatibility (pairIn read) (a .i)) (a .compatibilities .now) (l .j) (l .compatibilities) (c .compatibility .result)
+          (v .3) (c .compatibility .ensures) (in-row (v .1) (c .before .before .before .loop-test .taken)),
     )
 
 compatibility-requires : tie.Need-compatibility-requires Inv-loop μ-loop
@@ -58,13 +61,12 @@ compatibility-requires c κs =
 
 add-compatibilities : tie.Need-add-compatibilities Inv-loop μ-loop
 add-compatibilities c =
-    let r = at-loop c .loop .inv .1 in
-    omega (arith, row-fits (r .inside), rows-few (r .few))
+    omega (arith, small-in-row (at-loop c .loop .inv .1) (c .before .before .before .loop-test .taken))
 
 slice-write-compatibilities : tie.Need-slice-write-compatibilities Inv-loop μ-loop
 slice-write-compatibilities c =
     let v = at-loop c .loop .inv in
-    omega (arith, row-fits (v .1 .inside), v .1 .fits, v .3 .kept)
+    omega (arith, in-row (v .1) (c .before .before .before .loop-test .taken), v .3 .kept)
 
 same-length : tie.Need-same-length Inv-loop μ-loop
 same-length c = c .before .loop .inv .3 .kept

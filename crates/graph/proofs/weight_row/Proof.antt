@@ -10,7 +10,7 @@ use Rattle.donation.specs.Weight.{weight}
 use Rattle.graph.specs.Graph.{withRow}
 use Rattle.graph.specs.Sources.{fieldsOfW}
 use Rattle.graph.specs.Preconditions.{Row, ReadableForW}
-use Rattle.graph.proofs.Rows.{row-fits, rows-few, Storing, storing-none, storing-more, storing-all}
+use Rattle.graph.proofs.Rows.{row-fits, rows-few, in-row, small-in-row, Storing, storing-none, storing-more, storing-all}
 use Rattle.graph.proofs.weight_row.Statement.{statement}
 use Rattle.graph.proofs.weight_row.Tie as tie
 
@@ -47,28 +47,29 @@ weight-requires c κs = c .before .before .before .loop .inv .4
 
 add-weights : tie.Need-add-weights Inv-loop μ-loop
 add-weights c =
-    let r = at-loop c .loop .inv .1 in
-    omega (arith, row-fits (r .inside), rows-few (r .few))
+    omega (arith, small-in-row (at-loop c .loop .inv .1) (c .before .before .before .loop-test .taken))
 
 mul-weights : tie.Need-mul-weights Inv-loop μ-loop
 mul-weights c =
-    let r = at-loop c .loop .inv .1 in
-    omega (arith, row-fits (r .inside), rows-few (r .few))
+    omega (arith, small-in-row (at-loop c .loop .inv .1) (c .before .before .before .loop-test .taken))
 
 slice-write-weights : tie.Need-slice-write-weights Inv-loop μ-loop
 slice-write-weights c =
     let v = at-loop c .loop .inv in
-    omega (arith, row-fits (v .1 .inside), v .1 .fits, v .3 .kept)
+    omega (arith, in-row (v .1) (c .before .before .before .loop-test .taken), v .3 .kept)
 
 loop-again : tie.Need-loop-again Inv-loop μ-loop
 unfolding weight pairIn
 loop-again c =
     let l = at-loop c .loop in
-    let v = l .inv in (
+    let v = l .inv in
+    let a = at-loop c .before .before .before .before .before .before .before .before .args in
+    let read = fieldsOfW (a .donor-age .now) (a .patient-age .now) (a .donor-antigens .now) (a .patient-antigens .now) in (
       omega arith,
       v .1,
       v .2,
-      storing-more _ _ _ (l .j) (l .weights) _ (v .3) (c .weight .ensures) (omega (arith, row-fits (v .1 .inside), v .1 .fits)),
+      storing-more (a .i * a .n) (weight (named (a .points)) (pairIn read) (a .i)) (a .weights .now) (l .j) (l .weights) (c .weight .result) (v .3)
+          (c .weight .ensures) (in-row (v .1) (c .before .before .before .loop-test .taken)),
       v .4,
     )
 

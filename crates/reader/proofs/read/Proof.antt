@@ -6,7 +6,7 @@ use lib.ListN.{length}
 use Rattle.pool.specs.Tables.{Tables, fields, tables, fieldRoom, room}
 use Rattle.pool.specs.Calls.{reading}
 use Rattle.reader.specs.Answers.{answerOf}
-use Rattle.reader.proofs.Answered.{refused-leaves, finished-leaves, fillable, rightly}
+use Rattle.reader.proofs.Answered.{refused-leaves, fillable, rightly, finished-rightly}
 use Rattle.reader.proofs.read.Statement.{statement}
 use Rattle.reader.proofs.read.Tie as tie
 
@@ -85,10 +85,7 @@ returns-2 c =
     let f = filling c in
     let v = after-version (f .before) in
     let j = v .before .before in
-    let e = v .version .given .1 in (
-      rw (f .fill .ensures) (finished-leaves _ (lent (start j)) _ (answers j) _ _ e),
-      rightly _ (lent (start j)) (rw (f .fill .ensures) (finished-leaves _ (lent (start j)) _ (answers j) _ _ e)),
-    )
+    finished-rightly _ (lent (start j)) _ (answers j) _ _ (v .version .given .1) _ (f .fill .ensures)
 
 pub read-spec : {M : Type 1} → statement M
 read-spec =

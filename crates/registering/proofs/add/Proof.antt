@@ -2,7 +2,10 @@
 use native.Mathlib.Omega.{arith}
 use borrow.Author.Needs.{needs}
 use Rattle.pool.specs.Points.{hasPoints, pointsOf}
+use Rattle.pool.specs.Tables.{fields}
 use Rattle.points.specs.Named.{named}
+use Rattle.graph.specs.Graph.{graph}
+use Rattle.live.specs.Live.{Live, live}
 use Rattle.registering.proofs.Answered.{add-buildable, is-added}
 use Rattle.registering.proofs.add.Statement.{statement}
 use Rattle.registering.proofs.add.Tie as tie
@@ -20,6 +23,14 @@ own-before c = c .before .before .before .before .before .before .before .before
 abbrev filled : tie.After-slice-known20 → tie.After-fill
 filled c = c .before .before .before .before
 
+-- the pool as it was lent
+abbrev pool : tie.Start → Live
+pool s =
+    let a = s .args in
+    live (a .n) (a .points .now)
+    (fields (a .ids .now) (a .donor-blood .now) (a .patient-blood .now) (a .donor-age .now) (a .patient-age .now) (a .donor-antigens .now)
+    (a .patient-antigens .now) (a .patient-antibodies .now)) (graph (a .compatibilities .now) (a .weights .now))
+
 own-requires : tie.Need-own-requires
 own-requires c κs = start-of (c .before .before .before .before .before .before .before .before .before .before .before .before .before .before .before .before) .pre .kept .keep .points
 
@@ -31,14 +42,14 @@ unfolding pointsOf hasPoints
 fill-requires c κs =
     let o = c .before .before .before .before .before .before .before .before .before in
     let p = put-before o in
-    add-buildable _ _ _ (p .put-pair .ensures) (named (o .own .result)) (o .own .ensures) (start-of p .pre)
+    add-buildable _ (pool (start-of p)) _ (p .put-pair .ensures) (named (o .own .result)) (o .own .ensures) (start-of p .pre)
 
 returns : tie.Need-returns
 unfolding pointsOf hasPoints
 returns c =
     let f = filled c in
     let o = own-before f in
-    is-added _ _ _ (put-before o .put-pair .ensures) (named (o .own .result)) (o .own .ensures) _ (f .fill .ensures)
+    is-added _ (pool (start-of (put-before o))) _ (put-before o .put-pair .ensures) (named (o .own .result)) (o .own .ensures) _ (f .fill .ensures)
 
 pub add-spec : {M : Type 1} → statement M
 add-spec =

@@ -2,26 +2,33 @@
 use mathlib.Core.List.{[]}
 use native.Mathlib.Omega.{arith}
 use borrow.Author.Needs.{needs}
-use Rattle.pool.specs.Tables.{fields, fieldRoom}
+use Rattle.pool.specs.Tables.{Fields, fields, fieldRoom}
 use Rattle.graph.proofs.Rows.{rows-few}
 use Rattle.weighing.proofs.Faults.{spaced-fields, judge-fields, passed-few, judge-compatibilities, judge-weights, judge-sound}
 use Rattle.weighing.proofs.judge.Statement.{statement}
 use Rattle.weighing.proofs.judge.Tie as tie
 
+-- moments, each seen from a later one, and the fields as they were lent
+abbrev start-of : tie.After-room → tie.Start
+start-of c = c .before .before .before .before .before .before .before .before .before .before
+
+abbrev lent-fields : tie.Start → Fields
+lent-fields s =
+    let a = s .args in
+    fields (a .ids .now) (a .donor-blood .now) (a .patient-blood .now) (a .donor-age .now) (a .patient-age .now) (a .donor-antigens .now)
+    (a .patient-antigens .now) (a .patient-antibodies .now)
+
 pairs-requires : tie.Need-pairs-requires
 unfolding fieldRoom
-pairs-requires c κs =
-    let start = c .before .before .before .before .before .before .before .before .before .before in
-    let s = start .args in
-    spaced-fields _
-    (fields (s .ids .now) (s .donor-blood .now) (s .patient-blood .now) (s .donor-age .now) (s .patient-age .now) (s .donor-antigens .now)
-    (s .patient-antigens .now) (s .patient-antibodies .now)) (c .room .ensures)
+pairs-requires c κs = spaced-fields (c .room .result) (lent-fields (start-of c)) (c .room .ensures)
 
 returns : tie.Need-returns
 unfolding fieldRoom
 returns c =
     let d = c .before .before .before in
-    judge-fields _ _ (d .before .room .result) _ _ _ _ (d .before .room .ensures) (d .pairs .result) (d .pairs .ensures _ _ _) _ (c .before .why .given .1)
+    let a = start-of (d .before) .args in
+    judge-fields (a .version) (a .n) (d .before .room .result) (a .points .now) (lent-fields (start-of (d .before))) (a .compatibilities) (a .weights)
+    (d .before .room .ensures) (d .pairs .result) (d .pairs .ensures _ _ _) _ (c .before .why .given .1)
 
 mul-entries : tie.Need-mul-entries
 mul-entries c =
@@ -32,21 +39,27 @@ returns-2 : tie.Need-returns-2
 unfolding fieldRoom
 returns-2 c =
     let d = c .before .before .before in
-    judge-compatibilities _ _ (d .before .room .result) _ _ _ _ (d .before .room .ensures) (d .pairs .result) (d .pairs .ensures _ _ _)
+    let a = start-of (d .before) .args in
+    judge-compatibilities (a .version) (a .n) (d .before .room .result) (a .points .now) (lent-fields (start-of (d .before))) (a .compatibilities) (a .weights)
+    (d .before .room .ensures) (d .pairs .result) (d .pairs .ensures _ _ _)
     (c .before .enum-told .given .1) (c .if1 .taken)
 
 returns-3 : tie.Need-returns-3
 unfolding fieldRoom
 returns-3 c =
     let d = c .before .before .before .before in
-    judge-weights _ _ (d .before .room .result) _ _ _ _ (d .before .room .ensures) (d .pairs .result) (d .pairs .ensures _ _ _)
+    let a = start-of (d .before) .args in
+    judge-weights (a .version) (a .n) (d .before .room .result) (a .points .now) (lent-fields (start-of (d .before))) (a .compatibilities) (a .weights)
+    (d .before .room .ensures) (d .pairs .result) (d .pairs .ensures _ _ _)
     (c .before .before .enum-told .given .1) (c .before .if1 .left) (c .if2 .taken)
 
 returns-4 : tie.Need-returns-4
 unfolding fieldRoom
 returns-4 c =
     let d = c .before .before .before .before in
-    judge-sound _ _ (d .before .room .result) _ _ _ _ (d .before .room .ensures) (d .pairs .result) (d .pairs .ensures _ _ _)
+    let a = start-of (d .before) .args in
+    judge-sound (a .version) (a .n) (d .before .room .result) (a .points .now) (lent-fields (start-of (d .before))) (a .compatibilities) (a .weights)
+    (d .before .room .ensures) (d .pairs .result) (d .pairs .ensures _ _ _)
     (c .before .before .enum-told .given .1) (c .before .if1 .left) (c .if2 .left)
 
 pub judge-spec : {M : Type 1} → statement M
