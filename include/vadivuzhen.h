@@ -223,8 +223,8 @@ VADIVUZHEN_ANSWERS struct vadivuzhen_build_answer vadivuzhen_build(
  * shuffle: it is drawn for a match, and vadivuzhen_write makes a sheet of version 2 of the pool with it.
  *
  * Tables of VADIVUZHEN_MOST_PAIRS entries, and M and W of VADIVUZHEN_ENTRIES(VADIVUZHEN_MOST_PAIRS), always suffice. They may be shorter, with room for
- * fewer pairs. What they hold past the count's entries does not matter, and stays as it is: after a
- * withdrawal the last pair's fields, and the last entries of the former M and W, are still there, past the new count.
+ * fewer pairs. What they hold past the count's entries does not matter, and stays as it is: after a withdrawal the last pair's fields, and the last
+ * entries of the former M and W, are still there, past the new count.
  *
  * Proved, for every list of registrations and withdrawals after a finished start, refused ones among them, where nothing else changes the tables or the
  * count: the pool holds the pairs registered and not withdrawn since, in order of registration; its points are those that it was started with; and
