@@ -20,11 +20,12 @@ cast-a c = record { fits = omega (arith, c .shared-slice-known4 .given (c .befor
 cast-b : tie.Need-cast-b
 cast-b c = record { fits = omega (arith, c .shared-slice-known5 .given (start c .args .p .u), c .shared-slice-known5 .given (start c .args .p .v)) }
 
+-- by search, so that an edit which hands on another number that is below n is refused where the weight comes out
 edge-requires : tie.Need-edge-requires
 edge-requires c κs =
     let pre = start c .pre in
     let asked = asks-two _ _ _ _ _ (pre .0) (pre .1) (pre .2) in
-    (pre .0, asked .first, asked .second)
+    search (needs, pre .0, asked .first, asked .second, asked .third)
 
 edge-requires-2 : tie.Need-edge-requires-2
 edge-requires-2 c κs =
