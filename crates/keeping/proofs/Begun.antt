@@ -7,7 +7,6 @@ use borrow.Author.Tests.{lt-ltb}
 use lib.ListN.{length, set}
 use Rattle.laws.specs.Lent.{filled}
 use Rattle.laws.proofs.Lent.{filled-next}
-use Rattle.refusal.specs.Fault.{none, fault}
 use Rattle.refusal.specs.Answer.{outcome}
 use Rattle.refusal.specs.Number.{numberOf, faultAt}
 use Rattle.refusal.specs.declared.Refusal.{Refusal}

@@ -3,10 +3,9 @@ use mathlib.Core.Path.{_≡_, sym, ap, _∙_}
 use mathlib.Core.List.{List}
 use Prim.Native.Nat.{ℕ, _*_, _≤_, _<_}
 use borrow.Author.Tests.{lt-ltb, le-ltb, ltb-false}
-use lib.Dec.{ltb}
 use lib.ListN.{length}
 use Rattle.refusal.specs.Fault.{Fault, none, _then_, firstBelow}
-use Rattle.refusal.specs.Number.{numberOf, faultAt}
+use Rattle.refusal.specs.Number.{faultAt}
 use Rattle.refusal.specs.declared.Refusal.{Refusal}
 use Rattle.refusal.specs.declared.Refusal.the-variants.{TooManyPairs, TooShort}
 use Rattle.refusal.specs.declared.Verdict.{Verdict}

@@ -1,7 +1,6 @@
 -- What the calls of a live pool check: what has none of the faults, and that each is there. Assumes nothing.
-use mathlib.Core.Path.{_≡_, refl, sym, _∙_}
-use mathlib.Core.Bool.{true, false, not}
-use mathlib.Core.List.{List}
+use mathlib.Core.Path.{_≡_, refl, _∙_}
+use mathlib.Core.Bool.{not}
 use Prim.Native.Nat.{ℕ, _+_, _*_, _≤_, _<_}
 use native.Mathlib.Omega.{arith}
 use borrow.Author.Tests.{le-ltb, ltb-true, ltb-false, eqb-true, eqb-false, ne-eqb, eq-eqb, not-true, not-false}
@@ -20,10 +19,9 @@ use Rattle.pool.proofs.Points.{points-none, points-passed, points-fault}
 use Rattle.pool.proofs.Pairs.{groups-none, groups-passed, groups-fault, id-none, id-passed, id-fault}
 use Rattle.pool.proofs.Rooms.{fieldRoom-hold, hold-fieldRoom}
 use Rattle.pool.proofs.Reading.{room-none, room-passed, room-fault, tables-none, tables-passed, tables-fault}
-use Rattle.weighing.specs.Promises.{Fit}
 use Rattle.live.specs.Live.{Live, liveVersion, weighedBy, pairOf}
 use Rattle.live.specs.Faults.{startFault, graphFault, keptFault, groupsFault, rangeFault, likeFault, moreFault, storedFault, registerFault, withdrawFault}
-use Rattle.live.specs.Faultless.{TablesKeep, Kept, KeptFault, StartFault, AllInRange, NoneHas, AllUnlike, OneMoreFits, Registrable, RegisterFault, Withdrawable, WithdrawFault}
+use Rattle.live.specs.Faultless.{Kept, KeptFault, StartFault, AllInRange, AllUnlike, OneMoreFits, Registrable, RegisterFault, Withdrawable, WithdrawFault}
 
 -- ## Starting
 

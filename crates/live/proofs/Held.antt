@@ -1,6 +1,6 @@
 -- The theorems on every list of calls from an empty pool. Assumes nothing.
 use mathlib.Core.Path.{_≡_, refl, sym, ap, ap₂, subst, _∙_}
-use mathlib.Core.List.{List, [], _++_, flatMap, map}
+use mathlib.Core.List.{List, _++_, flatMap, map}
 use Prim.Native.Nat.{ℕ, _+_, _-_, _*_, _≤_, _<_}
 use native.Mathlib.Omega.{arith}
 use lib.ListN.{length, take}
@@ -10,12 +10,12 @@ use Rattle.laws.proofs.Below.{length-table, getD-table, map-table}
 use Rattle.laws.proofs.Lent.{take-filled}
 use Rattle.refusal.specs.Answer.{Answer, finished, Outcome, outcome}
 use Rattle.refusal.proofs.Faults.{unless-none}
-use Rattle.pool.specs.Pool.{Pair, Pool}
+use Rattle.pool.specs.Pool.{Pair}
 use Rattle.pool.specs.Points.{Points, registryPoints, pointsBy, hasPoints, pointCount, pointsOf}
 use Rattle.pool.specs.Sheet.{sheetLength}
-use Rattle.pool.specs.Tables.{Fields, Tables, tables, itemIn, pairIn, pointsOfTable, poolIn, filledFields, filledTables}
+use Rattle.pool.specs.Tables.{Tables, tables, itemIn, pairIn, pointsOfTable, poolIn, filledTables}
 use Rattle.pool.specs.Calls.{Head, head, reading, writing}
-use Rattle.pool.specs.Faultless.{KnownVersion, InRange, EachOnce, Faultless, FieldsHold, TablesHold, FaultlessPool}
+use Rattle.pool.specs.Faultless.{KnownVersion, EachOnce, Faultless, FieldsHold, TablesHold, FaultlessPool}
 use Rattle.pool.specs.Promises.{TablesTyped}
 use Rattle.pool.proofs.Points.{points-cong}
 use Rattle.pool.proofs.Writing.{writes-rightly}
@@ -23,13 +23,13 @@ use Rattle.pool.proofs.RoundTrip.{pair-in-filled, point-in-filled, faultless-fi
 use Rattle.donation.specs.Compatibility.{compatibility}
 use Rattle.donation.specs.Weight.{weight}
 use Rattle.graph.specs.Graph.{Graph, graph, inRows, filledGraph}
-use Rattle.weighing.specs.Building.{building, buildFault}
+use Rattle.weighing.specs.Building.{building}
 use Rattle.weighing.specs.Promises.{FaultlessFields, Fit}
 use Rattle.weighing.proofs.Faults.{build-none}
 use Rattle.weighing.proofs.Promised.{rightly}
 use Rattle.live.specs.Live.{Live, liveVersion, weighedBy, pairOf, pairsOf}
-use Rattle.live.specs.Calls.{inOrder, starting, registering, up, withoutAt, withdrawing}
-use Rattle.live.specs.Faultless.{Kept, NoneHas, Registrable, Withdrawable}
+use Rattle.live.specs.Calls.{inOrder, starting, registering, up, withoutAt}
+use Rattle.live.specs.Faultless.{NoneHas, Registrable}
 use Rattle.live.specs.Lists.{Call, after, trace, held, staying}
 use Rattle.live.specs.Promises.{Empty, OnASheet, Holds, LiveHolds, startedWith, StartHolds, HasId, Welcome, AnswersBy, LiveAnswers, MayReturn}
 use Rattle.live.proofs.Tables.{rows-cong, past-hold, up-not, up-below, pair-moved}

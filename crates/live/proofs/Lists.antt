@@ -1,7 +1,7 @@
 -- Every list of calls: what the pool holds, its tables, and which calls finish. Assumes nothing.
 use mathlib.Core.Path.{_≡_, refl, sym, ap, ap₂, subst, _∙_}
-use mathlib.Core.Bool.{Bool, true, false}
-use mathlib.Core.List.{List, [], _∷_, _++_, append-assoc, append-nil, flatMap, map}
+use mathlib.Core.Bool.{false}
+use mathlib.Core.List.{List, [], _∷_, _++_, append-assoc, append-nil, flatMap}
 use Prim.Native.Nat.{ℕ, zero, suc, _+_, _-_, _*_, _≤_, _<_}
 use native.Mathlib.Nat.{add-zero, le-trans, mul-le-mul}
 use native.Mathlib.Numerals.{add-one}
@@ -9,17 +9,15 @@ use native.Mathlib.Omega.{arith}
 use native.Mathlib.Decide.{decLt}
 use borrow.Author.Tests.{eq-eqb, ne-eqb}
 use lib.Dec.{eqb}
-use lib.ListN.{length, getD, take}
-use Rattle.laws.specs.Below.{table, Some, either}
+use Rattle.laws.specs.Below.{table, either}
 use Rattle.laws.specs.Lent.{filled}
-use Rattle.laws.proofs.Below.{below-suc, length-table, getD-table, table-cong, table-add, map-table}
-use Rattle.laws.proofs.Lent.{take-filled}
+use Rattle.laws.proofs.Below.{table-cong, table-add}
 use Rattle.laws.proofs.Lists.{flatMap-append, flatMap-suc}
 use Rattle.refusal.specs.Answer.{Answer, finished, refused, Outcome, outcome}
 use Rattle.pool.specs.Pool.{Pair}
 use Rattle.pool.specs.Points.{Points}
-use Rattle.pool.specs.Tables.{Fields, itemIn, fieldRoom, pairIn}
-use Rattle.pool.specs.Faultless.{InRange, Unlike, SoundPoints, FieldsHold}
+use Rattle.pool.specs.Tables.{Fields, itemIn, fieldRoom}
+use Rattle.pool.specs.Faultless.{InRange, Unlike, FieldsHold}
 use Rattle.pool.proofs.Rooms.{fieldRoom-hold, hold-fieldRoom}
 use Rattle.donation.specs.Compatibility.{compatibility}
 use Rattle.donation.specs.Weight.{weight}
@@ -27,11 +25,11 @@ use Rattle.graph.specs.Graph.{Graph, graph, inRows, filledGraph}
 use Rattle.graph.proofs.Rows.{rows-entry}
 use Rattle.weighing.specs.Promises.{Fit}
 use Rattle.live.specs.Live.{Live, weighedBy, pairOf, pairsOf}
-use Rattle.live.specs.Calls.{registered, registering, up, withoutRow, withoutAt, withdrawing, withPair, withoutPair}
-use Rattle.live.specs.Faultless.{Kept, Registrable, Withdrawable}
+use Rattle.live.specs.Calls.{registered, registering, up, withoutRow, withoutAt, withdrawing, withoutPair}
+use Rattle.live.specs.Faultless.{Kept, Registrable}
 use Rattle.live.specs.Lists.{Call, does, after, said, Said, trace, takesOut, withdrawnIn, staying, broughtIn, held}
 use Rattle.live.specs.Promises.{AllPast, Empty, AsLong, FirstWith}
-use Rattle.live.proofs.Tables.{filled-again, rows-cong, past-hold, pair-there, pair-other, with-past, up-before, up-from, up-below, up-not, up-less, up-same, pair-moved, without-past, row-past}
+use Rattle.live.proofs.Tables.{filled-again, rows-cong, past-hold, up-before, up-from, up-below, up-less, up-same, pair-moved}
 use Rattle.live.proofs.Promised.{is-registered, new-faultless, registering-done, registering-left, gone, gone-first, is-without, withdrawing-done, withdrawing-left}
 
 -- ## A pool that is right: its pairs have no fault, and M and W are what building gives

@@ -1,31 +1,28 @@
 -- The promises of the three calls. Assumes nothing.
 use mathlib.Core.Path.{_≡_, refl, sym, ap, ap₂, subst, _∙_}
 use mathlib.Core.List.{List}
-use Prim.Native.Nat.{ℕ, _+_, _-_, _*_, _≤_, _<_}
+use Prim.Native.Nat.{ℕ, _+_, _*_, _≤_, _<_}
 use native.Mathlib.Omega.{arith}
 use borrow.Author.Tests.{eq-eqb}
 use lib.Dec.{eqb}
 use lib.ListN.{length}
 use Rattle.laws.specs.Lent.{filled}
 use Rattle.laws.proofs.Below.{below-suc, any-hit}
-use Rattle.laws.proofs.Lent.{getD-filled}
-use Rattle.refusal.specs.Answer.{Answer, finished, refused, Outcome, outcome}
+use Rattle.refusal.specs.Answer.{finished, refused, Outcome}
 use Rattle.refusal.proofs.Faults.{unless-none, unless-fault, finished-none, refused-fault}
 use Rattle.pool.specs.Pool.{Pair}
-use Rattle.pool.specs.Points.{Points, registryPoints, pointsBy, hasPoints, pointsOf}
+use Rattle.pool.specs.Points.{Points, pointsBy, hasPoints, pointsOf}
 use Rattle.pool.specs.Tables.{itemIn, pairIn}
 use Rattle.pool.specs.Faultless.{SoundPoints, InRange}
-use Rattle.pool.proofs.Points.{points-by-cong, second-points}
 use Rattle.graph.specs.Graph.{filledGraph}
-use Rattle.weighing.specs.Promises.{FaultlessFields, Fit, entryAt}
+use Rattle.weighing.specs.Promises.{FaultlessFields, entryAt}
 use Rattle.weighing.proofs.Promised.{filled-entries}
 use Rattle.live.specs.Live.{Live, liveVersion, weighedBy, pairOf}
-use Rattle.live.specs.Faults.{startFault, registerFault, withdrawFault}
-use Rattle.live.specs.Calls.{Beginning, beginning, inOrder, starting, withPair, registered, registering, placeOf, up, withoutAt, withdrawing}
+use Rattle.live.specs.Calls.{Beginning, beginning, inOrder, starting, withPair, registered, registering, placeOf, withoutAt, withdrawing}
 use Rattle.live.specs.Faultless.{Kept, Registrable, Withdrawable}
-use Rattle.live.specs.Promises.{Started, StartsRightly, Registered, RegistersRightly, FirstWith, Moved, WithoutIt, WithdrawsRightly, Empty, StartsEmpty}
+use Rattle.live.specs.Promises.{Started, StartsRightly, Registered, RegistersRightly, FirstWith, WithoutIt, WithdrawsRightly, StartsEmpty}
 use Rattle.live.proofs.Faults.{start-none, start-passed, start-fault, register-none, register-passed, register-fault, withdraw-none, withdraw-passed, withdraw-fault}
-use Rattle.live.proofs.Tables.{filled-kept, length-rows, pair-there, pair-other, with-past, past-hold, Found, place-found, moved-up, row-moved, row-past, pair-moved, without-past}
+use Rattle.live.proofs.Tables.{filled-kept, length-rows, pair-there, pair-other, with-past, past-hold, place-found, moved-up, row-moved, row-past, pair-moved, without-past}
 
 -- ## Starting
 

@@ -10,7 +10,7 @@ use Rattle.refusal.specs.Answer.{Outcome, unless}
 use Rattle.pool.specs.Pool.{Pair}
 use Rattle.pool.specs.Points.{Points}
 use Rattle.pool.specs.Tables.{Fields, itemIn, pairIn}
-use Rattle.graph.specs.Graph.{Graph, graph, inRows, filledGraph}
+use Rattle.graph.specs.Graph.{graph, inRows, filledGraph}
 use Rattle.live.specs.Live.{Live, live, weighedBy, pairOf}
 use Rattle.live.specs.Faults.{startFault, registerFault, withdrawFault}
 

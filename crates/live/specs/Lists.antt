@@ -1,6 +1,6 @@
 -- "For every list of these calls from an empty pool": a list of calls, one after another, and what a pool holds by the list and its answers. Assumes nothing.
 use Prim.Native.Nat.{ℕ}
-use mathlib.Core.Bool.{Bool, true, false, cond}
+use mathlib.Core.Bool.{Bool, false, cond}
 use mathlib.Core.List.{List, [], _∷_, _++_}
 use lib.Dec.{eqb}
 use Rattle.laws.specs.Below.{either}

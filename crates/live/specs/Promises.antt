@@ -4,11 +4,11 @@ use Prim.Native.Nat.{ℕ, suc, _+_, _*_, _≤_, _<_}
 use mathlib.Core.Path.{_≡_}
 use mathlib.Core.Logic.{_↔_}
 use mathlib.Core.List.{List, map}
-use lib.ListN.{length, getD, take}
+use lib.ListN.{length, take}
 use Rattle.laws.specs.Below.{table, Some}
 use Rattle.laws.specs.Lent.{filled}
 use Rattle.refusal.specs.Answer.{finished, refused, Outcome, outcome}
-use Rattle.pool.specs.Pool.{Pair, Pool}
+use Rattle.pool.specs.Pool.{Pair}
 use Rattle.pool.specs.Points.{Points, registryPoints, pointsBy}
 use Rattle.pool.specs.Sheet.{sheetLength}
 use Rattle.pool.specs.Tables.{Fields, Tables, tables, itemIn, fieldRoom, filledTables}

@@ -1,7 +1,6 @@
 -- What registering answers and leaves, by what was found. Assumes nothing.
 use mathlib.Core.Path.{_≡_, sym, ap, ap₂, _∙_}
-use mathlib.Core.List.{List}
-use Prim.Native.Nat.{ℕ, _+_, _≤_, _<_}
+use Prim.Native.Nat.{ℕ, _+_}
 use lib.ListN.{length}
 use Rattle.refusal.specs.Fault.{_then_}
 use Rattle.refusal.specs.Answer.{outcome}

@@ -1,5 +1,4 @@
 -- `registering::judge` meets its contract. Assumes nothing.
-use mathlib.Core.List.{[]}
 use borrow.Author.Needs.{needs}
 use Rattle.keeping.proofs.Found.{kept-fits}
 use Rattle.registering.proofs.Judged.{judged-kept, judged-pairs, judged-more, room-fewer}

@@ -1,5 +1,4 @@
 -- `registering::more` meets its contract. Assumes nothing.
-use native.Mathlib.Omega.{arith}
 use borrow.Author.Needs.{needs}
 use Rattle.registering.proofs.Judged.{more-full, more-short, more-rows}
 use Rattle.registering.proofs.more.Statement.{statement}
