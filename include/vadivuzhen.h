@@ -2,7 +2,8 @@
  *
  * From a pool sheet to a printed plan: vadivuzhen_read, vadivuzhen_build, vadivuzhen_plan, vadivuzhen_print_plan; examples/plan.c goes that way.
  * vadivuzhen_write makes a sheet from a pool, vadivuzhen_join one sheet of two, vadivuzhen_print_refusal prints what was refused. vadivuzhen_start,
- * vadivuzhen_register and vadivuzhen_withdraw keep a live pool from match to match, with its tables always ready for vadivuzhen_plan.
+ * vadivuzhen_register and vadivuzhen_withdraw keep a live pool from match to match, with its tables always ready for vadivuzhen_plan and the number of
+ * suitable donors stored for each patient.
  *
  * Every function is proved, for all bytes, tables and lengths, to answer a result or one of the refusals below, to do nothing undefined and to return.
  * No call has to be prepared by a check: each checks its own input. What is proved of each call stands with it. The proofs are of the source; the
@@ -68,7 +69,8 @@ enum vadivuzhen_refusal {
     VADIVUZHEN_TOO_MANY_TOGETHER = 12, /* the sheets have more than 200 pairs together, or the live pool has 200 already */
     /* the calling program */
     VADIVUZHEN_TOO_SHORT = 9,       /* a lent buffer or table is too short */
-    VADIVUZHEN_NOT_COMPATIBILITY = 10, /* a compatibility entry is above 1, or a pair's own is not 0 */
+    VADIVUZHEN_NOT_COMPATIBILITY = 10, /* a compatibility entry is above 1, or a pair's own is not 0 (planning); or a stored number is not the ones in its
+                                        * column of M (registering, withdrawing) */
     VADIVUZHEN_FLOOR_TOO_HIGH = 13,    /* the floor is above 200,000 */
     VADIVUZHEN_UNKNOWN_ID = 16         /* the id is not in the live pool */
 };
@@ -217,21 +219,25 @@ VADIVUZHEN_ANSWERS struct vadivuzhen_build_answer vadivuzhen_build(
 /* ---- A pool that lives between matches ---- */
 
 /* A live pool is the caller's, from call to call: a count, which is one number; a table of VADIVUZHEN_POINTS points; the eight tables of the pairs' fields;
- * and M and W. With the count at N, the pairs stand in the first N entries of each table of the fields, in order of registration, and M and W are N rows
- * of N, with the entry for donor i and patient j at i * N + j: what vadivuzhen_build gives for these pairs and points in version 2, and what
+ * M and W; and `suitable`. With the count at N, the pairs stand in the first N entries of each table of the fields, in order of registration, and M and W are
+ * N rows of N, with the entry for donor i and patient j at i * N + j: what vadivuzhen_build gives for these pairs and points in version 2, and what
  * vadivuzhen_plan takes. As the length of a row changes with the count, a pair that registers or withdraws changes where every entry stands. There is no
  * shuffle: it is drawn for a match, and vadivuzhen_write makes a sheet of version 2 of the pool with it.
  *
+ * Of `suitable` the first N entries are stored numbers, one for each patient: entry j is the number of donors that suit patient j, which is the ones in column
+ * j of M, that is how many of the N entries at i * N + j are 1. Whoever shows these numbers reads them there; no call is made for that.
+ *
  * Tables of VADIVUZHEN_MOST_PAIRS entries, and M and W of VADIVUZHEN_ENTRIES(VADIVUZHEN_MOST_PAIRS), always suffice. They may be shorter, with room for
- * fewer pairs. What they hold past the count's entries does not matter, and stays as it is: after a withdrawal the last pair's fields, and the last
- * entries of the former M and W, are still there, past the new count.
+ * fewer pairs. What they hold past the count's entries does not matter, and stays as it is: after a withdrawal the last pair's fields and stored number, and
+ * the last entries of the former M and W, are still there, past the new count.
  *
  * Proved, for every list of registrations and withdrawals after a finished start, refused ones among them, where nothing else changes the tables or the
  * count: the pool holds the pairs registered and not withdrawn since, in order of registration; its points are those that it was started with; and
- * vadivuzhen_build, called in version 2 with these tables, finishes and changes nothing, as M and W are already what it gives. Written as a sheet of
- * version 2, with any shuffle, and read again, the pool has the same pairs and points, and vadivuzhen_build gives the same M and W. A registration finishes
- * if and only if the pair is in range, no pair of the pool has its id, there are fewer than 200 and one more fits; a withdrawal, if and only if the id is in
- * the pool. So an id that was withdrawn may register again. */
+ * vadivuzhen_build, called in version 2 with these tables, finishes and changes nothing, as M and W are already what it gives. Entry j of `suitable` is the
+ * ones in column j of M, and so the number of pairs of the pool whose donor suits patient j. Written as a sheet of version 2, with any shuffle, and read
+ * again, the pool has the same pairs and points, and vadivuzhen_build gives the same M and W. A registration finishes if and only if the pair is in range, no
+ * pair of the pool has its id, there are fewer than 200 and one more fits; a withdrawal, if and only if the id is in the pool. So an id that was withdrawn
+ * may register again, and neither call ever refuses 10. */
 
 /* The six points, in the order of the sheet. */
 struct vadivuzhen_points {
@@ -269,14 +275,16 @@ VADIVUZHEN_ANSWERS struct vadivuzhen_live_answer vadivuzhen_start(
     uint16_t *points, size_t points_length,
     size_t *count);
 
-/* Registers the pair at the end of the live pool, and builds both tables anew, from all pairs and the stored points, whatever M and W held.
- * With the count at N: puts the pair at entry N of each table of the fields, fills VADIVUZHEN_ENTRIES(N + 1) entries of M and of W, and sets the count to
- * N + 1. The earlier pairs are not changed.
- * Refuses 4, where the count is above 200; 9, where a table of the fields has fewer than N entries, M or W fewer than VADIVUZHEN_ENTRIES(N), or the points
- * fewer than VADIVUZHEN_POINTS; 14, of the stored points; 6, of any pair, stored or new; 7, where a stored pair has the id of an earlier one, or the new pair
- * that of a stored one; 12, where N is 200, whatever the lengths; 9, where one more does not fit: a table of the fields has fewer than N + 1 entries, or M or
- * W fewer than VADIVUZHEN_ENTRIES(N + 1). Each number is looked for in the whole pool before the next is: where a stored id is there twice and the new
- * pair is out of range, that is 6.
+/* Registers the pair at the end of the live pool, builds both tables anew, from all pairs and the stored points, whatever M and W held, and counts every
+ * patient's suitable donors anew, in the M that is then built.
+ * With the count at N: puts the pair at entry N of each table of the fields, fills VADIVUZHEN_ENTRIES(N + 1) entries of M and of W and N + 1 of `suitable`,
+ * and sets the count to N + 1. The earlier pairs are not changed.
+ * Refuses 4, where the count is above 200; 9, where a table of the fields or `suitable` has fewer than N entries, M or W fewer than VADIVUZHEN_ENTRIES(N), or
+ * the points fewer than VADIVUZHEN_POINTS; 14, of the stored points; 10, where one of the N stored numbers is not the ones in its column of the M that is
+ * lent; 6, of any pair, stored or new; 7, where a stored pair has the id of an earlier one, or the new pair that of a stored one; 12, where N is 200, whatever
+ * the lengths; 9, where one more does not fit: a table of the fields or `suitable` has fewer than N + 1 entries, or M or W fewer than
+ * VADIVUZHEN_ENTRIES(N + 1). 10 asks nothing else of M: an entry above 1 is no one, and a pair's own counts where it is 1. Each number is looked for in the
+ * whole pool before the next is: where a stored id is there twice and the new pair is out of range, that is 6.
  * Proved: a pair is registered if and only if there is none of these faults. */
 VADIVUZHEN_ANSWERS struct vadivuzhen_live_answer vadivuzhen_register(
     size_t *count,
@@ -291,14 +299,16 @@ VADIVUZHEN_ANSWERS struct vadivuzhen_live_answer vadivuzhen_register(
     uint64_t *patient_antibodies, size_t patient_antibodies_length,
     uint8_t *m, size_t m_length,
     uint16_t *w, size_t w_length,
+    uint16_t *suitable, size_t suitable_length,
     struct vadivuzhen_pair pair);
 
 /* Withdraws the first pair of the live pool that has the id; the later ones move down by one. Of M and W, whatever they hold, that pair's row and column are
- * taken out; nothing is weighed anew.
- * With the count at N: fills N - 1 entries of each table of the fields, VADIVUZHEN_ENTRIES(N - 1) entries of M and of W, and sets the count to N - 1. The
- * entries after these are as they were, and are not cleared.
- * Refuses 4, where the count is above 200; 9, where a table of the fields has fewer than N entries, M or W fewer than VADIVUZHEN_ENTRIES(N), or the points
- * fewer than VADIVUZHEN_POINTS; 14, of the stored points; 16, where no stored pair has the id. Of the stored pairs nothing but the ids is looked at.
+ * taken out; nothing is weighed anew. The stored numbers of the patients that are left are then the ones in the columns of the M that is left.
+ * With the count at N: fills N - 1 entries of each table of the fields and of `suitable`, VADIVUZHEN_ENTRIES(N - 1) entries of M and of W, and sets the count
+ * to N - 1. The entries after these are as they were, and are not cleared.
+ * Refuses 4, where the count is above 200; 9, where a table of the fields or `suitable` has fewer than N entries, M or W fewer than VADIVUZHEN_ENTRIES(N), or
+ * the points fewer than VADIVUZHEN_POINTS; 14, of the stored points; 10, as vadivuzhen_register; 16, where no stored pair has the id. Of the stored pairs'
+ * fields nothing but the ids is looked at.
  * Proved: a pair is withdrawn if and only if there is none of these faults. */
 VADIVUZHEN_ANSWERS struct vadivuzhen_live_answer vadivuzhen_withdraw(
     size_t *count,
@@ -313,6 +323,7 @@ VADIVUZHEN_ANSWERS struct vadivuzhen_live_answer vadivuzhen_withdraw(
     uint64_t *patient_antibodies, size_t patient_antibodies_length,
     uint8_t *m, size_t m_length,
     uint16_t *w, size_t w_length,
+    uint16_t *suitable, size_t suitable_length,
     uint32_t id);
 
 /* ---- Planning ---- */

@@ -116,7 +116,7 @@ def try_calls(folder):
         return
     done = run(program, given=(top / 'examples' / 'two.sheet').read_bytes())
     lines = done.stdout.decode().splitlines()
-    check(done.returncode == 0 and len(lines) == 181, f'tests/calls.c: status {done.returncode}, {len(lines)} checks')
+    check(done.returncode == 0 and len(lines) == 196, f'tests/calls.c: status {done.returncode}, {len(lines)} checks')
     for line in lines:
         check(line.startswith('ok: '), f'tests/calls.c: {line}')
 

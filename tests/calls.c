@@ -441,10 +441,11 @@ struct live {
     uint64_t donor_antigens[1 + ROOM + 1], patient_antigens[1 + ROOM + 1], patient_antibodies[1 + ROOM + 1];
     uint8_t m[1 + ROOM * ROOM + 1];
     uint16_t w[1 + ROOM * ROOM + 1];
+    uint16_t suitable[1 + ROOM + 1];
 };
 
-/* The lengths that are lent: of the eight tables of the fields, in the order of the calls, of M, W and the points. */
-enum { FIELDS = 8, LENGTH_M = FIELDS, LENGTH_W, LENGTH_POINTS, LENGTHS };
+/* The lengths that are lent: of the eight tables of the fields, in the order of the calls, of M, W, the stored numbers and the points. */
+enum { FIELDS = 8, LENGTH_M = FIELDS, LENGTH_W, LENGTH_SUITABLE, LENGTH_POINTS, LENGTHS };
 struct lengths {
     size_t of[LENGTHS];
 };
@@ -456,6 +457,7 @@ static struct lengths lengths_for(size_t n)
     for (size_t i = 0; i < FIELDS; i++)
         lengths.of[i] = n;
     lengths.of[LENGTH_M] = lengths.of[LENGTH_W] = VADIVUZHEN_ENTRIES(n);
+    lengths.of[LENGTH_SUITABLE] = n;
     lengths.of[LENGTH_POINTS] = VADIVUZHEN_POINTS;
     return lengths;
 }
@@ -487,6 +489,7 @@ static void blank(struct live *pool)
         pool->ids[i] = 99;
         pool->donor_blood[i] = pool->patient_blood[i] = pool->donor_age[i] = pool->patient_age[i] = 99;
         pool->donor_antigens[i] = pool->patient_antigens[i] = pool->patient_antibodies[i] = 99;
+        pool->suitable[i] = 99;
     }
     for (size_t i = 0; i < ROOM * ROOM + 2; i++)
         pool->m[i] = 99, pool->w[i] = 99;
@@ -497,7 +500,8 @@ static int as_due(void)
 {
 #define SAME(table) (memcmp(live.table, due.table, sizeof live.table) == 0)
     return SAME(count) && SAME(points) && SAME(ids) && SAME(donor_blood) && SAME(patient_blood) && SAME(donor_age) && SAME(patient_age)
-        && SAME(donor_antigens) && SAME(patient_antigens) && SAME(patient_antibodies) && SAME(m) && SAME(w);
+        && SAME(donor_antigens) && SAME(patient_antigens) && SAME(patient_antibodies) && SAME(m) && SAME(w)
+        && SAME(suitable);
 #undef SAME
 }
 
@@ -517,7 +521,7 @@ static uint32_t start(const uint16_t *with, size_t length)
     live.count + 1, live.points + 1, (lengths).of[LENGTH_POINTS], live.ids + 1, (lengths).of[0], live.donor_blood + 1, (lengths).of[1], \
         live.patient_blood + 1, (lengths).of[2], live.donor_age + 1, (lengths).of[3], live.patient_age + 1, (lengths).of[4], \
         live.donor_antigens + 1, (lengths).of[5], live.patient_antigens + 1, (lengths).of[6], live.patient_antibodies + 1, (lengths).of[7], \
-        live.m + 1, (lengths).of[LENGTH_M], live.w + 1, (lengths).of[LENGTH_W]
+        live.m + 1, (lengths).of[LENGTH_M], live.w + 1, (lengths).of[LENGTH_W], live.suitable + 1, (lengths).of[LENGTH_SUITABLE]
 
 static uint32_t enter(struct lengths lengths, struct vadivuzhen_pair pair)
 {
@@ -529,22 +533,35 @@ static uint32_t leave(struct lengths lengths, uint32_t id)
     return vadivuzhen_withdraw(LENT(lengths), id).refusal;
 }
 
-/* Puts n rows of n into M and W of what is due: what vadivuzhen_build gives for the first n of its pairs. */
+/* Stores for n patients the ones in the columns of M. */
+static void count_donors(struct live *pool, size_t n)
+{
+    for (size_t j = 0; j < n; j++) {
+        pool->suitable[1 + j] = 0;
+        for (size_t i = 0; i < n; i++)
+            pool->suitable[1 + j] += pool->m[1 + i * n + j] == 1;
+    }
+}
+
+/* Puts n rows of n into M and W of what is due, what vadivuzhen_build gives for the first n of its pairs, and the ones in the columns of that M. */
 static int due_built(size_t n)
 {
-    return vadivuzhen_build(
+    uint32_t refusal = vadivuzhen_build(
         2, n, due.points + 1, VADIVUZHEN_POINTS, due.ids + 1, n, due.donor_blood + 1, n, due.patient_blood + 1, n, due.donor_age + 1, n,
         due.patient_age + 1, n, due.donor_antigens + 1, n, due.patient_antigens + 1, n, due.patient_antibodies + 1, n,
-        due.m + 1, VADIVUZHEN_ENTRIES(n), due.w + 1, VADIVUZHEN_ENTRIES(n)).refusal == VADIVUZHEN_FINISHED;
+        due.m + 1, VADIVUZHEN_ENTRIES(n), due.w + 1, VADIVUZHEN_ENTRIES(n)).refusal;
+    count_donors(&due, n);
+    return refusal == VADIVUZHEN_FINISHED;
 }
 
 /* The pool is due to have n pairs, the last of them this one, and these tables. */
-static void due_with(size_t n, struct vadivuzhen_pair last, const uint8_t *m, const uint16_t *w)
+static void due_with(size_t n, struct vadivuzhen_pair last, const uint8_t *m, const uint16_t *w, const uint16_t *suitable)
 {
     due.count[1] = n;
     put(&due, n - 1, last);
     memcpy(due.m + 1, m, VADIVUZHEN_ENTRIES(n) * sizeof *m);
     memcpy(due.w + 1, w, VADIVUZHEN_ENTRIES(n) * sizeof *w);
+    memcpy(due.suitable + 1, suitable, n * sizeof *suitable);
 }
 
 static void starts(void)
@@ -583,23 +600,25 @@ static void lives(void)
     static const uint8_t m[3][9] = {{0}, {0, 1, 1, 0}, {0, 1, 0, 1, 0, 0, 1, 1, 0}}, without[4] = {0, 0, 1, 0}, again[9] = {0, 0, 1, 1, 0, 1, 1, 0, 0};
     static const uint16_t w[3][9] = {{0}, {0, 1450, 1450, 0}, {0, 1450, 1450, 1450, 0, 1450, 1100, 1100, 0}}, w_without[4] = {0, 1450, 1100, 0},
                           w_again[9] = {0, 1450, 1450, 1100, 0, 1100, 1450, 1450, 0}, order[3] = {0, 1, 2};
+    static const uint16_t suitable[3][3] = {{0}, {1, 1}, {2, 2, 0}}, suitable_without[2] = {1, 0}, suitable_again[3] = {2, 0, 2};
     struct lengths room = lengths_for(4), just = lengths_for(3);
     blank(&live), blank(&due);
     memcpy(due.points + 1, document, sizeof document);
     check(start(document, VADIVUZHEN_POINTS) == VADIVUZHEN_FINISHED, "a live pool with document 01's points");
     for (size_t n = 1; n <= 3; n++) {
-        due_with(n, three[n - 1], m[n - 1], w[n - 1]);
-        check(enter(lengths_for(n), three[n - 1]) == VADIVUZHEN_FINISHED && as_due(), "a pair registers in tables that just hold it, and M and W are as due");
+        due_with(n, three[n - 1], m[n - 1], w[n - 1], suitable[n - 1]);
+        check(enter(lengths_for(n), three[n - 1]) == VADIVUZHEN_FINISHED && as_due(),
+              "a pair registers in tables that just hold it, and M, W and the numbers of suitable donors are as due");
     }
     check(enter(room, three[1]) == VADIVUZHEN_REPEATED_ID && as_due(), "an id in the pool does not register again");
 
     /* past the new entries of M and W, and at the last pair's former place, everything stays */
-    due_with(2, three[2], without, w_without);
+    due_with(2, three[2], without, w_without, suitable_without);
     check(leave(just, 12) == VADIVUZHEN_FINISHED && as_due(), "the pair in the middle withdraws, and past the new count's entries nothing changes");
     check(leave(room, 12) == VADIVUZHEN_UNKNOWN_ID && as_due(), "it does not withdraw again");
-    due_with(3, three[1], again, w_again);
+    due_with(3, three[1], again, w_again, suitable_again);
     check(enter(room, three[1]) == VADIVUZHEN_FINISHED && as_due(), "it registers again, after the others");
-    check(due_built(3) && as_due(), "M and W are what is built from the pairs");
+    check(due_built(3) && as_due(), "M and W are what is built from the pairs, with its numbers");
 
     uint32_t weights[VADIVUZHEN_SUBSETS(3)] = {0}, choices[VADIVUZHEN_ROUNDS(3)] = {0};
     uint16_t donors[3] = {0}, recipients[3] = {0};
@@ -629,63 +648,102 @@ static struct vadivuzhen_pair sound(size_t i)
         drawn >> 18 & 0xFF, drawn >> 10 & 0xFF, drawn >> 7 & 7};
 }
 
-/* A pool with document 01's points and that many sound pairs, and 99 in M and W; sound pairs stand past the count, too. */
+/* A pool with document 01's points and that many sound pairs; such pairs stand past the count, too. M and W hold what no pairs give: M ones here and there, a
+ * pair's own among them, and other numbers beside them, W another number in every entry. The stored numbers are the ones in the columns. */
 static void sound_pool(struct live *pool, size_t n)
 {
     blank(pool);
     memcpy(pool->points + 1, document, sizeof document);
     for (size_t i = 0; i < ROOM; i++)
         put(pool, i, sound(i));
+    for (size_t i = 0; i < ROOM * ROOM; i++) {
+        pool->m[1 + i] = (uint32_t)(i + 1) * 2654435761u >> 31 ? 1 : (uint8_t)(i * 7);
+        pool->w[1 + i] = (uint16_t)i;
+    }
     pool->count[1] = n;
+    count_donors(pool, n);
 }
 
-/* Withdrawing takes out what stands in M and W, whatever it is: every entry has another number here. */
+/* Without the pair at the gap the live pool of n sound pairs is due: the later ones have moved down, and of M and W, whatever they hold, one row and one column
+ * are taken out. The numbers are those of what is left. */
+static void due_without(size_t n, size_t gap)
+{
+    size_t to = 1;
+    due = live;
+    due.count[1] = n - 1;
+    for (size_t i = gap; i + 1 < n; i++)
+        put(&due, i, sound(i + 1));
+    for (size_t i = 0; i < n; i++)
+        for (size_t j = 0; j < n; j++)
+            if (i != gap && j != gap)
+                due.m[to] = live.m[1 + i * n + j], due.w[to] = live.w[1 + i * n + j], to++;
+    count_donors(&due, n - 1);
+}
+
+/* Withdrawing from pools that no list of calls has left so. */
 static void taken_out(void)
 {
     for (size_t n = 1; n <= 5; n++) {
         int all = 1;
         for (size_t gap = 0; gap < n; gap++) {
-            size_t to = 1;
             sound_pool(&live, n);
-            for (size_t i = 0; i < ROOM * ROOM; i++)
-                live.m[1 + i] = (uint8_t)(i * 7), live.w[1 + i] = (uint16_t)i;
-            due = live;
-            due.count[1] = n - 1;
-            for (size_t i = gap; i + 1 < n; i++)
-                put(&due, i, sound(i + 1));
-            for (size_t i = 0; i < n; i++)
-                for (size_t j = 0; j < n; j++)
-                    if (i != gap && j != gap)
-                        due.m[to] = live.m[1 + i * n + j], due.w[to] = live.w[1 + i * n + j], to++;
+            due_without(n, gap);
             all = all && leave(lengths_for(n + gap % 2), live.ids[1 + gap]) == VADIVUZHEN_FINISHED && as_due();
         }
-        check(all, "of any pair withdrawn one row and one column are taken out, and the later pairs move down");
+        check(all, "of any pair withdrawn one row and one column are taken out, the later pairs move down, and the numbers are of what is left");
     }
 
     sound_pool(&live, 4);
     live.ids[1 + 2] = live.ids[1 + 1];
     live.donor_blood[1 + 1] = 4;
     live.patient_age[1 + 3] = 2;
-    due = live;
-    due.count[1] = 3;
-    for (size_t i = 1; i < 3; i++)
-        put(&due, i, sound(i + 1));
+    due_without(4, 1);
     due.ids[1 + 1] = live.ids[1 + 1];
     due.patient_age[1 + 2] = 2;
     check(leave(lengths_for(4), live.ids[1 + 1]) == VADIVUZHEN_FINISHED && as_due(), "of two with an id the first withdraws, and a pair out of range can");
 }
 
-/* The faults of a live pool: those of registering in their order, and of withdrawing the first three and the last. */
-enum fault { ABOVE, SHORT, POINTS, RANGE, TWICE, FULL, NO_ROOM, UNKNOWN, FAULTS };
+/* The live pool has three pairs, and M and the numbers as a caller has put them in: an entry above 1 is no one, and a pair's own counts. */
+static void put_by_hand(void)
+{
+    static const uint8_t m[9] = {0, 1, 5, 1, 1, 2, 0, 1, 1};
+    static const uint16_t suitable[3] = {1, 3, 1};
+    sound_pool(&live, 3);
+    memcpy(live.m + 1, m, sizeof m);
+    memcpy(live.suitable + 1, suitable, sizeof suitable);
+}
+
+/* Where a caller has changed M and the numbers alike, neither call refuses 10. */
+static void by_hand(void)
+{
+    static const uint8_t m[4] = {0, 5, 0, 1};
+    static const uint16_t suitable[2] = {0, 1};
+    put_by_hand();
+    due_without(3, 1);
+    memcpy(due.m + 1, m, sizeof m);
+    memcpy(due.suitable + 1, suitable, sizeof suitable);
+    check(leave(lengths_for(3), live.ids[1 + 1]) == VADIVUZHEN_FINISHED && as_due(), "from tables put in by hand the middle pair withdraws, and 0 1 is left");
+
+    put_by_hand();
+    due = live;
+    due.count[1] = 4;
+    put(&due, 3, sound(3));
+    check(due_built(4) && enter(lengths_for(4), sound(3)) == VADIVUZHEN_FINISHED && as_due(), "or a pair registers, and M is built and counted anew");
+}
+
+/* The faults of a live pool: those of registering in their order, and of withdrawing the first four and the last. */
+enum fault { ABOVE, SHORT, POINTS, NUMBER, RANGE, TWICE, FULL, NO_ROOM, UNKNOWN, FAULTS };
 static const uint32_t number_of[FAULTS] = {
-    VADIVUZHEN_TOO_MANY_PAIRS, VADIVUZHEN_TOO_SHORT, VADIVUZHEN_WRONG_POINTS, VADIVUZHEN_OUT_OF_RANGE, VADIVUZHEN_REPEATED_ID,
-    VADIVUZHEN_TOO_MANY_TOGETHER, VADIVUZHEN_TOO_SHORT, VADIVUZHEN_UNKNOWN_ID,
+    VADIVUZHEN_TOO_MANY_PAIRS, VADIVUZHEN_TOO_SHORT, VADIVUZHEN_WRONG_POINTS, VADIVUZHEN_NOT_COMPATIBILITY, VADIVUZHEN_OUT_OF_RANGE,
+    VADIVUZHEN_REPEATED_ID, VADIVUZHEN_TOO_MANY_TOGETHER, VADIVUZHEN_TOO_SHORT, VADIVUZHEN_UNKNOWN_ID,
 };
 static const char *const name_of[FAULTS] = {
-    "a count above 200", "a table too short", "wrong points", "a pair out of range", "an id twice", "200 pairs", "no room for one more", "an unknown id",
+    "a count above 200", "a table too short", "wrong points", "a wrong number", "a pair out of range", "an id twice", "200 pairs", "no room for one more",
+    "an unknown id",
 };
-/* How many ways there are to have each: a count; a table; a base or a sum; one of four fields of the first pair, the last or the new one; two ids. */
-static const size_t ways[FAULTS] = {2, LENGTHS, 2, 12, 3, 1, LENGTH_POINTS, 1};
+/* How many ways there are to have each: a count; a table; a base or a sum; the number of the first patient, a middle one or the last, one too low or too high;
+ * one of four fields of the first pair, the last or the new one; two ids. */
+static const size_t ways[FAULTS] = {2, LENGTHS, 2, 6, 12, 3, 1, LENGTH_POINTS, 1};
 
 /* What a call is made with, besides the live pool. */
 struct call {
@@ -716,6 +774,9 @@ static void spoil(struct call *call, size_t n, enum fault fault, size_t way)
         break;
     case POINTS:
         memcpy(live.points + 1, wrong[way], sizeof wrong[way]);
+        break;
+    case NUMBER:
+        live.suitable[1 + way / 2 * (n - 1) / 2] += way % 2 == 0 ? -1 : 1;
         break;
     case RANGE:
         *(way < 4 ? first[way % 4] : way < 8 ? first[way % 4] + n - 1 : new[way % 4]) = way % 4 < 2 ? 4 : 2;
@@ -758,7 +819,7 @@ static void live_faults(void)
     for (int registers = 0; registers < 2; registers++)
         for (enum fault one = ABOVE; one < FAULTS; one++)
             for (enum fault other = one; other < FAULTS; other++) {
-                int ones = one <= POINTS || (one == UNKNOWN) != registers, others = other <= POINTS || (other == UNKNOWN) != registers;
+                int ones = one <= NUMBER || (one == UNKNOWN) != registers, others = other <= NUMBER || (other == UNKNOWN) != registers;
                 if (!ones || !others)
                     continue;
                 snprintf(what, sizeof what, "%s: %s%s%s is refused as due", registers ? "registering" : "withdrawing", name_of[one],
@@ -773,7 +834,8 @@ static void live_faults(void)
     put(&due, 3, call.pair);
     check(due_built(4) && enter(lengths_for(4), call.pair) == VADIVUZHEN_FINISHED && as_due(), "and without a fault a pair registers, whatever M and W held");
     call = call_on(3);
-    check(leave(lengths_for(3), call.id) == VADIVUZHEN_FINISHED && live.count[1] == 2, "or withdraws");
+    due_without(3, 1);
+    check(leave(lengths_for(3), call.id) == VADIVUZHEN_FINISHED && as_due(), "or withdraws");
 }
 
 /* 200 pairs, and one more. */
@@ -786,14 +848,14 @@ static void two_hundred(void)
     for (size_t i = 0; i < VADIVUZHEN_MOST_PAIRS; i++)
         all = all && enter(just, sound(i)) == VADIVUZHEN_FINISHED && live.count[1] == i + 1;
     due = live;
-    check(all && due_built(VADIVUZHEN_MOST_PAIRS) && as_due(), "200 pairs register, and M and W are what is built from them");
+    check(all && due_built(VADIVUZHEN_MOST_PAIRS) && as_due(), "200 pairs register, and M and W are what is built from them, with its numbers");
     check(enter(just, sound(200)) == VADIVUZHEN_TOO_MANY_TOGETHER && as_due(), "one more does not");
     check(enter(lengths_for(ROOM), sound(200)) == VADIVUZHEN_TOO_MANY_TOGETHER && as_due(), "nor where the tables have room for it");
     check(enter(just, sound(199)) == VADIVUZHEN_REPEATED_ID && as_due(), "and an id in the pool is told before");
 
     check(leave(just, sound(77).id) == VADIVUZHEN_FINISHED && live.count[1] == 199, "one withdraws");
     due = live;
-    check(due_built(199) && as_due(), "and M and W are what is built from those that are left, with the old entries past them");
+    check(due_built(199) && as_due(), "and M, W and the numbers are what is built from those that are left, with the old entries past them");
     check(enter(just, sound(200)) == VADIVUZHEN_FINISHED && live.count[1] == 200 && live.ids[200] == sound(200).id, "then one more registers");
     due = live;
     check(due_built(VADIVUZHEN_MOST_PAIRS) && as_due() && live.ids[1 + 77] == sound(78).id, "at the end");
@@ -841,6 +903,7 @@ int main(void)
     starts();
     lives();
     taken_out();
+    by_hand();
     live_faults();
     two_hundred();
     texts();

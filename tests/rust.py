@@ -24,7 +24,7 @@ def said(done):
 tests = cargo('rust', 'test', '--offline')
 results = re.findall(r'^test (\S+.*) \.\.\. (\w+)', tests.stdout.decode(), re.M)
 check(tests.returncode == 0, 'cargo test failed:\n' + said(tests))
-check(len(results) >= 41, f'only {len(results)} tests ran')
+check(len(results) >= 43, f'only {len(results)} tests ran')
 for name, result in results:
     check(result == 'ok', f'{name}: {result}')
 
@@ -60,6 +60,7 @@ bench = cargo('bench', 'run', '--release', '--offline', '--quiet', '--', '10')
 check(bench.returncode == 0 and re.search(rb'^\| 10 \| \d+ \|', bench.stdout, re.M), 'the benchmark:\n' + said(bench))
 check(re.search(rb'^\| pairs \| join.*\n.*\n\| 10 \| \d', bench.stdout, re.M), 'the benchmark does not time joining:\n' + said(bench))
 check(re.search(rb'^\| pairs \| register.*\n.*\n\| 10 \| \d', bench.stdout, re.M), 'the benchmark does not time a live pool:\n' + said(bench))
+check(re.search(rb'^\| pairs \| 1000 refreshes.*\n.*\n\| 10 \| \d', bench.stdout, re.M), 'the benchmark does not time refreshes:\n' + said(bench))
 check(re.search(rb'^\| pairs \| floor.*\n.*\n\| 10 \| \d', bench.stdout, re.M), 'the benchmark does not time a floor:\n' + said(bench))
 check(re.search(rb'^\| pairs \| read, version 2.*\n.*\n\| 10 \| \d', bench.stdout, re.M), 'the benchmark does not time version 2:\n' + said(bench))
 

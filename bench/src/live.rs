@@ -21,12 +21,13 @@ pub struct Lent {
     donor_antigens: Vec<u64>,
     patient_antigens: Vec<u64>,
     patient_antibodies: Vec<u64>,
-    m: Vec<u8>,
+    pub m: Vec<u8>,
     w: Vec<u16>,
+    pub suitable: Vec<u16>,
 }
 
 impl Lent {
-    /// All pairs of the pool, with M and W not built.
+    /// All pairs of the pool, with M and W not built and nothing counted.
     pub fn new(points: Points, pool: &Pool) -> Lent {
         let n = pool.len();
         Lent {
@@ -42,7 +43,16 @@ impl Lent {
             patient_antibodies: pool.patient_antibodies.clone(),
             m: vec![0; n * n],
             w: vec![0; n * n],
+            suitable: vec![0; n],
         }
+    }
+
+    /// Sets the count, M and the numbers to those of this pool: 10 holds them to
+    /// each other.
+    pub fn set_to(&mut self, plain: &Plain) {
+        self.count = plain.pairs.len();
+        self.m[..plain.m.len()].copy_from_slice(&plain.m);
+        self.suitable[..self.count].copy_from_slice(&plain.suitable);
     }
 
     fn lent(&mut self) -> raw::LentLive<'_> {
@@ -59,6 +69,7 @@ impl Lent {
             patient_antibodies: &mut self.patient_antibodies,
             m: &mut self.m,
             w: &mut self.w,
+            suitable: &mut self.suitable,
         }
     }
 
@@ -88,12 +99,13 @@ impl Lent {
         (0..self.count).map(|i| self.pair(i)).collect()
     }
 
-    /// Both hold the same pairs, and the same tables.
+    /// Both hold the same pairs, tables and numbers.
     pub fn assert_is(&self, plain: &Plain) {
         let n = self.count;
         assert_eq!(self.pairs(), plain.pairs);
         assert_eq!(self.m[..n * n], plain.m);
         assert_eq!(self.w[..n * n], plain.w);
+        assert_eq!(self.suitable[..n], plain.suitable);
     }
 }
 
@@ -105,23 +117,36 @@ pub struct Plain {
     pub pairs: Vec<Pair>,
     pub m: Vec<u8>,
     pub w: Vec<u16>,
+    pub suitable: Vec<u16>,
 }
 
 impl Plain {
-    /// These pairs, with M and W not built.
+    /// These pairs, with their tables and numbers.
     pub fn new(points: Points, pairs: Vec<Pair>) -> Plain {
-        let entries = pairs.len() * pairs.len();
-        Plain {
+        let mut plain = Plain {
             points,
             pairs,
-            m: vec![0; entries],
-            w: vec![0; entries],
-        }
+            m: Vec::new(),
+            w: Vec::new(),
+            suitable: Vec::new(),
+        };
+        plain.build();
+        plain
     }
 
-    /// Registers the pair at the end, and builds both tables anew.
+    /// Sets the pairs, M and the numbers to those of this pool, and W to their
+    /// size.
+    pub fn set_to(&mut self, plain: &Plain) {
+        self.pairs.clone_from(&plain.pairs);
+        self.m.clone_from(&plain.m);
+        self.w.resize(plain.w.len(), 0);
+        self.suitable.clone_from(&plain.suitable);
+    }
+
+    /// Registers the pair at the end, and builds both tables and counts anew.
     pub fn register(&mut self, pair: Pair) -> Result<(), Refusal> {
         self.check_points()?;
+        self.check_numbers()?;
         let (stored, n) = (&self.pairs, self.pairs.len());
         if !stored.iter().all(in_range) || !in_range(&pair) {
             return Err(Refusal::OutOfRange);
@@ -138,14 +163,20 @@ impl Plain {
         Ok(())
     }
 
-    /// Withdraws the first pair with the id, and takes its row and its column
-    /// out of both tables.
+    /// Withdraws the first pair with the id, takes its row and its column out of
+    /// both tables, and lowers the numbers of those whom its donor suits.
     pub fn withdraw(&mut self, id: u32) -> Result<(), Refusal> {
         self.check_points()?;
+        self.check_numbers()?;
         let n = self.pairs.len();
         let found = self.pairs.iter().position(|pair| pair.id == id);
         let gap = found.ok_or(Refusal::UnknownId)?;
         self.pairs.remove(gap);
+        let row = &self.m[gap * n..][..n];
+        for (number, &entry) in self.suitable.iter_mut().zip(row) {
+            *number -= u16::from(entry == 1);
+        }
+        self.suitable.remove(gap);
         take_out(&mut self.m, n, gap);
         take_out(&mut self.w, n, gap);
         Ok(())
@@ -153,6 +184,16 @@ impl Plain {
 
     fn check_points(&self) -> Result<(), Refusal> {
         self.points.check().map_err(|_| Refusal::WrongPoints)
+    }
+
+    fn check_numbers(&self) -> Result<(), Refusal> {
+        let mut ones = [0; MOST_PAIRS];
+        let ones = &mut ones[..self.pairs.len()];
+        count_ones(&self.m, ones);
+        if self.suitable != ones {
+            return Err(Refusal::NotCompatibility);
+        }
+        Ok(())
     }
 
     fn build(&mut self) {
@@ -168,6 +209,19 @@ impl Plain {
                 false => weight(points, donor, patient),
             };
             self.w.extend(patients.map(weight));
+        }
+        self.suitable.resize(pairs.len(), 0);
+        count_ones(&self.m, &mut self.suitable);
+    }
+}
+
+/// Counts the ones in each column of M, row by row: column by column takes
+/// several times as long.
+pub fn count_ones(m: &[u8], ones: &mut [u16]) {
+    ones.fill(0);
+    for row in m.chunks_exact(ones.len().max(1)) {
+        for (ones, &entry) in ones.iter_mut().zip(row) {
+            *ones += u16::from(entry == 1);
         }
     }
 }

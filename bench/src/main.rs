@@ -3,13 +3,14 @@
 //! planner that counts nothing; and beside its joining, and its live pool, the
 //! same in plain Rust. Planning is timed with floor 0, and once more with a
 //! floor that leaves about half the cycles; reading and building in version 1,
-//! and once more in version 2.
+//! and once more in version 2. A refresh of the desk's screen is timed by a live
+//! pool's stored numbers, and by counting suitable donors anew.
 //!
 //! `cargo run --release [-- SIZE..]` prints Markdown.
 
 mod live;
 
-use live::{Lent, Plain};
+use live::{count_ones, Lent, Plain};
 use reference::best::cycle_weight;
 use reference::random::{plain_pool, pools_apart, PoolKind, Random};
 use reference::{gates, sheet, straight, subsets, Plan, Points, Pool, Room, Tally};
@@ -38,6 +39,9 @@ const PAIRS_TO_TIME: usize = 50;
 /// repeated at least so often.
 const CALLS_TO_TIME: u32 = 20;
 
+/// So many refreshes of the screen are timed as one piece of work.
+const REFRESHES: usize = 1_000;
+
 fn main() {
     let mut sizes: Vec<usize> = std::env::args()
         .skip(1)
@@ -55,6 +59,8 @@ fn main() {
     print_joins(&timed);
     println!();
     print_lives(&timed);
+    println!();
+    print_refreshes(&timed);
     println!();
     print_floors(&timed);
     println!();
@@ -120,13 +126,16 @@ struct Timed {
     build_2: Times,
 }
 
-/// The times of a live pool's calls; none where there are no pairs.
+/// The times of a live pool's calls, and of refreshes by its stored numbers and
+/// by counting anew; none where there are no pairs.
 #[derive(Default)]
 struct LiveTimes {
     register: Times,
     plain_register: Times,
     withdraw: Times,
     plain_withdraw: Times,
+    stored: Times,
+    counted: Times,
 }
 
 impl Timed {
@@ -358,29 +367,31 @@ fn timed(n: usize) -> Timed {
 /// Times registering the last pair of a pool, and withdrawing the middle one,
 /// whose tables with document 01's points are `built`.
 ///
-/// Each call is made on a pool of the same count. To register again, only the
-/// count is set back, as the tables are built anew whatever they hold. To
-/// withdraw again it is set back as well: the last pair is then there twice, and
-/// whichever pair has come to the middle goes, which is the same work. Plain
-/// Rust, whose tables have become shorter, has to fill them up for that, by
-/// 2N − 1 entries of N².
+/// Each call is made on a pool of the same count, M and numbers, which are
+/// copied back before it: N² entries and N, and the time has that in it. W is
+/// built anew, or moved, whatever it holds. Of the library's pool the fields
+/// are not copied back. To withdraw again, the last pair is there twice, and
+/// whichever pair has come to the middle goes, which is the same work.
 fn time_live(times: &mut LiveTimes, calls: u32, pool: &Pool, built: (&Vec<u8>, &Vec<u16>)) {
     let n = pool.len();
     let mut lent = Lent::new(Points::DOCUMENT, pool);
-    let mut plain = Plain::new(Points::DOCUMENT, lent.pairs());
-    let (last, middle) = (plain.pairs[n - 1], n / 2);
+    let pairs = lent.pairs();
+    let (last, middle) = (pairs[n - 1], n / 2);
+    let without_last = Plain::new(Points::DOCUMENT, pairs[..n - 1].to_vec());
+    let mut plain = without_last.clone();
 
     let registered = times.register.add(calls, || {
-        lent.count = n - 1;
+        lent.set_to(&without_last);
         lent.register(black_box(last))
     });
     let plainly_registered = times.plain_register.add(calls, || {
-        plain.pairs.truncate(n - 1);
+        plain.set_to(&without_last);
         plain.register(black_box(last))
     });
     assert_eq!((registered.refusal, plainly_registered), (0, Ok(())));
     lent.assert_is(&plain);
     assert_eq!((&plain.m, &plain.w), built);
+    time_refreshes(times, &lent);
 
     // Once on copies, to be looked at.
     let (mut shorter, mut plainly_shorter) = (lent.clone(), plain.clone());
@@ -392,18 +403,36 @@ fn time_live(times: &mut LiveTimes, calls: u32, pool: &Pool, built: (&Vec<u8>, &
     );
     shorter.assert_is(&plainly_shorter);
 
+    let whole = plain.clone();
     let withdrawn = times.withdraw.add(calls, || {
-        lent.count = n;
+        lent.set_to(&whole);
         lent.withdraw(black_box(lent.ids[middle]))
     });
     let plainly_withdrawn = times.plain_withdraw.add(calls, || {
-        plain.pairs.resize(n, last);
-        plain.m.resize(n * n, 0);
-        plain.w.resize(n * n, 0);
-        plain.withdraw(black_box(plain.pairs[middle].id))
+        plain.set_to(&whole);
+        plain.withdraw(black_box(id))
     });
     assert_eq!((withdrawn.refusal, plainly_withdrawn), (0, Ok(())));
     assert_eq!((lent.count, plain.pairs.len()), (n - 1, n - 1));
+}
+
+/// Times what the screen does at a refresh, many times over: it takes the number
+/// of suitable donors of each patient from the live pool, or counts them in the
+/// columns of its M.
+fn time_refreshes(times: &mut LiveTimes, lent: &Lent) {
+    let n = lent.count;
+    let (mut stored, mut counted) = (vec![0; n], vec![0; n]);
+    times.stored.add(1, || {
+        for _ in 0..REFRESHES {
+            black_box(&mut stored).copy_from_slice(black_box(&lent.suitable[..n]));
+        }
+    });
+    times.counted.add(1, || {
+        for _ in 0..REFRESHES {
+            count_ones(black_box(&lent.m[..n * n]), black_box(&mut counted));
+        }
+    });
+    assert_eq!(stored, counted);
 }
 
 fn print_times(timed: &[Timed]) {
@@ -452,6 +481,21 @@ fn print_lives(timed: &[Timed]) {
             t.live.withdraw.cell(),
             t.live.plain_withdraw.cell(),
             ratio(&t.live.withdraw, &t.live.plain_withdraw),
+        );
+    }
+}
+
+/// What the screen's refreshes cost, by stored numbers and by counting anew.
+fn print_refreshes(timed: &[Timed]) {
+    println!("| pairs | {REFRESHES} refreshes by the stored numbers | by counting the columns of M anew | counting / stored |");
+    println!("|--:|--:|--:|--:|");
+    for t in timed.iter().filter(|t| t.n > 0) {
+        println!(
+            "| {} | {} | {} | {} |",
+            t.n,
+            t.live.stored.cell(),
+            t.live.counted.cell(),
+            ratio(&t.live.counted, &t.live.stored),
         );
     }
 }

@@ -14,8 +14,9 @@
 //! [`join()`] makes one sheet of two, such as a sheet and its addendum.
 //! [`Pool::plan_above`] leaves out exchanges that are too light to travel for.
 //! A pool of version 2 has its registry's own [`Points`] to weigh by.
-//! A [`LivePool`] is kept from match to match: pairs register and withdraw, and
-//! its tables are always those of its pairs.
+//! A [`LivePool`] is kept from match to match: pairs register and withdraw, its
+//! tables are always those of its pairs, and it knows how many donors suit each
+//! patient.
 //! Nothing here is proved but what is called; [`raw`] has the calls themselves.
 //!
 //! "Document 01", which the comments cite, is the scope agreed with the buyer.

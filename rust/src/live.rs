@@ -13,10 +13,12 @@ use std::fmt;
 /// their id, after which the later ones move down by one. It holds the pairs
 /// registered and not withdrawn since, in order of registration, and its
 /// compatibilities and weights are always those of a [`Pool`] of version 2 with
-/// these pairs and points.
+/// these pairs and points. With each patient the number of donors that suit is
+/// stored, so that a screen need not count them
+/// ([`suitable_donors`](LivePool::suitable_donors)).
 ///
 /// No two ids are alike, and there are at most [`MOST_PAIRS`] pairs; tables for
-/// so many are made once, by [`start`](LivePool::start), in 126 KB. What is
+/// so many are made once, by [`start`](LivePool::start), in 127 KB. What is
 /// refused changes nothing. Equal live pools have the same points, and the same
 /// pairs in the same order, whatever was registered and withdrawn before.
 ///
@@ -44,6 +46,7 @@ use std::fmt;
 /// live.register(pair(12, Blood::B, Blood::A))?;
 /// live.register(pair(13, Blood::Ab, Blood::O))?;
 /// assert_eq!(live.ids(), [11, 12, 13]);
+/// assert_eq!(live.suitable_donors(), [1, 1, 0]);
 ///
 /// // The day of a match: the first two exchange.
 /// let plan = live.plan(&[2, 0, 1])?;
@@ -79,6 +82,8 @@ pub struct LivePool {
     // MOST_PAIRS² entries each; the first `count`² are M and W.
     m: Vec<u8>,
     w: Vec<u16>,
+    // MOST_PAIRS entries; the first `count` are the ones in the columns of M.
+    suitable: Vec<u16>,
 }
 
 impl LivePool {
@@ -115,6 +120,7 @@ impl LivePool {
             patient_antibodies: vec![0; MOST_PAIRS],
             m: vec![0; MOST_PAIRS * MOST_PAIRS],
             w: vec![0; MOST_PAIRS * MOST_PAIRS],
+            suitable: vec![0; MOST_PAIRS],
         };
         let answer = raw::start(points.into(), &mut live.points, &mut live.count);
         finished(answer.refusal, 0)?;
@@ -122,7 +128,7 @@ impl LivePool {
     }
 
     /// Registers a pair: its number is the number of pairs before. The tables
-    /// are built anew.
+    /// are built anew, and the suitable donors counted anew.
     ///
     /// # Errors
     ///
@@ -136,8 +142,8 @@ impl LivePool {
     }
 
     /// Withdraws the pair with this id. The later ones move down by one, each
-    /// to the number before its own, and the pair's row and column are taken
-    /// out of the tables.
+    /// to the number before its own, the pair's row and column are taken out of
+    /// the tables, and its donor is no longer among the suitable ones.
     ///
     /// # Errors
     ///
@@ -163,6 +169,7 @@ impl LivePool {
             patient_antibodies: &mut self.patient_antibodies,
             m: &mut self.m,
             w: &mut self.w,
+            suitable: &mut self.suitable,
         }
     }
 
@@ -215,6 +222,13 @@ impl LivePool {
     /// W, row by row: N rows of N.
     pub fn weights(&self) -> &[u16] {
         &self.w[..self.count * self.count]
+    }
+
+    /// How many donors suit each patient, in order of the pairs' numbers: the
+    /// ones in that patient's column of M. Nothing is counted for it: the
+    /// numbers are kept with the pairs.
+    pub fn suitable_donors(&self) -> &[u16] {
+        &self.suitable[..self.count]
     }
 
     /// A copy of the compatibilities and weights, with the ids. Nothing is

@@ -222,8 +222,9 @@ pub struct Pair {
 }
 
 /// A live pool, lent to [`register`] and [`withdraw`]: the count, the points,
-/// the pairs' fields, M and W. The first N entries of the fields are the pairs,
-/// and M and W are N rows of N, where N is the count.
+/// the pairs' fields, M and W, and the numbers of suitable donors. The first N
+/// entries of the fields are the pairs, M and W are N rows of N, and the first N
+/// of the numbers are the ones in the columns of M, where N is the count.
 #[derive(Debug)]
 pub struct LentLive<'a> {
     /// The number of pairs, N.
@@ -250,6 +251,8 @@ pub struct LentLive<'a> {
     pub m: &'a mut [u8],
     /// W.
     pub w: &'a mut [u16],
+    /// How many donors suit patient j.
+    pub suitable: &'a mut [u16],
 }
 
 /// The tables that [`plan`] fills.
@@ -413,8 +416,9 @@ pub fn start(given: Six, points: &mut [u16], count: &mut usize) -> LiveAnswer {
     unsafe { vadivuzhen_start(given, points.as_mut_ptr(), points.len(), count) }
 }
 
-/// Registers the pair at the end of the live pool, and builds M and W anew, one
-/// row and one column longer, whatever they held.
+/// Registers the pair at the end of the live pool, builds M and W anew, one row
+/// and one column longer, whatever they held, and counts each patient's suitable
+/// donors in the new M.
 pub fn register(pool: LentLive<'_>, pair: Pair) -> LiveAnswer {
     // SAFETY: as in `read`. The count is a live number that nothing else
     // borrows, and the pair is laid out as the header has it.
@@ -443,14 +447,17 @@ pub fn register(pool: LentLive<'_>, pair: Pair) -> LiveAnswer {
             pool.m.len(),
             pool.w.as_mut_ptr(),
             pool.w.len(),
+            pool.suitable.as_mut_ptr(),
+            pool.suitable.len(),
             pair,
         )
     }
 }
 
 /// Withdraws the first pair with the id from the live pool. The later ones move
-/// down by one, and its row and column are taken out of M and W, whatever these
-/// hold. What then lies past the count's entries is as it was.
+/// down by one, its row and column are taken out of M and W, whatever these
+/// hold, and the numbers of suitable donors are those of the M that is left.
+/// What then lies past the count's entries is as it was.
 pub fn withdraw(pool: LentLive<'_>, id: u32) -> LiveAnswer {
     // SAFETY: as in `read`. The count is a live number that nothing else
     // borrows.
@@ -479,6 +486,8 @@ pub fn withdraw(pool: LentLive<'_>, id: u32) -> LiveAnswer {
             pool.m.len(),
             pool.w.as_mut_ptr(),
             pool.w.len(),
+            pool.suitable.as_mut_ptr(),
+            pool.suitable.len(),
             id,
         )
     }
@@ -682,6 +691,8 @@ extern "C" {
         m_length: usize,
         w: *mut u16,
         w_length: usize,
+        suitable: *mut u16,
+        suitable_length: usize,
         pair: Pair,
     ) -> LiveAnswer;
 
@@ -709,6 +720,8 @@ extern "C" {
         m_length: usize,
         w: *mut u16,
         w_length: usize,
+        suitable: *mut u16,
+        suitable_length: usize,
         id: u32,
     ) -> LiveAnswer;
 

@@ -30,7 +30,9 @@ pub enum Refusal {
     NotAShuffle = 8,
     /// 9: a lent buffer or table is too short.
     TooShort = 9,
-    /// 10: a compatibility is above 1, or a pair's own is not 0.
+    /// 10: a compatibility entry is above 1, or a pair's own is not 0
+    /// (planning); or a stored number is not the ones in its column of M
+    /// (registering, withdrawing).
     NotCompatibility = 10,
     /// 11: an id is in both of the sheets to be joined.
     SharedId = 11,
@@ -171,7 +173,7 @@ impl fmt::Display for Refused {
             }
             Refusal::NotCompatibility => write!(
                 f,
-                "a compatibility is above 1, or a pair's own is not 0; mend the table"
+                "a compatibility entry is above 1 or a pair's own is not 0 (planning), or a stored number is not the ones in its column of M (registering, withdrawing); mend the table"
             ),
             Refusal::SharedId => write!(
                 f,

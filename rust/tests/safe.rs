@@ -396,8 +396,15 @@ fn live(points: [u16; 6], pairs: &[Pair]) -> LivePool {
     live
 }
 
-/// Is the live pool that of these pairs, and are its tables those that building
-/// gives for them, at first hand and by its sheet?
+/// The ones in each column of `n` rows of `n`.
+fn ones_in_columns(m: &[u8], n: usize) -> Vec<u16> {
+    let ones = |j| (0..n).filter(|i| m[i * n + j] == 1).count();
+    (0..n).map(|j| ones(j) as u16).collect()
+}
+
+/// Is the live pool that of these pairs, are its tables those that building
+/// gives for them, at first hand and by its sheet, and are as many donors said
+/// to suit as there are in them?
 fn assert_holds(live: &LivePool, points: [u16; 6], pairs: &[Pair]) {
     assert_eq!(live.points(), points.into());
     assert_eq!(
@@ -412,6 +419,8 @@ fn assert_holds(live: &LivePool, points: [u16; 6], pairs: &[Pair]) {
     assert_eq!(live.compatibilities(), tables.compatibilities());
     assert_eq!(live.weights(), tables.weights());
     assert_eq!(live.tables(), tables);
+    let counted = ones_in_columns(tables.compatibilities(), pairs.len());
+    assert_eq!(live.suitable_donors(), counted);
     assert_eq!(live.pool(&shuffle).as_ref(), Ok(&pool));
     let sheet = live.write(&shuffle).expect("a sheet");
     assert_eq!((sheet[4], &sheet), (2, &pool.write()));
@@ -451,16 +460,19 @@ fn pairs_register_and_withdraw() {
     assert_eq!(pool.compatibilities(), [0, 1, 0, 1, 0, 0, 1, 1, 0]);
     let weights = [0, 1_450, 1_450, 1_450, 0, 1_450, 1_100, 1_100, 0];
     assert_eq!(pool.weights(), weights);
+    assert_eq!(pool.suitable_donors(), [2, 2, 0]);
 
     assert_eq!(pool.withdraw(12), Ok(()));
     assert_holds(&pool, DOCUMENT, &[first, third]);
     assert_eq!(pool.compatibilities(), [0, 0, 1, 0]);
     assert_eq!(pool.weights(), [0, 1_450, 1_100, 0]);
+    assert_eq!(pool.suitable_donors(), [1, 0]);
     assert_eq!(pool.withdraw(12), Err(refused(Refusal::UnknownId, 0)));
     assert_holds(&pool, DOCUMENT, &[first, third]);
 
     assert_eq!(pool.register(second), Ok(()));
     assert_eq!(pool.ids(), [11, 13, 12]);
+    assert_eq!(pool.suitable_donors(), [2, 0, 2]);
     assert_holds(&pool, DOCUMENT, &[first, third, second]);
 }
 
@@ -657,6 +669,7 @@ struct Bare {
     words: [Vec<u64>; 3],
     m: Vec<u8>,
     w: Vec<u16>,
+    suitable: Vec<u16>,
 }
 
 impl Bare {
@@ -670,6 +683,7 @@ impl Bare {
             words: [(); 3].map(|()| vec![99; room + 1]),
             m: vec![99; room * room + 1],
             w: vec![99; room * room + 1],
+            suitable: vec![99; room + 1],
         }
     }
 
@@ -690,6 +704,7 @@ impl Bare {
             patient_antibodies: &mut patient_antibodies[..room],
             m: &mut self.m[..room * room],
             w: &mut self.w[..room * room],
+            suitable: &mut self.suitable[..room],
         }
     }
 
@@ -724,6 +739,7 @@ fn the_bare_calls_of_a_live_pool() {
     due.words = [[0, 0, 7, 99], [0, 0, 0, 99], [0, 0, 0, 99]].map(Vec::from);
     due.m = vec![0, 1, 0, 1, 0, 0, 1, 1, 0, 99];
     due.w = vec![0, 1_450, 1_450, 1_450, 0, 1_450, 1_100, 1_100, 0, 99];
+    due.suitable = vec![2, 2, 0, 99];
     assert_eq!(pool, due);
     let fourth = Pair { id: 14, ..first };
     assert_eq!((pool.register(fourth), pool.register(third)), (9, 7));
@@ -745,11 +761,13 @@ fn the_bare_calls_of_a_live_pool() {
     due.words[0] = vec![0, 7, 7, 99];
     due.m[..4].copy_from_slice(&[0, 0, 1, 0]);
     due.w[..4].copy_from_slice(&[0, 1_450, 1_100, 0]);
+    due.suitable[..2].copy_from_slice(&[1, 0]);
     assert_eq!(pool, due);
     assert_eq!(pool.withdraw(12), 16);
     assert_eq!(pool, due);
 
-    // A count above 200, then stored points, in either call; nothing changes.
+    // A count above 200, then stored points, then stored numbers, in either
+    // call; nothing changes.
     due.points[0] = 0;
     due.count = MOST_PAIRS + 1;
     pool = due.clone();
@@ -762,9 +780,12 @@ fn the_bare_calls_of_a_live_pool() {
     pool = due.clone();
     assert_eq!((pool.register(second), pool.withdraw(12)), (14, 14));
     assert_eq!(pool, due);
-    // An id twice is 7, after a blood of 4; withdrawn is the first of the two.
     due.points[0] = 1_000;
     pool = due.clone();
+    assert_eq!((pool.register(second), pool.withdraw(12)), (10, 10));
+    assert_eq!(pool, due);
+    // An id twice is 7, after a blood of 4; withdrawn is the first of the two.
+    pool.suitable[..3].copy_from_slice(&[1, 1, 1]);
     assert_eq!(pool.register(second), 7);
     pool.bytes[0][0] = 4;
     assert_eq!(pool.register(second), 6);
@@ -773,6 +794,63 @@ fn the_bare_calls_of_a_live_pool() {
     // Of what M and W hold, the middle row and column are taken out.
     assert_eq!(pool.m[..4], [0, 1, 1, 0]);
     assert_eq!(pool.w[..4], [0, 1_100, 1_100, 0]);
+    assert_eq!(pool.suitable, [1, 1, 1, 99]);
+}
+
+/// The live pool of these pairs by the bare calls, with room for four.
+fn bare(pairs: &[Pair]) -> Bare {
+    let mut pool = Bare::new(4);
+    assert_eq!(pool.start(DOCUMENT), 0);
+    for &pair in pairs {
+        assert_eq!(pool.register(pair), 0);
+    }
+    pool
+}
+
+/// Three pairs, with an M put in by hand, and the numbers that it has: an entry
+/// above 1 is no one, and a pair's own counts.
+fn by_hand() -> Bare {
+    let mut pool = bare(&three());
+    pool.m[..9].copy_from_slice(&[0, 1, 5, 1, 1, 2, 0, 1, 1]);
+    pool.suitable[..3].copy_from_slice(&[1, 3, 1]);
+    pool
+}
+
+#[test]
+fn a_live_pool_with_m_and_numbers_changed_alike() {
+    let mut pool = by_hand();
+    assert_eq!(pool.withdraw(12), 0);
+    assert_eq!(pool.m[..4], [0, 5, 0, 1]);
+    assert_eq!(pool.suitable, [0, 1, 1, 99, 99]);
+
+    let mut pool = by_hand();
+    let [first, second, third] = three();
+    assert_eq!(pool.register(pair(14)), 0);
+    assert_eq!(pool, bare(&[first, second, third, pair(14)]));
+}
+
+#[test]
+fn a_stored_number_is_the_ones_in_its_column() {
+    let [first, ..] = three();
+    let mut unsound = raw::Pair::from(pair(14));
+    unsound.donor_blood = 4;
+    for patient in 0..3 {
+        let number = by_hand().suitable[patient];
+        for wrong in [number + 1, number - 1] {
+            let mut pool = by_hand();
+            pool.suitable[patient] = wrong;
+            let due = pool.clone();
+            assert_eq!((pool.register(pair(14)), pool.withdraw(12)), (10, 10));
+            // Before a pair out of range, an id of the pool and one that is not.
+            assert_eq!(raw::register(pool.lent(), unsound).refusal, 10);
+            assert_eq!((pool.register(first), pool.withdraw(14)), (10, 10));
+            assert_eq!(pool, due);
+            // After the points.
+            pool.points[0] = 0;
+            assert_eq!((pool.register(pair(14)), pool.withdraw(12)), (14, 14));
+            assert_eq!(pool.suitable, due.suitable);
+        }
+    }
 }
 
 /// The first entries of a lent table.
@@ -783,7 +861,7 @@ fn first<T>(table: &mut &mut [T], length: usize) {
 #[test]
 fn a_live_pool_needs_all_its_tables() {
     // Of each table as many entries as a number of pairs and one of entries say.
-    let shorten: [fn(&mut raw::LentLive<'_>, usize, usize); 10] = [
+    let shorten: [fn(&mut raw::LentLive<'_>, usize, usize); 11] = [
         |lent, n, _| first(&mut lent.ids, n),
         |lent, n, _| first(&mut lent.donor_blood, n),
         |lent, n, _| first(&mut lent.patient_blood, n),
@@ -794,12 +872,9 @@ fn a_live_pool_needs_all_its_tables() {
         |lent, n, _| first(&mut lent.patient_antibodies, n),
         |lent, _, entries| first(&mut lent.m, entries),
         |lent, _, entries| first(&mut lent.w, entries),
+        |lent, n, _| first(&mut lent.suitable, n),
     ];
-    let mut pool = Bare::new(4);
-    assert_eq!(pool.start(DOCUMENT), 0);
-    for pair in three() {
-        assert_eq!(pool.register(pair), 0);
-    }
+    let mut pool = bare(&three());
     let due = pool.clone();
     for shorten in shorten {
         // Too short for the three, and for one more.

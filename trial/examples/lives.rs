@@ -1,6 +1,7 @@
-//! Prints what becomes of a live pool: the run of W-206's page call by call,
-//! each refusal, and two hundred pairs, in the words of the program `try_lives`
-//! of the proved library: what the two print is compared.
+//! Prints what becomes of a live pool: the run of W-206's page call by call, with
+//! W-207's numbers, each refusal, tables changed by hand, and two hundred pairs,
+//! in the words of the program `try_lives` of the proved library: what the two
+//! print is compared.
 
 use reference::live::{self, Call};
 use reference::{Live, Pair, Points, Reason};
@@ -39,7 +40,13 @@ const THIRTEEN: Pair = Pair {
     ..pair(13)
 };
 
-/// How many pairs the tables of the first two runs have room for.
+/// O to AB.
+const FOURTEEN: Pair = Pair {
+    patient_blood: 3,
+    ..pair(14)
+};
+
+/// How many pairs the tables of the first runs have room for.
 const ROOM: usize = 8;
 
 /// A pool that lives from call to call.
@@ -79,6 +86,7 @@ impl Pool {
         println!("{}", line("ids", &self.0.ids[..n]));
         println!("{}", line("M", &self.0.m[..n * n]));
         println!("{}", line("W", &self.0.w[..n * n]));
+        println!("{}", line("suitable", &self.0.suitable[..n]));
     }
 
     /// What lies past them, as far as a pool of one more would reach.
@@ -87,16 +95,21 @@ impl Pool {
         let (from, to) = (n * n, (n + 1) * (n + 1));
         let ids = line("past", &self.0.ids[n..=n]);
         let m = line(&ids, &self.0.m[from..to]);
-        println!("{}", line(&m, &self.0.w[from..to]));
+        let w = line(&m, &self.0.w[from..to]);
+        println!("{}", line(&w, &self.0.suitable[n..=n]));
     }
 
-    /// The sums of M and of W.
+    /// The sums of M, of W and of the numbers.
     fn sums(&self) -> String {
-        let square = self.0.count * self.0.count;
-        let m: u64 = self.0.m[..square].iter().map(|&m| u64::from(m)).sum();
-        let w: u64 = self.0.w[..square].iter().map(|&w| u64::from(w)).sum();
-        format!("{m} {w}")
+        let (n, square) = (self.0.count, self.0.count * self.0.count);
+        let m = sum(&self.0.m[..square]);
+        let w = sum(&self.0.w[..square]);
+        format!("{m} {w} {}", sum(&self.0.suitable[..n]))
     }
+}
+
+fn sum<T: Copy + Into<u64>>(entries: &[T]) -> u64 {
+    entries.iter().map(|&entry| entry.into()).sum()
 }
 
 /// A name and entries, with a space before each.
@@ -180,6 +193,14 @@ fn withdrawing(name: &str, id: u32, change: fn(&mut Live)) -> Option<Live> {
 /// No change to a pool.
 fn none(_: &mut Live) {}
 
+/// The second patient's number is 2, or 0, and not 1.
+fn too_high(live: &mut Live) {
+    live.suitable[1] = 2;
+}
+fn too_low(live: &mut Live) {
+    live.suitable[1] = 0;
+}
+
 /// Starting with what is refused, and with what is just not.
 fn refused_starts() {
     let document = Points::DOCUMENT.table();
@@ -204,14 +225,26 @@ fn refused_registrations() {
     });
     registering("with M of 3", new, |live| live.m.truncate(3));
     registering("with W of 3", new, |live| live.w.truncate(3));
+    registering("with suitable of 1", new, |live| live.suitable.truncate(1));
     registering("with stored base 0", new, |live| live.points[0] = 0);
     registering("with stored base 0 and M of 3", new, |live| {
         live.points[0] = 0;
         live.m.truncate(3);
     });
-
+    registering("with a number too high", new, too_high);
+    registering("with a number too low", new, too_low);
+    registering("with a number too high and stored base 0", new, |live| {
+        too_high(live);
+        live.points[0] = 0;
+    });
+    registering("with a number too high and suitable of 1", new, |live| {
+        too_high(live);
+        live.suitable.truncate(1);
+    });
     let mut blood = new;
     blood.donor_blood = 4;
+    registering("with a number too high and blood 4", blood, too_high);
+
     registering("with blood 4", blood, none);
     let mut age = new;
     age.patient_age = 2;
@@ -232,9 +265,11 @@ fn refused_registrations() {
     registering("with room for two", new, |live| live.ids.truncate(2));
     registering("with M of 8", new, |live| live.m.truncate(8));
     registering("with W of 8", new, |live| live.w.truncate(8));
-    registering("with M of 9 and W of 9", new, |live| {
+    registering("with suitable of 2", new, |live| live.suitable.truncate(2));
+    registering("with M of 9, W of 9 and suitable of 3", new, |live| {
         live.m.truncate(9);
         live.w.truncate(9);
+        live.suitable.truncate(3);
     });
 }
 
@@ -246,9 +281,17 @@ fn refused_withdrawals() {
         live.points.truncate(5)
     });
     withdrawing("with W of 3", 11, |live| live.w.truncate(3));
+    withdrawing("with suitable of 1", 11, |live| live.suitable.truncate(1));
     withdrawing("with stored base 0", 11, |live| live.points[0] = 0);
+    withdrawing("with a number too high", 11, too_high);
+    withdrawing("with a number too low", 11, too_low);
+    withdrawing("with a number too high and stored base 0", 11, |live| {
+        too_high(live);
+        live.points[0] = 0;
+    });
     withdrawing("13", 13, none);
     withdrawing("13 with stored base 0", 13, |live| live.points[0] = 0);
+    withdrawing("13 with a number too high", 13, too_high);
     withdrawing("11 with stored blood 4", 11, |live| {
         live.donor_bloods[1] = 4
     });
@@ -257,6 +300,40 @@ fn refused_withdrawals() {
         println!("{}", line("ids", &left.ids[..left.count]));
         // The donor's blood tells the second from the first.
         println!("{}", line("blood", &left.donor_bloods[..left.count]));
+    }
+}
+
+/// The page's three pairs, with M and the numbers put in by hand: some entries
+/// are above 1, and some ones stand on the diagonal.
+fn by_hand() -> Pool {
+    let (mut pool, _) = Pool::started(ROOM);
+    for pair in [ELEVEN, TWELVE, THIRTEEN] {
+        pool.call(Call::Register(pair));
+    }
+    pool.0.m[..9].copy_from_slice(&[0, 1, 5, 1, 1, 2, 0, 1, 1]);
+    pool.0.suitable[..3].copy_from_slice(&[1, 3, 1]);
+    pool
+}
+
+/// Calls on the pool by hand, and then with each number wrong.
+fn changed_by_hand() {
+    println!("# Tables changed by hand");
+    let mut pool = by_hand();
+    println!("{}", pool.call(Call::Withdraw(12)));
+    pool.shown();
+    pool.past();
+    let mut pool = by_hand();
+    println!("{}", pool.call(Call::Register(FOURTEEN)));
+    pool.shown();
+    for j in 0..3 {
+        let right = by_hand().0.suitable[j];
+        for (how, number) in [("high", right + 1), ("low", right - 1)] {
+            let mut live = by_hand().0;
+            live.suitable[j] = number;
+            let registered = told(&live::register(&live, FOURTEEN));
+            let withdrawn = told(&live::withdraw(&live, 12));
+            println!("number {j} too {how}: register {registered}, withdraw {withdrawn}");
+        }
     }
 }
 
@@ -297,5 +374,6 @@ fn main() {
     refused_starts();
     refused_registrations();
     refused_withdrawals();
+    changed_by_hand();
     many();
 }

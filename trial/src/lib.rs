@@ -26,6 +26,7 @@
 //! | [`points`]     | W-205: points set by each registry                 |
 //! | [`sheet`]      | W-205: sheet version 2                             |
 //! | [`live`]       | W-206: a pool that lives between matches           |
+//! | [`live`]       | W-207: how many donors suit each patient           |
 //!
 //! Beside the planner by rounds stand four others:
 //!

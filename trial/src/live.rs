@@ -1,17 +1,19 @@
-//! A pool that lives between matches (document 02, W-206).
+//! A pool that lives between matches (document 02, W-206), with the number of
+//! donors that suit each patient (W-207).
 //!
 //! The state is a caller's: a count, six points, eight tables of the pairs'
-//! fields, M and W. Each call here looks at a state and gives the one that it
-//! leaves, every table whole, or why it refuses: a refused call changes
-//! nothing, so it leaves the state that it was given. The states may be any,
-//! also such as no list of calls leaves.
+//! fields, M and W, and the numbers. Each call here looks at a state and gives
+//! the one that it leaves, every table whole, or why it refuses: a refused call
+//! changes nothing, so it leaves the state that it was given. The states may be
+//! any, also such as no list of calls leaves.
 //!
-//! Beside the calls stands an account of them, [`held`], which knows no state.
+//! Beside the calls stand two accounts: [`held`], which knows no state, and
+//! [`suitable`], which knows no M.
 
 use crate::points::{Points, COUNT};
 use crate::pool::{Pool, MOST_AGE, MOST_BLOOD, MOST_PAIRS};
 use crate::refusal::Reason;
-use crate::tables::build_pool;
+use crate::tables::{build_pool, SUITS};
 
 /// One pair's fields.
 #[derive(Clone, Copy, Debug, Default, PartialEq, Eq, Hash)]
@@ -54,6 +56,13 @@ impl Pair {
         self.donor_blood.max(self.patient_blood) <= MOST_BLOOD
             && self.donor_age.max(self.patient_age) <= MOST_AGE
     }
+
+    /// Whether this pair's donor suits the patient of another: the blood suits,
+    /// and the donor's antigens share no bit with the patient's antibodies.
+    fn suits(&self, other: &Pair) -> bool {
+        SUITS[usize::from(self.donor_blood)][usize::from(other.patient_blood)]
+            && self.donor_antigens & other.patient_antibodies == 0
+    }
 }
 
 /// A live pool as a caller lends it: a count of any size, and tables of any
@@ -84,6 +93,9 @@ pub struct Live {
     pub m: Vec<u8>,
     /// Weight, in rows as well.
     pub w: Vec<u16>,
+    /// How many donors suit each patient: the ones in that patient's column of
+    /// M.
+    pub suitable: Vec<u16>,
 }
 
 impl Live {
@@ -103,12 +115,14 @@ impl Live {
             patient_antibodies: vec![0; room],
             m: vec![0; room * room],
             w: vec![0; room * room],
+            suitable: vec![0; room],
         }
     }
 
-    /// Whether the tables hold `n` pairs: every field of each, and M and W.
+    /// Whether the tables hold `n` pairs: every field and the number of each,
+    /// and M and W.
     pub fn holds(&self, n: usize) -> bool {
-        let fields = [
+        let by_pair = [
             self.ids.len(),
             self.donor_bloods.len(),
             self.patient_bloods.len(),
@@ -117,8 +131,9 @@ impl Live {
             self.donor_antigens.len(),
             self.patient_antigens.len(),
             self.patient_antibodies.len(),
+            self.suitable.len(),
         ];
-        fields.iter().all(|&length| length >= n) && self.m.len().min(self.w.len()) >= n * n
+        by_pair.iter().all(|&length| length >= n) && self.m.len().min(self.w.len()) >= n * n
     }
 
     /// The pairs that the count reaches, which the tables must hold.
@@ -138,7 +153,8 @@ impl Live {
     }
 
     /// What registering and withdrawing check first: 4 for the count, 9 where a
-    /// table cannot hold it or the points, then 14 for the stored points.
+    /// table cannot hold it or the points, 14 for the stored points, then 10
+    /// where a stored number isn't the ones in its column.
     fn check(&self) -> Result<(), Reason> {
         if self.count > MOST_PAIRS {
             return Err(Reason::TooManyPairs);
@@ -146,12 +162,17 @@ impl Live {
         if !self.holds(self.count) || self.points.len() < COUNT {
             return Err(Reason::TooShort);
         }
-        Points::of(&self.points).check()
+        Points::of(&self.points).check()?;
+        if self.suitable[..self.count] != ones_in_columns(self.count, &self.m) {
+            return Err(Reason::Entry);
+        }
+        Ok(())
     }
 
-    /// The state with these pairs, and these entries of M and W. Past them
-    /// everything is as it was.
+    /// The state with these pairs, these entries of M and W, and the ones in the
+    /// columns of this M. Past them everything is as it was.
     fn with(&self, pairs: &[Pair], m: &[u8], w: &[u16]) -> Live {
+        let numbers = ones_in_columns(pairs.len(), m);
         Live {
             count: pairs.len(),
             points: self.points.clone(),
@@ -167,8 +188,16 @@ impl Live {
             }),
             m: over(&self.m, m, |&entry| entry),
             w: over(&self.w, w, |&entry| entry),
+            suitable: over(&self.suitable, &numbers, |&number| number),
         }
     }
+}
+
+/// The ones in each patient's column of M, of which the first `n` rows of `n`
+/// are looked at. Another entry is none, and one on the diagonal counts.
+pub fn ones_in_columns(n: usize, m: &[u8]) -> Vec<u16> {
+    let ones = |patient| (0..n).filter(|donor| m[donor * n + patient] == 1).count();
+    (0..n).map(|patient| ones(patient) as u16).collect()
 }
 
 /// A table with the entries of these laid over its first ones.
@@ -197,11 +226,11 @@ pub fn start(live: &Live, given: Points) -> Result<Live, Reason> {
     })
 }
 
-/// Registers a pair at the end, and builds M and W anew from all pairs and the
-/// stored points.
+/// Registers a pair at the end, builds M and W anew from all pairs and the
+/// stored points, and counts in the new M.
 ///
-/// Checks 4; 9 for what there is; 14; 6 over all pairs, stored ones and the new
-/// one; 7 over them; 12; 9 for one more.
+/// Checks 4; 9 for what there is; 14; 10; 6 over all pairs, stored ones and the
+/// new one; 7 over them; 12; 9 for one more.
 pub fn register(live: &Live, pair: Pair) -> Result<Live, Reason> {
     live.check()?;
     let mut pairs = live.pairs();
@@ -223,9 +252,10 @@ pub fn register(live: &Live, pair: Pair) -> Result<Live, Reason> {
 }
 
 /// Withdraws the first pair with that id. The later ones move down by one, and
-/// of M and W one row and one column are taken out, whatever they hold.
+/// of M and W one row and one column are taken out, whatever they hold. The
+/// numbers are those of what is left of M.
 ///
-/// Checks 4; 9; 14; 16.
+/// Checks 4; 9; 14; 10; 16.
 pub fn withdraw(live: &Live, id: u32) -> Result<Live, Reason> {
     live.check()?;
     let mut pairs = live.pairs();
@@ -325,6 +355,14 @@ pub fn held(calls: &[Call], answers: &[Answer]) -> Vec<Pair> {
     finished.iter().enumerate().filter_map(stays).collect()
 }
 
+/// How many donors suit each patient of these pairs, which have bloods in range,
+/// by document 01's words for compatibility: donor and patient are of different
+/// pairs, and the one suits the other.
+pub fn suitable(pairs: &[Pair]) -> Vec<u16> {
+    let donors = |j: usize| (0..pairs.len()).filter(move |&i| i != j && pairs[i].suits(&pairs[j]));
+    (0..pairs.len()).map(|j| donors(j).count() as u16).collect()
+}
+
 #[cfg(test)]
 mod tests {
     use super::*;
@@ -336,6 +374,43 @@ mod tests {
         assert_eq!(without(1, 3, &table), [11, 13, 31, 33]);
         assert_eq!(without(2, 3, &table), [11, 12, 21, 22]);
         assert_eq!(without(0, 1, &table), []);
+    }
+
+    #[test]
+    fn the_ones_are_counted_by_column() {
+        let m = [0, 1, 5, 1, 1, 2, 0, 1, 1, 1, 1];
+        assert_eq!(ones_in_columns(3, &m), [1, 3, 1]);
+        // Fewer pairs have shorter rows.
+        assert_eq!(ones_in_columns(2, &m), [0, 2]);
+        assert_eq!(ones_in_columns(1, &m), [0]);
+        assert_eq!(ones_in_columns(0, &m), []);
+        assert_eq!(ones_in_columns(3, &[255; 9]), [0; 3]);
+        assert_eq!(ones_in_columns(200, &[1; 40_000]), [200; 200]);
+    }
+
+    #[test]
+    fn a_donor_suits_by_blood_and_antigens() {
+        let pair = |donor_blood, patient_blood| Pair {
+            donor_blood,
+            patient_blood,
+            ..Pair::default()
+        };
+        // Donors and patients of each blood, and of O two.
+        let pairs = [pair(0, 3), pair(1, 2), pair(2, 1), pair(3, 0), pair(0, 0)];
+        assert_eq!(suitable(&pairs), [4, 3, 3, 2, 1]);
+        assert_eq!(suitable(&pairs[1..4]), [1, 1, 0]);
+        let mut pairs = [pair(0, 0); 3];
+        assert_eq!(suitable(&pairs), [2, 2, 2]);
+        pairs[0].donor_antigens = 0b110;
+        pairs[2].donor_antigens = 0b011;
+        pairs[1].patient_antibodies = 0b100;
+        assert_eq!(suitable(&pairs), [2, 1, 2]);
+        pairs[1].patient_antibodies = 0b010;
+        assert_eq!(suitable(&pairs), [2, 0, 2]);
+        // Against one's own donor's antigens makes no difference.
+        pairs[2].patient_antibodies = 0b001;
+        assert_eq!(suitable(&pairs), [2, 0, 2]);
+        assert_eq!(suitable(&[]), []);
     }
 
     #[test]

@@ -24,7 +24,9 @@ pub enum Reason {
     Shuffle = 8,
     /// 9: a lent buffer or table is too short.
     TooShort = 9,
-    /// 10: an entry of M is above 1, or M(i, i) is not 0.
+    /// 10: in planning, an entry of M is above 1, or M(i, i) is not 0; in
+    /// registering and withdrawing, a stored number is not the ones in its
+    /// column of M.
     Entry = 10,
     /// 11: an id is in both of the sheets to be joined.
     SharedId = 11,

@@ -1,7 +1,8 @@
-//! A pool that lives between matches, as request W-206 has it: what each call
-//! leaves, what is refused in its order, and what a list of calls holds.
+//! A pool that lives between matches, as requests W-206 and W-207 have it: what
+//! each call leaves, what is refused in its order, and what a list of calls
+//! holds.
 
-use reference::live::{after, held, pool_of, register, start, withdraw};
+use reference::live::{after, held, pool_of, register, start, suitable, withdraw};
 use reference::random::{plain_pool, points, trials, wrong_points, PoolKind, Random};
 use reference::sheet::LONGEST;
 use reference::{build, build_pool, read, write_pool, Call, Live, Pair, Points, Reason};
@@ -65,9 +66,23 @@ fn pairs_of(n: usize) -> Vec<Pair> {
     (0..n).map(pair).collect()
 }
 
+/// The page's three pairs with M and the numbers put in by hand: entries above 1,
+/// and ones on the diagonal.
+fn by_hand() -> Live {
+    let mut live = holding(4, &[ELEVEN, TWELVE, THIRTEEN]);
+    live.m[..9].copy_from_slice(&[0, 1, 5, 1, 1, 2, 0, 1, 1]);
+    live.suitable[..3].copy_from_slice(&[1, 3, 1]);
+    live
+}
+
 /// The ids that the count reaches.
 fn ids(live: &Live) -> &[u32] {
     &live.ids[..live.count]
+}
+
+/// The numbers that the count reaches.
+fn numbers(live: &Live) -> &[u16] {
+    &live.suitable[..live.count]
 }
 
 /// Puts an entry, if the table reaches so far.
@@ -83,9 +98,10 @@ fn put<T>(table: &mut [T], at: usize, entry: T) {
 fn three_register_and_the_second_withdraws() {
     let one = register(&started(8), ELEVEN).unwrap();
     assert_eq!((one.count, ids(&one)), (1, &[11][..]));
-    assert_eq!((one.m[0], one.w[0]), (0, 0));
+    assert_eq!((one.m[0], one.w[0], one.suitable[0]), (0, 0, 0));
     let two = register(&one, TWELVE).unwrap();
     assert_eq!(two.m[..4], [0, 1, 1, 0]);
+    assert_eq!(two.suitable, [1, 1, 0, 0, 0, 0, 0, 0]);
     assert_eq!(two.w[..4], [0, 1_450, 1_450, 0]);
     let three = register(&two, THIRTEEN).unwrap();
     assert_eq!((three.count, ids(&three)), (3, &[11, 12, 13][..]));
@@ -93,13 +109,16 @@ fn three_register_and_the_second_withdraws() {
     assert_eq!(three.m[..9], m);
     let w = [0, 1_450, 1_450, 1_450, 0, 1_450, 1_100, 1_100, 0];
     assert_eq!(three.w[..9], w);
+    assert_eq!(numbers(&three), [2, 2, 0]);
 
     let left = withdraw(&three, 12).unwrap();
     assert_eq!((left.count, ids(&left)), (2, &[11, 13][..]));
     assert_eq!(left.m[..4], [0, 0, 1, 0]);
     assert_eq!(left.w[..4], [0, 1_450, 1_100, 0]);
+    assert_eq!(numbers(&left), [1, 0]);
     // Past them stand the old entries, and past those the zeros.
     assert_eq!(left.ids[2..], [13, 0, 0, 0, 0, 0]);
+    assert_eq!(left.suitable[2..], [0; 6]);
     assert_eq!(left.donor_antigens[..4], [0, 7, 7, 0]);
     assert_eq!((&left.m[4..9], &left.w[4..9]), (&m[4..], &w[4..]));
     assert!(left.m[9..].iter().all(|&entry| entry == 0));
@@ -107,11 +126,38 @@ fn three_register_and_the_second_withdraws() {
     assert_eq!(withdraw(&left, 12), Err(Reason::UnknownId));
     let again = register(&left, TWELVE).unwrap();
     assert_eq!(ids(&again), [11, 13, 12]);
+    assert_eq!(numbers(&again), [2, 0, 2]);
     let none = [11, 13, 12].into_iter().fold(again, |live, id| {
         withdraw(&live, id).expect("an id that is held")
     });
     assert_eq!(none.count, 0);
+    // The last number of each of the three is left where it stood.
+    assert_eq!(none.suitable[..3], [0, 1, 2]);
     assert_eq!(withdraw(&none, 12), Err(Reason::UnknownId));
+}
+
+#[test]
+fn tables_put_in_by_hand_are_counted_as_they_stand() {
+    let live = by_hand();
+    let left = withdraw(&live, 12).unwrap();
+    assert_eq!(left.m[..4], [0, 5, 0, 1]);
+    assert_eq!(left.suitable, [0, 1, 1, 0]);
+    let left = withdraw(&live, 11).unwrap();
+    assert_eq!(left.m[..4], [1, 2, 1, 1]);
+    assert_eq!(left.suitable, [2, 1, 1, 0]);
+    let left = withdraw(&live, 13).unwrap();
+    assert_eq!(left.m[..4], [0, 1, 1, 1]);
+    assert_eq!(left.suitable, [1, 2, 1, 0]);
+
+    // Registering builds anew, and counts in what it built.
+    let universal = Pair {
+        id: 14,
+        patient_blood: 3,
+        ..NOUGHT
+    };
+    let left = register(&live, universal).unwrap();
+    assert_eq!(left, holding(4, &[ELEVEN, TWELVE, THIRTEEN, universal]));
+    assert_eq!(left.suitable, [3, 3, 1, 3]);
 }
 
 #[test]
@@ -199,10 +245,11 @@ struct Fault {
 
 /// What registering refuses, in order; 9 is there for what there is, and again
 /// for one more.
-const ORDER: [Reason; 7] = [
+const ORDER: [Reason; 8] = [
     Reason::TooManyPairs,
     Reason::TooShort,
     Reason::WrongPoints,
+    Reason::Entry,
     Reason::Group,
     Reason::RepeatedId,
     Reason::TooManyTogether,
@@ -210,11 +257,11 @@ const ORDER: [Reason; 7] = [
 ];
 
 /// How many of them withdrawing refuses too.
-const SHARED: usize = 3;
+const SHARED: usize = 4;
 
 /// Where 12 and the last 9 stand.
-const FULL: usize = 5;
-const NO_ROOM: usize = 6;
+const FULL: usize = 6;
+const NO_ROOM: usize = 7;
 
 /// Faults of a pool of `n` pairs, more than one, in tables for one more.
 fn faults(n: usize) -> Vec<Fault> {
@@ -241,27 +288,40 @@ fn faults(n: usize) -> Vec<Fault> {
     add(1, Box::new(|asked| asked.live.points.truncate(5)));
     add(2, Box::new(|asked| put(&mut asked.live.points, 0, 0)));
     add(2, Box::new(|asked| put(&mut asked.live.points, 5, 65_535)));
+    for j in [0, n / 2, n - 1] {
+        // Numbers that no column has, and in a column one more than counted.
+        for number in [201, u16::MAX] {
+            add(
+                3,
+                Box::new(move |asked| put(&mut asked.live.suitable, j, number)),
+            );
+        }
+        add(
+            3,
+            Box::new(move |asked| put(&mut asked.live.m, j * n + j, 1)),
+        );
+    }
     for i in [0, n - 1] {
         for spoil in SPOILS {
-            add(3, Box::new(move |asked| spoil(&mut asked.live, i)));
+            add(4, Box::new(move |asked| spoil(&mut asked.live, i)));
         }
         let shared = move |asked: &mut Asked| {
             if let Some(&id) = asked.live.ids.get(i) {
                 asked.pair.id = id;
             }
         };
-        add(4, Box::new(shared));
+        add(5, Box::new(shared));
     }
-    add(3, Box::new(|asked| asked.pair.donor_blood = 4));
-    add(3, Box::new(|asked| asked.pair.patient_blood = 255));
-    add(3, Box::new(|asked| asked.pair.donor_age = 2));
-    add(3, Box::new(|asked| asked.pair.patient_age = 255));
-    add(4, Box::new(move |asked| put(&mut asked.live.ids, n - 1, 0)));
+    add(4, Box::new(|asked| asked.pair.donor_blood = 4));
+    add(4, Box::new(|asked| asked.pair.patient_blood = 255));
+    add(4, Box::new(|asked| asked.pair.donor_age = 2));
+    add(4, Box::new(|asked| asked.pair.patient_age = 255));
+    add(5, Box::new(move |asked| put(&mut asked.live.ids, n - 1, 0)));
     all
 }
 
-/// Cuts one of a pool's field tables off at an end.
-const CUTS: [fn(&mut Live, usize); 8] = [
+/// Cuts one of a pool's field tables, or that of its numbers, off at an end.
+const CUTS: [fn(&mut Live, usize); 9] = [
     |live, end| live.ids.truncate(end),
     |live, end| live.donor_bloods.truncate(end),
     |live, end| live.patient_bloods.truncate(end),
@@ -270,6 +330,7 @@ const CUTS: [fn(&mut Live, usize); 8] = [
     |live, end| live.donor_antigens.truncate(end),
     |live, end| live.patient_antigens.truncate(end),
     |live, end| live.patient_antibodies.truncate(end),
+    |live, end| live.suitable.truncate(end),
 ];
 
 /// Spoils a group of a stored pair.
@@ -331,6 +392,99 @@ fn withdrawing_refuses_any_two_faults_in_their_order() {
         any_two(n, SHARED, unknown, |asked| {
             withdraw(&asked.live, 2_000).err()
         });
+    }
+}
+
+/// What both calls say of a pool, registering `pair` and withdrawing `id`.
+fn both(live: &Live, pair: Pair, id: u32) -> [Option<Reason>; 2] {
+    [register(live, pair).err(), withdraw(live, id).err()]
+}
+
+#[test]
+fn every_number_is_looked_at_and_may_be_neither_higher_nor_lower() {
+    let more = Pair { id: 700, ..TWELVE };
+    let bad = Pair {
+        donor_blood: 4,
+        ..more
+    };
+    let ten = Some(Reason::Entry);
+    for sound in [
+        by_hand(),
+        pool_with(4, 3),
+        pool_with(9, 8),
+        pool_with(31, 30),
+    ] {
+        let n = sound.count;
+        let held = sound.ids[0];
+        assert_eq!(both(&sound, more, held), [None; 2]);
+        for (j, by) in (0..n).flat_map(|j| [(j, 1), (j, u16::MAX)]) {
+            let mut live = sound.clone();
+            live.suitable[j] = live.suitable[j].wrapping_add(by);
+            let told = format!("{n} pairs, the number of {j} and {by}");
+            assert_eq!(both(&live, more, held), [ten; 2], "{told}");
+            // Neither the pairs nor the id nor what one more needs is looked at.
+            assert_eq!(both(&live, bad, 5_000), [ten; 2], "{told}");
+            assert_eq!(register(&live, live.pairs()[0]).err(), ten, "{told}");
+            let mut narrow = live.clone();
+            narrow.suitable.truncate(n);
+            assert_eq!(both(&narrow, more, held), [ten; 2], "{told}");
+            // Lengths and points are looked at first.
+            live.points[0] = 0;
+            let points = Some(Reason::WrongPoints);
+            assert_eq!(both(&live, bad, 5_000), [points; 2], "{told}");
+            live.suitable.truncate(n - 1);
+            let short = Some(Reason::TooShort);
+            assert_eq!(both(&live, bad, 5_000), [short; 2], "{told}");
+        }
+    }
+}
+
+#[test]
+fn ten_at_two_hundred_and_not_twelve() {
+    let mut full = pool_with(200, 200);
+    let more = Pair { id: 200, ..TWELVE };
+    for j in [0, 99, 199] {
+        full.suitable[j] ^= 1;
+        assert_eq!(both(&full, more, 7), [Some(Reason::Entry); 2], "{j}");
+        full.suitable[j] ^= 1;
+    }
+    assert_eq!(both(&full, more, 7), [Some(Reason::TooManyTogether), None]);
+}
+
+#[test]
+fn a_column_that_the_caller_changed_has_another_number() {
+    let sound = pool_with(5, 4);
+    let n = sound.count;
+    for entry in 0..n * n {
+        let (was, j) = (sound.m[entry], entry % n);
+        for becomes in [0, 1, 2, 255] {
+            let mut live = sound.clone();
+            live.m[entry] = becomes;
+            let told = format!("entry {entry} becomes {becomes} from {was}");
+            let as_counted = (becomes == 1) == (was == 1);
+            let due = (!as_counted).then_some(Reason::Entry);
+            assert_eq!(both(&live, TWELVE, 0), [due; 2], "{told}");
+            // With the number changed alike it passes.
+            live.suitable[j] += u16::from(becomes == 1);
+            live.suitable[j] -= u16::from(was == 1);
+            assert_eq!(both(&live, TWELVE, 0), [None; 2], "{told}");
+            assert_eq!(register(&live, TWELVE), register(&sound, TWELVE), "{told}");
+        }
+    }
+}
+
+#[test]
+fn ten_asks_nothing_else_of_m() {
+    let n = 5;
+    for (entry, number) in [(1, n), (2, 0), (255, 0)] {
+        let mut live = pool_with(n + 1, n);
+        live.m.fill(entry);
+        live.suitable.fill(number as u16);
+        let left = withdraw(&live, 2).unwrap();
+        assert_eq!(numbers(&left), [number.saturating_sub(1) as u16; 4]);
+        assert_eq!(left.suitable[4..], live.suitable[4..]);
+        let built = register(&live, TWELVE).unwrap();
+        assert_eq!(numbers(&built), suitable(&built.pairs()));
     }
 }
 
@@ -400,12 +554,16 @@ fn registering_builds_anew_whatever_there_was() {
     let due = register(&live, THIRTEEN).unwrap();
     live.m[..25].fill(255);
     live.w[..25].fill(65_535);
+    live.suitable[..5].copy_from_slice(&[0, 0, 0, 0, 77]);
     assert_eq!(register(&live, THIRTEEN), Ok(due.clone()));
     // Past them there may be anything, and it stays.
     live.m[25..].fill(77);
     live.w[25..].fill(777);
+    live.suitable[5] = 7_777;
     let left = register(&live, THIRTEEN).unwrap();
     assert_eq!((&left.m[..25], &left.w[..25]), (&due.m[..25], &due.w[..25]));
+    assert_eq!(numbers(&left), numbers(&due));
+    assert_eq!(left.suitable[5], 7_777);
     assert_eq!(
         (&left.m[25..], &left.w[25..]),
         (&live.m[25..], &live.w[25..])
@@ -419,6 +577,7 @@ fn withdrawing_takes_out_what_stands_there() {
         let mut live = pool_with(6, n);
         live.m = (0..36).map(|entry| 100 + entry).collect();
         live.w = (0..36).map(|entry| 1_000 * entry).collect();
+        live.suitable = vec![0, 0, 0, 0, 0, 77];
         let left = withdraw(&live, id).unwrap();
         let up = |i: usize| if i < id as usize { i } else { i + 1 };
         for entry in 0..36 {
@@ -430,6 +589,7 @@ fn withdrawing_takes_out_what_stands_there() {
         let kept: Vec<u32> = (0..5).filter(|&other| other != id).collect();
         assert_eq!(ids(&left), kept);
         assert_eq!(left.ids[4..], live.ids[4..]);
+        assert_eq!(left.suitable, live.suitable);
     }
 }
 
@@ -441,22 +601,26 @@ fn stale_entries_are_not_looked_at() {
     stale.donor_bloods[3..].fill(4);
     stale.patient_ages[3..].fill(255);
     stale.m[9..].fill(9);
+    stale.suitable[3..].fill(99);
     assert_eq!(withdraw(&stale, 12), Err(Reason::UnknownId));
     let left = register(&stale, TWELVE).unwrap();
     let due = register(&live, TWELVE).unwrap();
     assert_eq!(left.pairs(), due.pairs());
     assert_eq!(left.m[..16], due.m[..16]);
+    assert_eq!(numbers(&left), numbers(&due));
     assert_eq!(
         (&left.ids[4..], &left.donor_bloods[4..]),
         (&[0; 2][..], &[4; 2][..])
     );
     assert_eq!(left.m[16..], [9; 20]);
+    assert_eq!(left.suitable[4..], [99; 2]);
 
     // The last entry of each table is as it was when one withdraws.
     let left = withdraw(&due, 0).unwrap();
     assert_eq!(ids(&left), [1, 2, 12]);
     assert_eq!(left.ids[3], 12);
     assert_eq!((left.donor_bloods[3], left.patient_bloods[3]), (2, 1));
+    assert_eq!(left.suitable[3..], due.suitable[3..]);
     assert_eq!((&left.m[9..], &left.w[9..]), (&due.m[9..], &due.w[9..]));
 }
 
@@ -497,12 +661,16 @@ fn another_count_has_other_rows() {
     // With a count of 2 the rows of 3 are taken for rows of 2, as they stand.
     let mut live = holding(4, &[ELEVEN, TWELVE, THIRTEEN]);
     live.count = 2;
+    // Their columns have other ones.
+    assert_eq!(both(&live, THIRTEEN, 11), [Some(Reason::Entry); 2]);
+    live.suitable[..2].copy_from_slice(&[0, 2]);
     let left = withdraw(&live, 11).unwrap();
     assert_eq!(
         (left.count, left.m[0], left.w[0]),
         (1, live.m[3], live.w[3])
     );
     assert_eq!((left.m[0], left.w[0]), (1, 1_450));
+    assert_eq!(left.suitable[..3], [1, 2, 0]);
     // The third is past the count: its id is free, and its entry is filled.
     assert_eq!(withdraw(&live, 13), Err(Reason::UnknownId));
     let again = register(&live, THIRTEEN).unwrap();
@@ -565,7 +733,8 @@ fn tables(live: &Live) -> (&[u8], &[u16]) {
 }
 
 /// The tables are those of a sheet with these pairs and points: written, read
-/// and built, and built from the pool's own tables.
+/// and built, and built from the pool's own tables. The numbers are those of the
+/// donors that suit.
 fn is_of_a_sheet(random: &mut Random, live: &Live) {
     let mut pool = pool_of(Points::of(&live.points), &live.pairs());
     pool.shuffle = random.shuffle(live.count);
@@ -585,6 +754,7 @@ fn is_of_a_sheet(random: &mut Random, live: &Live) {
     let square = live.count * live.count;
     let again = build(2, live.count, &live.points, fields, square, square);
     assert_eq!(again, Ok(built));
+    assert_eq!(numbers(live), suitable(&live.pairs()));
 }
 
 /// A call with an id of a few, at times with a pair out of range.

@@ -17,7 +17,7 @@ use Rattle.pool.specs.Faults.{pointsFault, roomFault, tablesFault}
 use Rattle.pool.proofs.Reading.{room-none, tables-passed}
 use Rattle.live.specs.Live.{liveVersion}
 use Rattle.live.specs.Faults.{graphFault, keptFault}
-use Rattle.live.proofs.Faults.{graph-none}
+use Rattle.live.proofs.Faults.{graph-none, graph-passed}
 
 -- ## 9 of M and W
 
@@ -71,15 +71,14 @@ pub six-held : (n space : ℕ) (points : List ℕ) (found : Verdict) → faultAt
 unfolding pointCount hasPoints
 six-held n space points found e g = tables-passed liveVersion n space points (sound-none 0 found e g) .1
 
--- a loop that went through all of them
-pub passed-all : (n : ℕ) (f : ℕ → Fault) (i : ℕ) → i ≡ n → firstBelow i f ≡ none → faultAt 0 Sound ≡ firstBelow n f
-unfolding faultAt
-passed-all n f i e h = sym (ap (λ (k : ℕ). firstBelow k f) (sym e) ∙ h)
-
--- what passes is at most 200, and fits the tables of the fields
-pub kept-fits : (n space compatibilities weights : ℕ) (points : List ℕ) (found : Verdict)
-    → faultAt 0 found ≡ keptFault n space compatibilities weights points → found ≡ Sound → (n ≤ 200) × (n ≤ space)
+-- what passes is at most 200, and fits the tables with an entry for each pair, and M
+pub kept-fits : (n space compatibilities weights : ℕ) (points : List ℕ) → keptFault n space compatibilities weights points ≡ none
+    → (n ≤ 200) × (n ≤ space) × (n * n ≤ compatibilities)
 unfolding keptFault
-kept-fits n space compatibilities weights points found e g =
-    let s = then-none _ _ (sound-none 0 found e g) in
-    (ltb-false _ _ (refuse-none _ _ _ (s .0)), tables-passed liveVersion n space points (then-none _ _ (s .1) .0) .0)
+kept-fits n space compatibilities weights points e =
+    let s = then-none _ _ e in
+    let t = then-none _ _ (s .1) in (
+      ltb-false _ _ (refuse-none _ _ _ (s .0)),
+      tables-passed liveVersion n space points (t .0) .0,
+      graph-passed n compatibilities weights (then-none _ _ (t .1) .0) .0,
+    )

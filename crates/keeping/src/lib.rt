@@ -7,14 +7,14 @@ ghost use mathlib.Core.Path.{_≡_};
 ghost use Prim.Native.Nat.{_≤_};
 ghost use lib.ListN.{length};
 ghost use Rattle.laws.specs.Lent.{filled};
-ghost use Rattle.refusal.specs.Fault.{firstBelow};
+ghost use Rattle.refusal.specs.Fault.{_then_, firstBelow};
 ghost use Rattle.refusal.specs.Answer.{outcome};
 ghost use Rattle.refusal.specs.Number.{faultAt};
 ghost use Rattle.pool.specs.Points.{registryPoints};
 ghost use Rattle.pool.specs.Tables.{itemIn};
 ghost use Rattle.pool.specs.Faults.{groupFault, idFault};
 ghost use Rattle.points.specs.Named.{named};
-ghost use Rattle.live.specs.Faults.{graphFault, keptFault};
+ghost use Rattle.live.specs.Faults.{graphFault, keptFault, numbersFault};
 ghost use Rattle.live.specs.Calls.{inOrder, starting};
 ghost use Rattle.live.specs.Answers.{answerOf};
 ghost use Rattle.live.specs.Lent.{lentBeginning};
@@ -69,15 +69,9 @@ pub fn rows(n: usize, compatibilities: usize, weights: usize) -> Verdict
     Verdict::Sound
 }
 
-// What both calls look at first: 4 of the count, 9 of the tables for it and for the points, 14 of the points. The shortest table of the fields has `space`
-// entries, M and W have the next two.
-pub fn judge(
-    n: usize,
-    space: usize,
-    compatibilities: usize,
-    weights: usize,
-    points: &[u16],
-) -> Verdict
+// 4 of the count, 9 of the tables for it and for the points, 14 of the points. The shortest table with an entry for each pair has `space` entries, M and W have
+// the next two.
+fn sizes(n: usize, space: usize, compatibilities: usize, weights: usize, points: &[u16]) -> Verdict
     ensures { λ r. ⌜ faultAt 0 r ≡ keptFault n space compatibilities weights (now (points .entry)) ⌝ }
 {
     if n > 200 {
@@ -92,6 +86,26 @@ pub fn judge(
     match rows(n, compatibilities, weights) {
         Verdict::Faulty(why) => Verdict::Faulty(why),
         Verdict::Sound => points::judge(points::own(points)),
+    }
+}
+
+// What both calls look at first: 4, 9 and 14, and then 10 of the numbers.
+pub fn judge(
+    n: usize,
+    space: usize,
+    compatibilities: &[u8],
+    weights: usize,
+    suitable: &[u16],
+    points: &[u16],
+) -> Verdict
+    requires { ⌜ space ≤ length (now suitable) ⌝ }
+    ensures { λ r.
+        ⌜ faultAt 0 r ≡ (keptFault n space (length (now (compatibilities .entry))) weights (now (points .entry))
+        then numbersFault n (now (compatibilities .entry)) (now (suitable .entry))) ⌝ }
+{
+    match sizes(n, space, compatibilities.len(), weights, points) {
+        Verdict::Faulty(why) => Verdict::Faulty(why),
+        Verdict::Sound => suiting::judge(n, compatibilities, suitable),
     }
 }
 

@@ -149,7 +149,7 @@ unfolding one
 one-most true = omega arith
 one-most false = omega arith
 
-count-most : (n : ℕ) (p : ℕ → Bool) → countBelow n p ≤ n
+pub count-most : (n : ℕ) (p : ℕ → Bool) → countBelow n p ≤ n
 unfolding countBelow
 count-most zero p = omega arith
 count-most (suc n) p = omega (arith, count-most n p, one-most (p n))

@@ -1,27 +1,29 @@
 -- What the calls of a live pool check: what has none of the faults, and that each is there. Assumes nothing.
-use mathlib.Core.Path.{_≡_, refl, _∙_}
+use mathlib.Core.Path.{_≡_, refl, ap, _∙_}
 use mathlib.Core.Bool.{not}
-use Prim.Native.Nat.{ℕ, _+_, _*_, _≤_, _<_}
+use Prim.Native.Nat.{ℕ, _+_, _*_, _≤_, _<_, min}
+use native.Mathlib.Nat.{le-refl, le-trans, min-le-left, min-le-right, le-min}
 use native.Mathlib.Omega.{arith}
 use borrow.Author.Tests.{le-ltb, ltb-true, ltb-false, eqb-true, eqb-false, ne-eqb, eq-eqb, not-true, not-false}
 use lib.Dec.{eqb}
 use lib.ListN.{length}
-use Rattle.laws.specs.Below.{anyBelow}
+use Rattle.laws.specs.Below.{anyBelow, Some}
 use Rattle.laws.proofs.Below.{any-none, none-any, any-hit, any-found}
-use Rattle.refusal.specs.Fault.{none, fault, refuse, _then_}
+use Rattle.refusal.specs.Fault.{Fault, none, fault, refuse, _then_}
 use Rattle.refusal.proofs.Faults.{then-none, none-then, refuse-none, none-refuse, first-none, none-first, by-refuse, by-then, by-first}
 use Rattle.pool.specs.Pool.{Pair}
 use Rattle.pool.specs.Points.{Points, hasPoints, pointCount}
-use Rattle.pool.specs.Tables.{fieldRoom}
-use Rattle.pool.specs.Faults.{idFault, roomFault}
-use Rattle.pool.specs.Faultless.{SoundPoints}
+use Rattle.pool.specs.Tables.{itemIn, fieldRoom}
+use Rattle.pool.specs.Faults.{idFault, roomFault, tablesFault}
+use Rattle.pool.specs.Faultless.{SoundPoints, FieldsHold}
 use Rattle.pool.proofs.Points.{points-none, points-passed, points-fault}
 use Rattle.pool.proofs.Pairs.{groups-none, groups-passed, groups-fault, id-none, id-passed, id-fault}
 use Rattle.pool.proofs.Rooms.{fieldRoom-hold, hold-fieldRoom}
 use Rattle.pool.proofs.Reading.{room-none, room-passed, room-fault, tables-none, tables-passed, tables-fault}
-use Rattle.live.specs.Live.{Live, liveVersion, weighedBy, pairOf}
-use Rattle.live.specs.Faults.{startFault, graphFault, keptFault, groupsFault, rangeFault, likeFault, moreFault, storedFault, registerFault, withdrawFault}
-use Rattle.live.specs.Faultless.{Kept, KeptFault, StartFault, AllInRange, AllUnlike, OneMoreFits, Registrable, RegisterFault, Withdrawable, WithdrawFault}
+use Rattle.live.specs.Live.{Live, liveVersion, weighedBy, pairOf, pairRoom}
+use Rattle.live.specs.Suitable.{onesIn}
+use Rattle.live.specs.Faults.{startFault, graphFault, keptFault, numbersFault, groupsFault, rangeFault, likeFault, moreFault, storedFault, registerFault, withdrawFault}
+use Rattle.live.specs.Faultless.{TablesKeep, TrueNumber, TrueNumbers, Kept, KeptFault, StartFault, AllInRange, AllUnlike, OneMoreFits, Registrable, RegisterFault, Withdrawable, WithdrawFault}
 
 -- ## Starting
 
@@ -75,52 +77,98 @@ module _ (l : Live) where
   abbrev w : ℕ
   w = length (l .graph .weights)
 
-  pub kept-none : Kept l → storedFault l ≡ none
+  -- ### the tables with an entry for each pair
+
+  pairs-hold : (k : ℕ) → k ≤ pairRoom l → FieldsHold k (l .fields) × (k ≤ length (l .suitable))
+  unfolding pairRoom
+  pairs-hold k h = (fieldRoom-hold k (l .fields) (le-trans h (min-le-left _ _)), le-trans h (min-le-right _ _))
+
+  hold-pairs : (k : ℕ) → FieldsHold k (l .fields) → k ≤ length (l .suitable) → k ≤ pairRoom l
+  unfolding pairRoom
+  hold-pairs k f s = le-min (hold-fieldRoom k (l .fields) f) s
+
+  pub room-holds : (space : ℕ) → space ≡ pairRoom l → FieldsHold space (l .fields) × (space ≤ length (l .suitable))
+  room-holds space e = pairs-hold space (rw e (le-refl _))
+
+  -- the lesser of the shortest of the fields and the numbers
+  pub lesser-pairs : (held space : ℕ) → held ≡ fieldRoom (l .fields) → space ≡ min held (length (l .suitable)) → space ≡ pairRoom l
+  unfolding pairRoom
+  lesser-pairs held space e s = s ∙ ap (λ (h : ℕ). min h (length (l .suitable))) e
+
+  -- ### the numbers
+
+  abbrev number : ℕ → Fault
+  number j = refuse 10 0 (not (eqb (itemIn (l .suitable) j) (onesIn n (l .graph .compatibilities) j)))
+
+  abbrev numbers : Fault
+  numbers = numbersFault n (l .graph .compatibilities) (l .suitable)
+
+  numbers-none : TrueNumbers l → numbers ≡ none
+  unfolding numbersFault
+  numbers-none t = none-first n number (λ j k. none-refuse 10 0 _ (ap not (eq-eqb _ _ (t j k))))
+
+  numbers-passed : numbers ≡ none → TrueNumbers l
+  unfolding numbersFault
+  numbers-passed e j k = eqb-true _ _ (not-false _ (refuse-none _ _ _ (first-none n number e j k)))
+
+  numbers-fault : (P : ℕ → ℕ → Type 0) → (Some n (λ j. TrueNumber l j → ⊥) → P 10 0) → (k o : ℕ) → numbers ≡ fault k o → P k o
+  unfolding numbersFault
+  numbers-fault P ten =
+      by-first P n number
+      (λ j k _. by-refuse P 10 0 _ (λ e. ten (record { at = j; below = k; there = eqb-false _ _ (not-true _ e) })))
+
+  -- ### all of it
+
+  sized-none : Kept l → keptFault n (pairRoom l) m w (l .points) ≡ none
   unfolding keptFault pointCount hasPoints
-  kept-none k =
+  sized-none k =
       none-then _ _ (none-refuse 4 0 _ (le-ltb 200 n (k .few)))
-      ∙ none-then _ _ (tables-none liveVersion n (fieldRoom (l .fields)) (l .points) (hold-fieldRoom n (l .fields) (k .keep .fields)) (k .keep .points))
+      ∙ none-then _ _ (tables-none liveVersion n (pairRoom l) (l .points) (hold-pairs n (k .keep .fields) (k .keep .suitable)) (k .keep .points))
       ∙ none-then _ _ (graph-none n m w (k .keep .graph .compatibilities) (k .keep .graph .weights))
       ∙ points-none (weighedBy l) 0 (k .sound)
 
-  pub kept-passed : storedFault l ≡ none → Kept l
-  unfolding keptFault pointCount hasPoints
-  kept-passed e =
+  pub kept-none : Kept l → storedFault l ≡ none
+  kept-none k =
+      let sizes = sized-none k in
+      let true-ones = numbers-none (k .numbers) in
+      none-then _ _ sizes ∙ true-ones
+
+  tables-keep : tablesFault liveVersion n (pairRoom l) (l .points) ≡ none → graphFault n m w ≡ none → TablesKeep l
+  unfolding pointCount hasPoints
+  tables-keep a b =
+      let t = tables-passed liveVersion n (pairRoom l) (l .points) a in
+      let p = pairs-hold n (t .0) in
+      let g = graph-passed n m w b in
+      record { fields = p .0; graph = record { compatibilities = g .0; weights = g .1 }; suitable = p .1; points = t .1 }
+
+  sized : keptFault n (pairRoom l) m w (l .points) ≡ none → (n ≤ 200) × TablesKeep l × SoundPoints (weighedBy l)
+  unfolding keptFault
+  sized e =
       let s0 = then-none _ _ e in
       let s1 = then-none _ _ (s0 .1) in
       let rest = then-none _ _ (s1 .1) in
-      let t = tables-passed liveVersion n (fieldRoom (l .fields)) (l .points) (s1 .0) in
-      let g = graph-passed n m w (rest .0) in
-      record {
-        few = ltb-false _ _ (refuse-none _ _ _ (s0 .0));
-        keep =
-            record {
-              fields = fieldRoom-hold n (l .fields) (t .0);
-              graph = record { compatibilities = g .0; weights = g .1 };
-              points = t .1;
-            };
-        sound = points-passed (weighedBy l) 0 (rest .1);
-      }
+      (ltb-false _ _ (refuse-none _ _ _ (s0 .0)), tables-keep (s1 .0) (rest .0), points-passed (weighedBy l) 0 (rest .1))
+
+  pub kept-passed : storedFault l ≡ none → Kept l
+  kept-passed e =
+      let s = then-none _ _ e in
+      let sizes : keptFault n (pairRoom l) m w (l .points) ≡ none = s .0 in
+      let true-ones : numbers ≡ none = s .1 in
+      let z = sized sizes in
+      record { few = z .0; keep = z .1; sound = z .2; numbers = numbers-passed true-ones }
 
   pub kept-fault : (P : ℕ → ℕ → Type 0) → ((k : ℕ) → KeptFault l k → P k 0) → (k o : ℕ) → storedFault l ≡ fault k o → P k o
   unfolding keptFault pointCount hasPoints
   kept-fault P h =
-      by-then P _ _ (by-refuse P 4 0 _ (λ e. h 4 (KeptFault.tooManyPairs (ltb-true _ _ e))))
+      by-then P _ _
+      (by-then P _ _ (by-refuse P 4 0 _ (λ e. h 4 (KeptFault.tooManyPairs (ltb-true _ _ e))))
       (λ a. let few : n ≤ 200 = ltb-false _ _ (refuse-none _ _ _ a) in
       by-then P _ _
-      (tables-fault liveVersion n (fieldRoom (l .fields)) (l .points) P
-      (λ no. h 9 (KeptFault.tableTooShort few (λ k. no (hold-fieldRoom n (l .fields) (k .fields)) (k .points)))))
-      (λ b. let t = tables-passed liveVersion n (fieldRoom (l .fields)) (l .points) b in
-      by-then P _ _ (graph-fault n m w P (λ no. h 9 (KeptFault.tableTooShort few (λ k. no (k .graph .compatibilities) (k .graph .weights)))))
-      (λ d. let g = graph-passed n m w d in
-      points-fault (weighedBy l) 0 P
-      (λ bad. h 14
-      (KeptFault.wrongPoints few
-      (record {
-        fields = fieldRoom-hold n (l .fields) (t .0);
-        graph = record { compatibilities = g .0; weights = g .1 };
-        points = t .1;
-      }) bad)))))
+      (tables-fault liveVersion n (pairRoom l) (l .points) P
+      (λ no. h 9 (KeptFault.tableTooShort few (λ k. no (hold-pairs n (k .fields) (k .suitable)) (k .points)))))
+      (λ b. by-then P _ _ (graph-fault n m w P (λ no. h 9 (KeptFault.tableTooShort few (λ k. no (k .graph .compatibilities) (k .graph .weights)))))
+      (λ d. points-fault (weighedBy l) 0 P (λ bad. h 14 (KeptFault.wrongPoints few (tables-keep b d) bad))))))
+      (λ e. let z = sized e in numbers-fault P (λ some. h 10 (KeptFault.wrongNumber (z .0) (z .1) (z .2) some)))
 
 -- ## Registering
 
@@ -170,37 +218,35 @@ module _ (p : Pair) (l : Live) where
       (λ _. by-refuse P 7 0 _
       (λ e. let f = any-found (n l) (λ j. eqb (id j) (p .id)) e in seven (λ u. u .new (f .0) (f .1) (eqb-true _ _ (f .2)))))
 
-  more-none : l .count < 200 → OneMoreFits l → moreFault (n l) (fieldRoom (l .fields)) (m l) (w l) ≡ none
+  more-none : l .count < 200 → OneMoreFits l → moreFault (n l) (pairRoom l) (m l) (w l) ≡ none
   unfolding moreFault
   more-none few h =
       let full : refuse 12 0 (eqb (n l) 200) ≡ none = none-refuse 12 0 _ (ne-eqb (n l) 200 (λ e. omega (arith, few, e))) in
-      let room : roomFault (fieldRoom (l .fields)) (n l + 1) ≡ none = room-none _ _ (hold-fieldRoom (n l + 1) (l .fields) (h .fields)) in
+      let room : roomFault (pairRoom l) (n l + 1) ≡ none = room-none _ _ (hold-pairs l (n l + 1) (h .fields) (h .suitable)) in
       none-then _ _ full ∙ none-then _ _ room ∙ graph-none (n l + 1) (m l) (w l) (h .graph .compatibilities) (h .graph .weights)
 
-  more-passed : n l ≤ 200 → moreFault (n l) (fieldRoom (l .fields)) (m l) (w l) ≡ none → (n l < 200) × OneMoreFits l
+  more-passed : n l ≤ 200 → moreFault (n l) (pairRoom l) (m l) (w l) ≡ none → (n l < 200) × OneMoreFits l
   unfolding moreFault
   more-passed few e =
       let s = then-none _ _ e in
       let t = then-none _ _ (s .1) in
       let full : refuse 12 0 (eqb (n l) 200) ≡ none = s .0 in
-      let room : roomFault (fieldRoom (l .fields)) (n l + 1) ≡ none = t .0 in
+      let room : roomFault (pairRoom l) (n l + 1) ≡ none = t .0 in
+      let hold = pairs-hold l (n l + 1) (room-passed _ _ room) in
       let g = graph-passed (n l + 1) (m l) (w l) (t .1) in
       let not200 : n l ≡ 200 → ⊥ = eqb-false _ _ (refuse-none _ _ _ full) in (
         omega (arith, few, not200),
-        record {
-          fields = fieldRoom-hold (n l + 1) (l .fields) (room-passed _ _ room);
-          graph = record { compatibilities = g .0; weights = g .1 };
-        },
+        record { fields = hold .0; graph = record { compatibilities = g .0; weights = g .1 }; suitable = hold .1 },
       )
 
   more-fault : n l ≤ 200 → (P : ℕ → ℕ → Type 0) → (n l ≡ 200 → P 12 0) → (n l < 200 → (OneMoreFits l → ⊥) → P 9 0) → (k o : ℕ)
-      → moreFault (n l) (fieldRoom (l .fields)) (m l) (w l) ≡ fault k o → P k o
+      → moreFault (n l) (pairRoom l) (m l) (w l) ≡ fault k o → P k o
   unfolding moreFault
   more-fault few P twelve nine =
       by-then P _ _ (by-refuse P 12 0 _ (λ e. twelve (eqb-true _ _ e)))
       (λ a. let not200 : n l ≡ 200 → ⊥ = eqb-false _ _ (refuse-none _ _ _ a) in
       let less : n l < 200 = omega (arith, few, not200) in
-      by-then P _ _ (room-fault P _ _ (λ short. nine less (λ h. omega (arith, short, hold-fieldRoom (n l + 1) (l .fields) (h .fields)))))
+      by-then P _ _ (room-fault P _ _ (λ short. nine less (λ h. omega (arith, short, hold-pairs l (n l + 1) (h .fields) (h .suitable)))))
       (λ _. graph-fault (n l + 1) (m l) (w l) P (λ no. nine less (λ h. no (h .graph .compatibilities) (h .graph .weights)))))
 
   pub register-none : Registrable p l → registerFault p l ≡ none

@@ -1,8 +1,12 @@
 -- The theorems on every list of calls from an empty pool. Assumes nothing.
 use mathlib.Core.Path.{_≡_, refl, sym, ap, ap₂, subst, _∙_}
+use mathlib.Core.Bool.{true}
 use mathlib.Core.List.{List, _++_, flatMap, map}
+use mathlib.Core.Logic.{_↔_}
 use Prim.Native.Nat.{ℕ, _+_, _-_, _*_, _≤_, _<_}
 use native.Mathlib.Omega.{arith}
+use borrow.Author.Tests.{eqb-true, eq-eqb}
+use lib.Dec.{eqb}
 use lib.ListN.{length, take}
 use Rattle.laws.specs.Below.{table, Some}
 use Rattle.laws.specs.Lent.{filled}
@@ -22,18 +26,23 @@ use Rattle.pool.proofs.Writing.{writes-rightly}
 use Rattle.pool.proofs.RoundTrip.{pair-in-filled, point-in-filled, faultless-filled, pool-comes-back}
 use Rattle.donation.specs.Compatibility.{compatibility}
 use Rattle.donation.specs.Weight.{weight}
+use Rattle.donation.specs.Promises.{Compatible}
+use Rattle.donation.proofs.Compatible.{one-where-compatible}
 use Rattle.graph.specs.Graph.{Graph, graph, inRows, filledGraph}
+use Rattle.graph.proofs.Rows.{rows-entry}
 use Rattle.weighing.specs.Building.{building}
 use Rattle.weighing.specs.Promises.{FaultlessFields, Fit}
 use Rattle.weighing.proofs.Faults.{build-none}
 use Rattle.weighing.proofs.Promised.{rightly}
 use Rattle.live.specs.Live.{Live, liveVersion, weighedBy, pairOf, pairsOf}
 use Rattle.live.specs.Calls.{inOrder, starting, registering, up, withoutAt}
-use Rattle.live.specs.Faultless.{NoneHas, Registrable}
+use Rattle.live.specs.Faultless.{TrueNumber, KeptFault, NoneHas, Registrable, RegisterFault, WithdrawFault}
+use Rattle.live.specs.Suitable.{onesIn}
 use Rattle.live.specs.Lists.{Call, after, trace, held, staying}
-use Rattle.live.specs.Promises.{Empty, OnASheet, Holds, LiveHolds, startedWith, StartHolds, HasId, Welcome, AnswersBy, LiveAnswers, MayReturn}
+use Rattle.live.specs.Promises.{Empty, OnASheet, HowMany, SuitedBySoMany, Holds, LiveHolds, startedWith, StartHolds, HasId, Welcome, AnswersBy, LiveAnswers, NoNumberRefused, NeverTen, MayReturn}
 use Rattle.live.proofs.Tables.{rows-cong, past-hold, up-not, up-below, pair-moved}
-use Rattle.live.proofs.Promised.{rightly-started, starts-empty, registering-done, registering-accepts, gone, gone-first, is-without, withdrawing-done, withdrawing-accepts}
+use Rattle.live.proofs.Suitable.{how-many}
+use Rattle.live.proofs.Promised.{rightly-started, starts-empty, registering-done, registering-accepts, rightly-registered, rightly-withdrawn, gone, gone-first, is-without, withdrawing-done, withdrawing-accepts}
 use Rattle.live.proofs.Lists.{Right, compatibility-moved, weight-moved, empty-right, less-right, other-id, kept-by}
 
 -- ## Building changes nothing
@@ -175,12 +184,31 @@ module _ (l : Live) (w : Right l) (s out : List ℕ) (other : Tables) (g : Graph
             ap (λ (t : Tables). building liveVersion n (t .points) (t .fields) g) q ∙ back-built ∙ ap (outcome (finished tt)) same-rows;
       }
 
+-- ## Each number is that of the donors that suit
+
+right-suited : (l : Live) → Right l → SuitedBySoMany l
+unfolding onesIn filledGraph
+right-suited l w j h =
+    let n = l .count in
+    let M = l .graph .compatibilities in
+    let suits : (i : ℕ) → i < n → (eqb (itemIn M (i * n + j)) 1 ≡ true) ↔ Compatible (pairOf l) i j =
+    λ i k.
+    let e : itemIn M (i * n + j) ≡ compatibility (pairOf l) i j =
+    ap (λ (g : Graph). itemIn (g .compatibilities) (i * n + j)) (sym (w .built)) ∙ rows-entry n (compatibility (pairOf l)) M i j k h in
+    let both = one-where-compatible (pairOf l) i j in (
+      λ t. both .0 (sym e ∙ eqb-true _ _ t),
+      λ c. eq-eqb _ _ (e ∙ both .1 c),
+    ) in
+    subst (HowMany (λ i. Compatible (pairOf l) i j) n) (sym (w .kept .numbers j h)) (how-many _ _ n suits)
+
 right-holds : (ps : List Pair) (l : Live) → Right l → pairsOf l ≡ ps → Holds ps l
 right-holds ps l w e =
     record {
       number = sym (length-table (l .count) (pairOf l)) ∙ ap length e;
       pairs = e;
       built = right-built l w;
+      numbers = w .kept .numbers;
+      suited = right-suited l w;
       plannable = rightly liveVersion (l .count) (l .points) (l .fields) (l .graph) (finished tt) (l .graph) (sym (right-built l w)) .plannable refl;
       sheet = λ s out other g once long typed room hold fit. on-a-sheet l w s out other g once long typed room hold fit ps e;
     }
@@ -209,10 +237,10 @@ six-numbers p = refl
 
 pub start-holds : StartHolds
 unfolding pointsOf hasPoints
-start-holds given old f g calls e =
+start-holds given old f g t calls e =
     let begun = starting given old .lent in
-    let l = startedWith given old f g in
-    let s = starts-empty given old begun f g (starting given old) (rightly-started given old _ refl) (ap (λ (a : Answer (Unit {0})). outcome a begun) e) in
+    let l = startedWith given old f g t in
+    let s = starts-empty given old begun f g t (starting given old) (rightly-started given old _ refl) (ap (λ (a : Answer (Unit {0})). outcome a begun) e) in
     let left = live-holds l calls (s .0) in
     let same : weighedBy (after calls l) ≡ given = ap (λ (t : List ℕ). pointsBy (itemIn t)) (left .points) ∙ s .1 in
     record { left = left; points = six-numbers (itemIn (after calls l .points)) ∙ ap inOrder same; weighed = same }
@@ -271,6 +299,36 @@ pub live-answers : LiveAnswers
 live-answers l calls w =
     subst (λ (ps : List Pair). AnswersBy ps (after calls l)) (list-pairs l calls w) (right-answers (after calls l) (list-right l calls w))
 
+-- ## No number is refused
+
+ten-of : (l : Live) (k : ℕ) → KeptFault l k → k ≡ 10 → Some (l .count) (λ j. TrueNumber l j → ⊥)
+ten-of l _ (KeptFault.tooManyPairs _) e = absurd (omega (arith, e))
+ten-of l _ (KeptFault.tableTooShort _ _) e = absurd (omega (arith, e))
+ten-of l _ (KeptFault.wrongPoints _ _ _) e = absurd (omega (arith, e))
+ten-of l _ (KeptFault.wrongNumber _ _ _ some) e = some
+
+ten-registering : (p : Pair) (l : Live) (k : ℕ) → RegisterFault p l k → k ≡ 10 → Some (l .count) (λ j. TrueNumber l j → ⊥)
+ten-registering p l k (RegisterFault.kept _ f) e = ten-of l k f e
+ten-registering p l _ (RegisterFault.outOfRange _ _) e = absurd (omega (arith, e))
+ten-registering p l _ (RegisterFault.repeatedId _ _ _) e = absurd (omega (arith, e))
+ten-registering p l _ (RegisterFault.full _ _ _ _) e = absurd (omega (arith, e))
+ten-registering p l _ (RegisterFault.noRoom _ _ _ _ _) e = absurd (omega (arith, e))
+
+ten-withdrawing : (x : ℕ) (l : Live) (k : ℕ) → WithdrawFault x l k → k ≡ 10 → Some (l .count) (λ j. TrueNumber l j → ⊥)
+ten-withdrawing x l k (WithdrawFault.kept _ f) e = ten-of l k f e
+ten-withdrawing x l _ (WithdrawFault.unknownId _ _) e = absurd (omega (arith, e))
+
+no-number-refused : (l : Live) → Right l → NoNumberRefused l
+no-number-refused l w =
+    let none : Some (l .count) (λ j. TrueNumber l j → ⊥) → ⊥ = λ s. s .there (w .kept .numbers (s .at) (s .below)) in
+    record {
+      registers = λ p o e. none (ten-registering p l 10 (rightly-registered p l _ refl .refuses 10 o e .1) refl);
+      withdraws = λ x o e. none (ten-withdrawing x l 10 (rightly-withdrawn x l _ refl .refuses 10 o e .1) refl);
+    }
+
+pub never-ten : NeverTen
+never-ten l calls w = no-number-refused (after calls l) (list-right l calls w)
+
 pub may-return : MayReturn
 unfolding withoutAt
 may-return l calls x p w e r same =
@@ -305,5 +363,6 @@ may-return l calls x p w e r same =
                   compatibilities = rw (out .past .compatibilities .long, back) (right .kept .keep .graph .compatibilities);
                   weights = rw (out .past .weights .long, back) (right .kept .keep .graph .weights);
                 };
+            suitable = rw (out .past .suitable .long, back) (right .kept .keep .suitable);
           };
     }))

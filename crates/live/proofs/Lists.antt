@@ -32,7 +32,7 @@ use Rattle.live.specs.Promises.{AllPast, Empty, AsLong, FirstWith}
 use Rattle.live.proofs.Tables.{filled-again, rows-cong, past-hold, up-before, up-from, up-below, up-less, up-same, pair-moved}
 use Rattle.live.proofs.Promised.{is-registered, new-faultless, registering-done, registering-left, gone, gone-first, is-without, withdrawing-done, withdrawing-left}
 
--- ## A pool that is right: its pairs have no fault, and M and W are what building gives
+-- ## A pool that is right: its pairs and numbers have no fault, and M and W are what building gives
 
 pub record Right (l : Live) : Type 0 where
   pub kept : Kept l
@@ -86,9 +86,11 @@ empty-right l w e =
                         patientAntibodies = omega (arith, e);
                       };
                   graph = record { compatibilities = omega (arith, z); weights = omega (arith, z) };
+                  suitable = omega (arith, e);
                   points = w .points;
                 };
             sound = w .sound;
+            numbers = λ j h. absurd (omega (arith, h, e));
           };
       inRange = λ i h. absurd (omega (arith, h, e));
       unlike = λ i j k h _. omega (arith, h, e);
@@ -119,9 +121,11 @@ module _ (p : Pair) (l : Live) (w : Right l) (r : Registrable p l) where
                           compatibilities = rw (d .past .compatibilities .long) (r .more .graph .compatibilities);
                           weights = rw (d .past .weights .long) (r .more .graph .weights);
                         };
+                    suitable = rw (d .past .suitable .long) (r .more .suitable);
                     points = w .kept .keep .points;
                   };
               sound = w .kept .sound;
+              numbers = d .numbers;
             };
         inRange = whole .inRange;
         unlike = whole .unlike;
@@ -197,9 +201,11 @@ module _ (a : ℕ) (l : Live) (w : Right l) (h : a < l .count) where
                           compatibilities = rw (d .past .compatibilities .long) (fit .compatibilities);
                           weights = rw (d .past .weights .long) (fit .weights);
                         };
+                    suitable = rw (d .past .suitable .long) (omega (arith, w .kept .keep .suitable));
                     points = w .kept .keep .points;
                   };
               sound = w .kept .sound;
+              numbers = d .numbers;
             };
         inRange = λ i k. subst InRange (sym (moved i k)) (w .inRange (up a i) (up-below a n i k));
         unlike =
@@ -298,7 +304,7 @@ stays-all s since h (p ∷ ps) = ap₂ (λ (x y : List Pair). x ++ y) (stays-one
 
 -- tables that are as long as they were: at once, one after another, and where nothing changed past a place
 long-same : (l : Live) → AsLong l l
-long-same l = record { fields = refl; compatibilities = refl; weights = refl }
+long-same l = record { fields = refl; compatibilities = refl; weights = refl; suitable = refl }
 
 long-after : (l m n : Live) → AsLong l m → AsLong m n → AsLong l n
 long-after l m n a b =
@@ -306,6 +312,7 @@ long-after l m n a b =
       fields = b .fields ∙ a .fields;
       compatibilities = b .compatibilities ∙ a .compatibilities;
       weights = b .weights ∙ a .weights;
+      suitable = b .suitable ∙ a .suitable;
     }
 
 past-long : (n : ℕ) (old new : Live) → AllPast n old new → AsLong old new
@@ -317,6 +324,7 @@ past-long n old new p =
           rw (f .ids .long, f .donorBlood .long, f .patientBlood .long, f .donorAge .long, f .patientAge .long, f .donorAntigens .long, f .patientAntigens .long, f .patientAntibodies .long);
       compatibilities = p .compatibilities .long;
       weights = p .weights .long;
+      suitable = p .suitable .long;
     }
 
 -- after a list of calls the pool is right, holds of its pairs those not withdrawn and then those that the list brought in, and has its points

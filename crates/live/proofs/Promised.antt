@@ -1,7 +1,7 @@
 -- The promises of the three calls. Assumes nothing.
 use mathlib.Core.Path.{_≡_, refl, sym, ap, ap₂, subst, _∙_}
 use mathlib.Core.List.{List}
-use Prim.Native.Nat.{ℕ, _+_, _*_, _≤_, _<_}
+use Prim.Native.Nat.{ℕ, _+_, _-_, _*_, _≤_, _<_}
 use native.Mathlib.Omega.{arith}
 use borrow.Author.Tests.{eq-eqb}
 use lib.Dec.{eqb}
@@ -23,6 +23,7 @@ use Rattle.live.specs.Faultless.{Kept, Registrable, Withdrawable}
 use Rattle.live.specs.Promises.{Started, StartsRightly, Registered, RegistersRightly, FirstWith, WithoutIt, WithdrawsRightly, StartsEmpty}
 use Rattle.live.proofs.Faults.{start-none, start-passed, start-fault, register-none, register-passed, register-fault, withdraw-none, withdraw-passed, withdraw-fault}
 use Rattle.live.proofs.Tables.{filled-kept, length-rows, pair-there, pair-other, with-past, past-hold, place-found, moved-up, row-moved, row-past, pair-moved, without-past}
+use Rattle.live.proofs.Suitable.{numbers-there, numbers-past}
 
 -- ## Starting
 
@@ -59,7 +60,7 @@ module _ (q : Points) (old : Beginning) where
 
 pub starts-empty : StartsEmpty
 unfolding pointsOf hasPoints
-starts-empty given old new f g o w e =
+starts-empty given old new f g t o w e =
     let done : o .answer ≡ finished tt = ap (λ (x : Outcome (Unit {0}) Beginning). x .answer) e in
     let s : Started given old new = subst (Started given old) (ap (λ (x : Outcome (Unit {0}) Beginning). x .lent) e) (w .started done) in
     let a = w .accepted done in (
@@ -86,12 +87,14 @@ module _ (p : Pair) (l : Live) where
         last = pair-there n p (l .fields) (r .more .fields);
         others = λ i h. pair-other n p (l .fields) (r .more .fields) i (λ e. omega (arith, h, e));
         entries = filled-entries (weighedBy l) (n + 1) f′ (l .graph);
+        numbers = numbers-there (n + 1) _ (l .suitable);
         past =
             record {
               points = refl;
               fields = with-past n p (l .fields) (r .more .fields);
               compatibilities = filled-kept _ (l .graph .compatibilities) ((n + 1) * (n + 1)) (length-rows (n + 1) _) (r .more .graph .compatibilities);
               weights = filled-kept _ (l .graph .weights) ((n + 1) * (n + 1)) (length-rows (n + 1) _) (r .more .graph .weights);
+              suitable = numbers-past (n + 1) _ (l .suitable) (r .more .suitable);
             };
       }
 
@@ -169,12 +172,14 @@ module _ (l : Live) where
             let u = moved-up a n i j m h b in
             let v = moved-up a n g k o h d in
             row-moved a n W j k (u .0) (v .0) ∙ ap₂ (entryAt W n) (u .1) (v .1);
+        numbers = numbers-there (n - 1) _ (l .suitable);
         past =
             record {
               points = refl;
               fields = without-past a n (l .fields) (kept .keep .fields);
               compatibilities = row-past a n M (kept .keep .graph .compatibilities);
               weights = row-past a n W (kept .keep .graph .weights);
+              suitable = numbers-past (n - 1) _ (l .suitable) (omega (arith, kept .keep .suitable));
             };
       }
 

@@ -1,7 +1,7 @@
 -- What stands in the tables of a live pool with a pair more, and with a pair less. Assumes nothing.
 use mathlib.Core.Path.{_≡_, refl, sym, ap, _∙_}
 use mathlib.Core.Bool.{Bool, true, false}
-use mathlib.Core.List.{List, [], _∷_}
+use mathlib.Core.List.{List, [], _∷_, _++_}
 use Prim.Native.Nat.{ℕ, zero, suc, _+_, _-_, _*_, _/_, _%_, _≤_, _<_}
 use native.Mathlib.Nat.{mod-lt, div-lt-iff-lt-mul, mul-le-mul}
 use native.Mathlib.Numerals.{add-one}
@@ -26,6 +26,11 @@ use Rattle.live.specs.Promises.{PastKept, FieldsPast, Moved}
 
 -- ## Filled tables
 
+-- filled over by as many
+pub filled-over : (new old more : List ℕ) → length more ≡ length new → filled more (filled new old) ≡ filled more old
+unfolding filled
+filled-over new old more e = ap (λ (r : List ℕ). more ++ r) (rw e (drop-append-seam new (drop (length new) old)))
+
 module _ (new old : List ℕ) where
   pub filled-past : (i : ℕ) → length new ≤ i → itemIn (filled new old) i ≡ itemIn old i
   unfolding filled
@@ -40,8 +45,7 @@ module _ (new old : List ℕ) where
   filled-kept k e l = record { long = length-filled new old (rw e l); past = λ i h. filled-past i (rw e h) }
 
   pub filled-again : filled new (filled new old) ≡ filled new old
-  unfolding filled
-  filled-again = ap (λ (r : List ℕ). filled new r) refl ∙ rw (drop-append-seam new (drop (length new) old))
+  filled-again = filled-over new old new refl
 
 -- n rows of n that agree
 pub rows-cong : (n : ℕ) (e f : ℕ → ℕ → ℕ) → ((i j : ℕ) → i < n → j < n → e i j ≡ f i j) → inRows n e ≡ inRows n f

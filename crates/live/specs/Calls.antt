@@ -10,8 +10,9 @@ use Rattle.refusal.specs.Answer.{Outcome, unless}
 use Rattle.pool.specs.Pool.{Pair}
 use Rattle.pool.specs.Points.{Points}
 use Rattle.pool.specs.Tables.{Fields, itemIn, pairIn}
-use Rattle.graph.specs.Graph.{graph, inRows, filledGraph}
+use Rattle.graph.specs.Graph.{Graph, graph, inRows, filledGraph}
 use Rattle.live.specs.Live.{Live, live, weighedBy, pairOf}
+use Rattle.live.specs.Suitable.{withNumbers}
 use Rattle.live.specs.Faults.{startFault, registerFault, withdrawFault}
 
 -- ## Starting: "The pool's six points are given when it starts"
@@ -49,11 +50,13 @@ withPair n p f =
       patientAntibodies = stored n (p .patientAntibodies ∷ []) (f .patientAntibodies);
     }
 
--- "Registering builds both tables anew"
+-- "Registering builds both tables anew", whatever stood in them, and the numbers are those of the M so built
 unfoldable pub registered : Pair → Live → Live
 registered p l =
-    live (l .count + 1) (l .points) (withPair (l .count) p (l .fields))
-    (filledGraph (weighedBy l) (l .count + 1) (pairIn (withPair (l .count) p (l .fields))) (l .graph))
+    let n : ℕ = l .count + 1 in
+    let f : Fields = withPair (l .count) p (l .fields) in
+    let g : Graph = filledGraph (weighedBy l) n (pairIn f) (l .graph) in
+    live n (l .points) f g (withNumbers n (g .compatibilities) (l .suitable))
 
 unfoldable pub registering : Pair → Live → Outcome (Unit {0}) Live
 registering p l = unless (registerFault p l) tt (registered p l) l
@@ -90,11 +93,12 @@ withoutPair a n f =
       patientAntibodies = withoutEntry a n (f .patientAntibodies);
     }
 
--- pair a of the pool is out
+-- pair a of the pool is out, and the numbers are those of the M that is left
 unfoldable pub withoutAt : ℕ → Live → Live
 withoutAt a l =
-    live (l .count - 1) (l .points) (withoutPair a (l .count) (l .fields))
-    (graph (withoutRow a (l .count) (l .graph .compatibilities)) (withoutRow a (l .count) (l .graph .weights)))
+    let n : ℕ = l .count in
+    let g : Graph = graph (withoutRow a n (l .graph .compatibilities)) (withoutRow a n (l .graph .weights)) in
+    live (n - 1) (l .points) (withoutPair a n (l .fields)) g (withNumbers (n - 1) (g .compatibilities) (l .suitable))
 
 unfoldable pub withdrawing : ℕ → Live → Outcome (Unit {0}) Live
 withdrawing id l = unless (withdrawFault id l) tt (withoutAt (placeOf (l .count) (λ j. pairOf l j .id) id) l) l

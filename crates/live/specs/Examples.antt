@@ -9,7 +9,7 @@ use Rattle.pool.specs.Points.{pointsBy}
 use Rattle.pool.specs.Tables.{fields, itemIn}
 use Rattle.graph.specs.Graph.{graph}
 use Rattle.live.specs.Live.{Live, live}
-use Rattle.live.specs.Calls.{beginning, starting}
+use Rattle.live.specs.Calls.{beginning, starting, registering, withdrawing}
 use Rattle.live.specs.Lists.{Call, after, trace, held}
 
 -- an id, the donor's blood, age and antigens, and the patient's blood and age: a patient with no antigens and no antibodies
@@ -26,12 +26,12 @@ examplePair id blood age antigens patientBlood patientAge =
       patientAntibodies = 0;
     }
 
--- no pairs, in tables for four, as a start leaves the count and the points, whose table has seven entries. The points: base 2,000; 500 for no mismatch, 300 for 1 or 2, 70 for 3 or 4; 40 for equal ages, 9 from young to senior
+-- no pairs, in tables for four that hold something, as a start leaves the count and the points, whose table has seven entries. The points: base 2,000; 500 for no mismatch, 300 for 1 or 2, 70 for 3 or 4; 40 for equal ages, 9 from young to senior
 abbrev pub exampleRoom : Live
 exampleRoom =
     live 0 (2000 ∷ 500 ∷ 300 ∷ 70 ∷ 40 ∷ 9 ∷ 5 ∷ [])
     (fields (replicate 4 9) (replicate 4 9) (replicate 4 9) (replicate 4 9) (replicate 4 9) (replicate 4 9) (replicate 4 9) (replicate 4 9))
-    (graph (replicate 16 7) (replicate 16 77))
+    (graph (replicate 16 7) (replicate 16 77)) (replicate 4 3)
 
 -- 11 gives A to B and 12 B to A, both young; 13 gives O to O, from a senior donor with three antigens to a senior patient
 abbrev pub threeCalls : List Call
@@ -57,3 +57,38 @@ pub record LiveRun : Type 0 where
       ≡ finished tt ∷ finished tt ∷ finished tt ∷ finished tt ∷ refused 16 0 ∷ refused 7 0 ∷ finished tt ∷ []
   pub ids : after sevenCalls exampleRoom .fields .ids ≡ 11 ∷ 13 ∷ 12 ∷ 9 ∷ []
   pub holds : map (λ q. q .id) (held (trace sevenCalls exampleRoom)) ≡ 11 ∷ 13 ∷ 12 ∷ []
+
+-- ## "How many donors suit each patient"
+
+-- the three pairs, with an M that a caller put in and these numbers: in M's columns stand 1, 3 and 1 ones, and a 5 and a 2 that are none; in its rows 1, 2 and 2
+abbrev pub byHand : ℕ → ℕ → ℕ → Live
+byHand a b c =
+    let l : Live = after threeCalls exampleRoom in
+    live 3 (l .points) (l .fields) (graph (0 ∷ 1 ∷ 5 ∷ 1 ∷ 1 ∷ 2 ∷ 0 ∷ 1 ∷ 1 ∷ replicate 7 7) (l .graph .weights)) (a ∷ b ∷ c ∷ 3 ∷ [])
+
+-- 14 gives O to AB: all three suit its patient, and it suits all three
+abbrev pub fourteen : Pair
+fourteen = examplePair 14 0 0 0 3 0
+
+-- numbers one too high and one too low, in each place; then those of the rows, and those that count what is above 0
+abbrev pub wrongNumbers : List Live
+wrongNumbers =
+    byHand 2 3 1
+    ∷ byHand 0 3 1
+    ∷ byHand 1 4 1
+    ∷ byHand 1 2 1
+    ∷ byHand 1 3 2
+    ∷ byHand 1 3 0
+    ∷ byHand 1 2 2
+    ∷ byHand 1 3 3
+    ∷ []
+
+-- from call to call; then with M put in by hand: a withdrawal leaves 0 5 and 0 1 of it, and a registration counts in the M that it builds
+pub record NumbersRun : Type 0 where
+  pub three : after threeCalls exampleRoom .suitable ≡ 2 ∷ 2 ∷ 0 ∷ 3 ∷ []
+  pub two : after fourCalls exampleRoom .suitable ≡ 1 ∷ 0 ∷ 0 ∷ 3 ∷ []
+  pub again : after sevenCalls exampleRoom .suitable ≡ 2 ∷ 0 ∷ 2 ∷ 3 ∷ []
+  pub withdrawn : withdrawing 12 (byHand 1 3 1) .lent .suitable ≡ 0 ∷ 1 ∷ 1 ∷ 3 ∷ []
+  pub registered : registering fourteen (byHand 1 3 1) .lent .suitable ≡ 3 ∷ 3 ∷ 1 ∷ 3 ∷ []
+  pub registers : map (λ l. registering fourteen l .answer) wrongNumbers ≡ replicate 8 (refused 10 0)
+  pub withdraws : map (λ l. withdrawing 12 l .answer) wrongNumbers ≡ replicate 8 (refused 10 0)

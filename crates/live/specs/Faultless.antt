@@ -5,9 +5,11 @@ use lib.ListN.{length}
 use Rattle.laws.specs.Below.{Some}
 use Rattle.pool.specs.Pool.{Pair}
 use Rattle.pool.specs.Points.{Points}
+use Rattle.pool.specs.Tables.{itemIn}
 use Rattle.pool.specs.Faultless.{SoundPoints, InRange, Unlike, FieldsHold}
 use Rattle.weighing.specs.Promises.{Fit}
 use Rattle.live.specs.Live.{Live, weighedBy, pairOf}
+use Rattle.live.specs.Suitable.{onesIn}
 
 -- ## What both calls ask of the pool
 
@@ -15,18 +17,28 @@ use Rattle.live.specs.Live.{Live, weighedBy, pairOf}
 pub record TablesKeep (l : Live) : Type 0 where
   pub fields : FieldsHold (l .count) (l .fields)
   pub graph : Fit (l .count) (l .graph)
+  pub suitable : l .count ≤ length (l .suitable)
   pub points : 6 ≤ length (l .points)
+
+-- the number stored with patient j "equals the ones in that patient's column of M", whatever M is
+abbrev pub TrueNumber : Live → ℕ → Type 0
+TrueNumber l j = itemIn (l .suitable) j ≡ onesIn (l .count) (l .graph .compatibilities) j
+
+abbrev pub TrueNumbers : Live → Type 0
+TrueNumbers l = (j : ℕ) → j < l .count → TrueNumber l j
 
 pub record Kept (l : Live) : Type 0 where
   pub few : l .count ≤ 200
   pub keep : TablesKeep l
   pub sound : SoundPoints (weighedBy l)
+  pub numbers : TrueNumbers l
 
 -- fault k of it, and none that is looked for before
 pub data KeptFault (l : Live) : ℕ → Type 0 where
   tooManyPairs : 200 < l .count → KeptFault l 4
   tableTooShort : l .count ≤ 200 → (TablesKeep l → ⊥) → KeptFault l 9
   wrongPoints : l .count ≤ 200 → TablesKeep l → (SoundPoints (weighedBy l) → ⊥) → KeptFault l 14
+  wrongNumber : l .count ≤ 200 → TablesKeep l → SoundPoints (weighedBy l) → Some (l .count) (λ j. TrueNumber l j → ⊥) → KeptFault l 10
 
 -- ## Starting, with a table of the points that has so many entries
 
@@ -53,6 +65,7 @@ pub record AllUnlike (p : Pair) (l : Live) : Type 0 where
 pub record OneMoreFits (l : Live) : Type 0 where
   pub fields : FieldsHold (l .count + 1) (l .fields)
   pub graph : Fit (l .count + 1) (l .graph)
+  pub suitable : l .count + 1 ≤ length (l .suitable)
 
 pub record Registrable (p : Pair) (l : Live) : Type 0 where
   pub kept : Kept l

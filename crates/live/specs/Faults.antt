@@ -8,9 +8,10 @@ use Rattle.laws.specs.Below.{anyBelow}
 use Rattle.refusal.specs.Fault.{Fault, refuse, _then_, firstBelow}
 use Rattle.pool.specs.Pool.{Pair}
 use Rattle.pool.specs.Points.{Points, registryPoints}
-use Rattle.pool.specs.Tables.{fieldRoom, pointsOfTable}
+use Rattle.pool.specs.Tables.{itemIn, pointsOfTable}
 use Rattle.pool.specs.Faults.{groupFault, idFault, pointsFault, roomFault, tablesFault}
-use Rattle.live.specs.Live.{Live, liveVersion, pairOf}
+use Rattle.live.specs.Live.{Live, liveVersion, pairOf, pairRoom}
+use Rattle.live.specs.Suitable.{onesIn}
 
 -- "Starting refuses 14, then 9 where the points don't fit their lent table", of so many entries
 unfoldable pub startFault : Points → ℕ → Fault
@@ -21,13 +22,17 @@ unfoldable pub graphFault : ℕ → ℕ → ℕ → Fault
 graphFault n compatibilities weights = roomFault compatibilities (n * n) then roomFault weights (n * n)
 
 -- "Both calls refuse 4 for a lent count above 200, 9 where a lent table can't hold that count or the points, then 14": n is the count, `space` the entries of
--- the shortest table of the fields, the next two those of M and W
+-- the shortest table with one for each pair, the next two those of M and W
 unfoldable pub keptFault : ℕ → ℕ → ℕ → ℕ → List ℕ → Fault
 keptFault n space compatibilities weights points =
     refuse 4 0 (ltb 200 n)
     then tablesFault liveVersion n space points
     then graphFault n compatibilities weights
     then pointsFault 0 (pointsOfTable liveVersion points)
+
+-- "Both calls refuse 10, directly after 14, where a stored number isn't the ones in its column": n numbers t, and M
+unfoldable pub numbersFault : ℕ → List ℕ → List ℕ → Fault
+numbersFault n m t = firstBelow n (λ j. refuse 10 0 (not (eqb (itemIn t j) (onesIn n m j))))
 
 -- "6 over all pairs, stored ones and the new one"
 abbrev pub groupsFault : Pair → Fault
@@ -49,14 +54,15 @@ moreFault n space compatibilities weights =
 
 abbrev pub storedFault : Live → Fault
 storedFault l =
-    keptFault (l .count) (fieldRoom (l .fields)) (length (l .graph .compatibilities)) (length (l .graph .weights)) (l .points)
+    keptFault (l .count) (pairRoom l) (length (l .graph .compatibilities)) (length (l .graph .weights)) (l .points)
+    then numbersFault (l .count) (l .graph .compatibilities) (l .suitable)
 
 unfoldable pub registerFault : Pair → Live → Fault
 registerFault p l =
     storedFault l
     then rangeFault (l .count) (pairOf l) p
     then likeFault (l .count) (pairOf l) p
-    then moreFault (l .count) (fieldRoom (l .fields)) (length (l .graph .compatibilities)) (length (l .graph .weights))
+    then moreFault (l .count) (pairRoom l) (length (l .graph .compatibilities)) (length (l .graph .weights))
 
 -- "withdrawing refuses 16 where the id isn't in the pool"
 unfoldable pub withdrawFault : ℕ → Live → Fault

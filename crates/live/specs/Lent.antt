@@ -11,15 +11,16 @@ use Rattle.live.specs.Calls.{Beginning, beginning}
 abbrev pub Number : Type 0
 Number = Both (RefT ℕ) (RefT ℕ)
 
-abbrev pub liveNow : RefT ℕ → Ref → Ref → Ref → Ref → Ref → Ref → Ref → Ref → Ref → Ref → Ref → Live
-liveNow n p a b c d e f g h m w = live (now n) (now p) (fieldsNow a b c d e f g h) (graphNow m w)
+abbrev pub liveNow : RefT ℕ → Ref → Ref → Ref → Ref → Ref → Ref → Ref → Ref → Ref → Ref → Ref → Ref → Live
+liveNow n p a b c d e f g h m w s = live (now n) (now p) (fieldsNow a b c d e f g h) (graphNow m w) (now s)
 
-abbrev pub lentLive : Number → Slice → Slice → Slice → Slice → Slice → Slice → Slice → Slice → Slice → Slice → Slice → Both Live Live
-lentLive n p a b c d e f g h m w =
+abbrev pub lentLive : Number → Slice → Slice → Slice → Slice → Slice → Slice → Slice → Slice → Slice → Slice → Slice → Slice → Both Live Live
+lentLive n p a b c d e f g h m w s =
     record {
       entry =
-          liveNow (n .entry) (p .entry) (a .entry) (b .entry) (c .entry) (d .entry) (e .entry) (f .entry) (g .entry) (h .entry) (m .entry) (w .entry);
-      exit = liveNow (n .exit) (p .exit) (a .exit) (b .exit) (c .exit) (d .exit) (e .exit) (f .exit) (g .exit) (h .exit) (m .exit) (w .exit);
+          liveNow (n .entry) (p .entry) (a .entry) (b .entry) (c .entry) (d .entry) (e .entry) (f .entry) (g .entry) (h .entry) (m .entry) (w .entry) (s .entry);
+      exit =
+          liveNow (n .exit) (p .exit) (a .exit) (b .exit) (c .exit) (d .exit) (e .exit) (f .exit) (g .exit) (h .exit) (m .exit) (w .exit) (s .exit);
     }
 
 abbrev pub lentBeginning : Number → Slice → Both Beginning Beginning

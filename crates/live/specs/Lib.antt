@@ -1,6 +1,7 @@
--- Document 02's live pool. Believe `Live`, `Faults` and `Calls`, which the contracts cite, with `Answers` for the answer and `Lent` for what is lent; and
--- `Lists`: a list of calls, and what a pool holds by it. `Faultless` says again what has no fault, `Promises` has the statements, `Examples` the numbers.
+-- Document 02's live pool. Believe `Live`, `Suitable`, `Faults` and `Calls`, which the contracts cite, with `Answers` for the answer and `Lent` for what is lent;
+-- and `Lists`: a list of calls, and what a pool holds by it. `Faultless` says again what has no fault, `Promises` has the statements, `Examples` the numbers.
 pub mod Live
+pub mod Suitable
 pub mod Faults
 pub mod Calls
 pub mod Answers

@@ -15,12 +15,13 @@ use Rattle.pool.specs.Tables.{Fields, Tables, tables, itemIn, fieldRoom, filled
 use Rattle.pool.specs.Calls.{head, reading, writing}
 use Rattle.pool.specs.Faultless.{SoundPoints, InRange, EachOnce, TablesHold}
 use Rattle.pool.specs.Promises.{TablesTyped}
+use Rattle.donation.specs.Promises.{Compatible}
 use Rattle.graph.specs.Graph.{Graph, graph}
 use Rattle.weighing.specs.Building.{building}
 use Rattle.weighing.specs.Promises.{Fit, Entries, Plannable, entryAt}
 use Rattle.live.specs.Live.{Live, live, liveVersion, weighedBy, pairOf, pairsOf}
 use Rattle.live.specs.Calls.{Beginning, inOrder, starting, registering, withdrawing}
-use Rattle.live.specs.Faultless.{StartFault, Registrable, RegisterFault, OneMoreFits, Withdrawable, WithdrawFault}
+use Rattle.live.specs.Faultless.{TrueNumbers, StartFault, Registrable, RegisterFault, OneMoreFits, Withdrawable, WithdrawFault}
 use Rattle.live.specs.Lists.{Call, after, trace, held}
 
 -- ## "Past the new count's entries nothing changes", and no table changes its length
@@ -44,6 +45,7 @@ pub record AllPast (n : ℕ) (old new : Live) : Type 0 where
   pub fields : FieldsPast n (old .fields) (new .fields)
   pub compatibilities : PastKept (n * n) (old .graph .compatibilities) (new .graph .compatibilities)
   pub weights : PastKept (n * n) (old .graph .weights) (new .graph .weights)
+  pub suitable : PastKept n (old .suitable) (new .suitable)
 
 -- ## Starting
 
@@ -61,12 +63,13 @@ pub record StartsRightly (given : Points) (old : Beginning) (o : Outcome (Unit {
 
 -- ## Registering
 
--- one pair more, at the end; the others stay; M and W are those of all of them, whatever stood there
+-- one pair more, at the end; the others stay; M and W are those of all of them, whatever stood there, and the numbers are the ones in that M's columns
 pub record Registered (p : Pair) (old new : Live) : Type 0 where
   pub count : new .count ≡ old .count + 1
   pub last : pairOf new (old .count) ≡ p
   pub others : (i : ℕ) → i < old .count → pairOf new i ≡ pairOf old i
   pub entries : Entries (weighedBy old) (new .count) (new .fields) (new .graph)
+  pub numbers : TrueNumbers new
   pub past : AllPast (new .count) old new
 
 pub record RegistersRightly (p : Pair) (old : Live) (o : Outcome (Unit {0}) Live) : Type 0 where
@@ -88,7 +91,7 @@ pub data Moved (a : ℕ) : ℕ → ℕ → Type 0 where
   stays : (i : ℕ) → i < a → Moved a i i
   down : (i : ℕ) → a ≤ i → Moved a (suc i) i
 
--- every pair but that at a, with its entries of M and W, whatever they are, stands where it moved to
+-- every pair but that at a, with its entries of M and W, whatever they are, stands where it moved to, and the numbers are the ones in the columns of that M
 pub record WithoutIt (a : ℕ) (old new : Live) : Type 0 where
   pub count : new .count + 1 ≡ old .count
   pub pairs : (i j : ℕ) → Moved a i j → i < old .count → pairOf new j ≡ pairOf old i
@@ -96,6 +99,7 @@ pub record WithoutIt (a : ℕ) (old new : Live) : Type 0 where
       → entryAt (new .graph .compatibilities) (new .count) j k ≡ entryAt (old .graph .compatibilities) (old .count) i h
   pub weights : (i j h k : ℕ) → Moved a i j → Moved a h k → i < old .count → h < old .count
       → entryAt (new .graph .weights) (new .count) j k ≡ entryAt (old .graph .weights) (old .count) i h
+  pub numbers : TrueNumbers new
   pub past : AllPast (new .count) old new
 
 pub record WithdrawsRightly (id : ℕ) (old : Live) (o : Outcome (Unit {0}) Live) : Type 0 where
@@ -106,7 +110,7 @@ pub record WithdrawsRightly (id : ℕ) (old : Live) (o : Outcome (Unit {0}) Live
 
 -- ## "For every list of these calls from an empty pool"
 
--- an empty pool, in any tables: what stands in those of the fields, in M and in W is nobody's
+-- an empty pool, in any tables: what stands in those of the fields, in M, in W and in that of the numbers is nobody's
 pub record Empty (l : Live) : Type 0 where
   pub none : l .count ≡ 0
   pub points : 6 ≤ length (l .points)
@@ -115,10 +119,10 @@ pub record Empty (l : Live) : Type 0 where
 -- a finished start leaves one, whatever other tables are lent with it from then on, and its edges are weighed by the six given
 abbrev pub StartsEmpty : Type 0
 StartsEmpty =
-    (given : Points) (old new : Beginning) (f : Fields) (g : Graph) (o : Outcome (Unit {0}) Beginning)
+    (given : Points) (old new : Beginning) (f : Fields) (g : Graph) (s : List ℕ) (o : Outcome (Unit {0}) Beginning)
     → StartsRightly given old o
     → o ≡ outcome (finished tt) new
-    → Empty (live (new .count) (new .points) f g) × (weighedBy (live (new .count) (new .points) f g) ≡ given)
+    → Empty (live (new .count) (new .points) f g s) × (weighedBy (live (new .count) (new .points) f g s) ≡ given)
 
 -- "its compatibility and weight tables are those of a sheet with these pairs and points": with any shuffle s they are written as a sheet, which reads back as
 -- these points, these pairs and this shuffle, and building from what was read gives the entries of M and W that the pool l has
@@ -142,13 +146,30 @@ pub record OnASheet (l : Live) (ps : List Pair) (s out : List ℕ) (other : Tabl
       (graph (filled (take (l .count * l .count) (l .graph .compatibilities)) (g .compatibilities))
       (filled (take (l .count * l .count) (l .graph .weights)) (g .weights)))
 
+-- "How many donors suit each patient", with no M: k of the numbers below n have P, and the others don't, with no test that decides it and no sum
+pub data HowMany (P : ℕ → Type 0) : ℕ → ℕ → Type 0 where
+  empty : HowMany P 0 0
+  counted : (n k : ℕ) → HowMany P n k → P n → HowMany P (suc n) (suc k)
+  passed : (n k : ℕ) → HowMany P n k → (P n → ⊥) → HowMany P (suc n) k
+
+-- of no other number
+abbrev pub NoOtherNumber : Type 1
+NoOtherNumber = (P : ℕ → Type 0) (n k other : ℕ) → HowMany P n k → HowMany P n other → other ≡ k
+
+-- the number stored with each patient is that of the pairs whose donor suits, by document 01's words for compatibility
+abbrev pub SuitedBySoMany : Live → Type 0
+SuitedBySoMany l = (j : ℕ) → j < l .count → HowMany (λ i. Compatible (pairOf l) i j) (l .count) (itemIn (l .suitable) j)
+
 -- the pool l holds the pairs ps: the count and the first entries of the tables are theirs; M and W are what building gives, so that building changes nothing,
--- and can be planned; and they are those of a sheet. That the tables' entries fit their words (`TablesTyped`) is what the types of the slices give
+-- and can be planned; "it equals the ones in that patient's column of M", and so it is the number of the pairs whose donor suits that patient; and M and W are
+-- those of a sheet. That the tables' entries fit their words (`TablesTyped`) is what the types of the slices give
 pub record Holds (ps : List Pair) (l : Live) : Type 0 where
   pub number : l .count ≡ length ps
   pub pairs : pairsOf l ≡ ps
   pub built : building liveVersion (l .count) (l .points) (l .fields) (l .graph) ≡ outcome (finished tt) (l .graph)
   pub plannable : Plannable (weighedBy l) (l .count) (l .graph)
+  pub numbers : TrueNumbers l
+  pub suited : SuitedBySoMany l
   pub sheet : (s out : List ℕ) (other : Tables) (g : Graph)
       → EachOnce (l .count) (itemIn s)
       → l .count ≤ length s
@@ -158,11 +179,12 @@ pub record Holds (ps : List Pair) (l : Live) : Type 0 where
       → Fit (l .count) g
       → OnASheet l ps s out other g
 
--- tables as long as they were: the shortest of the fields', M and W
+-- tables as long as they were: the shortest of the fields', M, W and that of the numbers
 pub record AsLong (old new : Live) : Type 0 where
   pub fields : fieldRoom (new .fields) ≡ fieldRoom (old .fields)
   pub compatibilities : length (new .graph .compatibilities) ≡ length (old .graph .compatibilities)
   pub weights : length (new .graph .weights) ≡ length (old .graph .weights)
+  pub suitable : length (new .suitable) ≡ length (old .suitable)
 
 -- what a list of calls from the pool l leaves: a pool that holds the pairs registered and not withdrawn since, with the points and the lengths of l
 pub record LeftBy (calls : List Call) (l : Live) : Type 0 where
@@ -174,19 +196,19 @@ abbrev pub LiveHolds : Type 0
 LiveHolds = (l : Live) (calls : List Call) → Empty l → LeftBy calls l
 
 -- the same from a finished start on, with whatever other tables: on the pool's sheet stand the six points given
-abbrev pub startedWith : Points → Beginning → Fields → Graph → Live
-startedWith given old f g = live (starting given old .lent .count) (starting given old .lent .points) f g
+abbrev pub startedWith : Points → Beginning → Fields → Graph → List ℕ → Live
+startedWith given old f g s = live (starting given old .lent .count) (starting given old .lent .points) f g s
 
-pub record FromAStart (given : Points) (old : Beginning) (f : Fields) (g : Graph) (calls : List Call) : Type 0 where
-  pub left : LeftBy calls (startedWith given old f g)
-  pub points : table registryPoints (itemIn (after calls (startedWith given old f g) .points)) ≡ inOrder given
-  pub weighed : weighedBy (after calls (startedWith given old f g)) ≡ given
+pub record FromAStart (given : Points) (old : Beginning) (f : Fields) (g : Graph) (s : List ℕ) (calls : List Call) : Type 0 where
+  pub left : LeftBy calls (startedWith given old f g s)
+  pub points : table registryPoints (itemIn (after calls (startedWith given old f g s) .points)) ≡ inOrder given
+  pub weighed : weighedBy (after calls (startedWith given old f g s)) ≡ given
 
 abbrev pub StartHolds : Type 0
 StartHolds =
-    (given : Points) (old : Beginning) (f : Fields) (g : Graph) (calls : List Call)
+    (given : Points) (old : Beginning) (f : Fields) (g : Graph) (s : List ℕ) (calls : List Call)
     → starting given old .answer ≡ finished tt
-    → FromAStart given old f g calls
+    → FromAStart given old f g s calls
 
 -- one of the pairs has this id
 abbrev pub HasId : ℕ → List Pair → Type 0
@@ -206,6 +228,14 @@ pub record AnswersBy (ps : List Pair) (l : Live) : Type 0 where
 
 abbrev pub LiveAnswers : Type 0
 LiveAnswers = (l : Live) (calls : List Call) → Empty l → AnswersBy (held (trace calls l)) (after calls l)
+
+-- in such a pool no number is ever refused, by whatever call
+pub record NoNumberRefused (l : Live) : Type 0 where
+  pub registers : (p : Pair) (place : ℕ) → registering p l .answer ≡ refused 10 place → ⊥
+  pub withdraws : (id place : ℕ) → withdrawing id l .answer ≡ refused 10 place → ⊥
+
+abbrev pub NeverTen : Type 0
+NeverTen = (l : Live) (calls : List Call) → Empty l → NoNumberRefused (after calls l)
 
 -- "an id withdrawn may register again"
 abbrev pub MayReturn : Type 0

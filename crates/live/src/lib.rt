@@ -1,5 +1,5 @@
-// A live pool (document 02, W-206): what starting it, registering a pair and withdrawing one answer and leave, what is promised of these calls and of every
-// list of them, and examples. Here are a pair and an answer as the calls have them.
+// A live pool (document 02, W-206 and W-207): what starting it, registering a pair and withdrawing one answer and leave, what is promised of these calls
+// and of every list of them, and examples. Here are a pair and an answer as the calls have them.
 use refusal::Refusal;
 
 // A pair that is registered.

@@ -129,6 +129,11 @@ pub first-more : (n : ℕ) (f : ℕ → Fault) → firstBelow n f ≡ none → f
 unfolding firstBelow _then_
 first-more n f h e = rw (add-one, h, e)
 
+-- and its end, where it went through all of them
+pub passed-all : (n : ℕ) (f : ℕ → Fault) (i : ℕ) → i ≡ n → firstBelow i f ≡ none → faultAt 0 Sound ≡ firstBelow n f
+unfolding faultAt
+passed-all n f i e h = sym (ap (λ (k : ℕ). firstBelow k f) (sym e) ∙ h)
+
 -- ## A property of a fault's number and place, fault by fault
 
 module _ (P : ℕ → ℕ → Type 0) where

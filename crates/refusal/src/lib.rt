@@ -20,7 +20,7 @@ pub enum Refusal {
     NotAShuffle,
     // The calling program: a lent buffer or table is too short.
     TooShort,
-    // A compatibility entry is above 1, or a pair's own is not 0.
+    // A compatibility entry is above 1, or a pair's own is not 0; in a live pool, a stored number is not the ones in its column.
     NotCompatibility,
     // The hospital again (document 02): an id is in both of two sheets that are joined.
     SharedId,

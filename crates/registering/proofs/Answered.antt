@@ -1,6 +1,8 @@
 -- What registering answers and leaves, by what was found. Assumes nothing.
-use mathlib.Core.Path.{_≡_, sym, ap, ap₂, _∙_}
+use mathlib.Core.Path.{_≡_, sym, ap, _∙_}
+use mathlib.Core.List.{List}
 use Prim.Native.Nat.{ℕ, _+_}
+use native.Mathlib.Omega.{arith}
 use lib.ListN.{length}
 use Rattle.refusal.specs.Fault.{_then_}
 use Rattle.refusal.specs.Answer.{outcome}
@@ -11,18 +13,27 @@ use Rattle.refusal.specs.declared.Verdict.the-variants.{Sound, Faulty}
 use Rattle.refusal.proofs.Faults.{sound-none, faulty-fault, unless-none, unless-fault}
 use Rattle.pool.specs.Pool.{Pair}
 use Rattle.pool.specs.Points.{Points}
-use Rattle.pool.specs.Tables.{Fields, fieldRoom, pairIn}
+use Rattle.pool.specs.Tables.{Fields, pairIn}
 use Rattle.graph.specs.Graph.{Graph, filledGraph}
 use Rattle.graph.specs.Preconditions.{Buildable}
 use Rattle.weighing.proofs.Promised.{idless, buildable, filled-whole}
-use Rattle.live.specs.Live.{Live, live, liveVersion, weighedBy, pairOf}
-use Rattle.live.specs.Faults.{keptFault, rangeFault, likeFault, moreFault, registerFault}
+use Rattle.live.specs.Live.{Live, live, liveVersion, weighedBy, pairOf, pairRoom}
+use Rattle.live.specs.Suitable.{withNumbers}
+use Rattle.live.specs.Faults.{keptFault, numbersFault, rangeFault, likeFault, moreFault, registerFault}
 use Rattle.live.specs.Calls.{withPair, registered, registering}
 use Rattle.live.specs.Answers.{answerOf}
 use Rattle.live.specs.declared.Change.the-variants.{Done, Refused}
 use Rattle.live.specs.Faultless.{Registrable}
 use Rattle.live.proofs.Faults.{register-passed}
 use Rattle.live.proofs.Promised.{new-faultless}
+use Rattle.suiting.specs.Preconditions.{Countable}
+
+-- ## The numbers are counted in an M as long as it was
+
+pub add-countable : (p : Pair) (l : Live) → Registrable p l → (m : List ℕ) → length m ≡ length (l .graph .compatibilities)
+    → Countable (l .count + 1) m (l .suitable)
+add-countable p l w m e =
+    record { few = omega (arith, w .room); rows = rw e (w .more .graph .compatibilities); numbers = w .more .suitable }
 
 -- ## A pair that is added: f is what is left of the fields, q what the pool is weighed by
 
@@ -32,19 +43,22 @@ module _ (p : Pair) (l : Live) (f : Fields) (stored : f ≡ withPair (l .count) 
       rw stored
       (buildable liveVersion (l .count + 1) (l .points) (withPair (l .count) p (l .fields)) (l .graph) q r (new-faultless p l w) (w .more .graph))
 
-  pub is-added : (g : Graph) → g ≡ filledGraph q (l .count + 1) (pairIn (idless f)) (l .graph)
-      → live (l .count + 1) (l .points) f g ≡ registered p l
+  pub is-added : (g : Graph) → g ≡ filledGraph q (l .count + 1) (pairIn (idless f)) (l .graph) → (s : List ℕ)
+      → s ≡ withNumbers (l .count + 1) (g .compatibilities) (l .suitable) → live (l .count + 1) (l .points) f g s ≡ registered p l
   unfolding registered
-  is-added g k =
-      ap₂ (live (l .count + 1) (l .points)) stored
-      (filled-whole liveVersion (l .count + 1) (l .points) f (l .graph) q r g k
-      ∙ ap (λ (x : Fields). filledGraph (weighedBy l) (l .count + 1) (pairIn x) (l .graph)) stored)
+  is-added g k s h =
+      let built : g ≡ filledGraph (weighedBy l) (l .count + 1) (pairIn (withPair (l .count) p (l .fields))) (l .graph) =
+      filled-whole liveVersion (l .count + 1) (l .points) f (l .graph) q r g k
+      ∙ ap (λ (x : Fields). filledGraph (weighedBy l) (l .count + 1) (pairIn x) (l .graph)) stored in
+      let numbers = h ∙ ap (λ (x : Graph). withNumbers (l .count + 1) (x .compatibilities) (l .suitable)) built in
+      λ i. live (l .count + 1) (l .points) (stored i) (built i) (numbers i)
 
 -- ## The call, by what `judge` found in tables of which the shortest has `space` entries
 
-module _ (p : Pair) (l : Live) (space : ℕ) (s : space ≡ fieldRoom (l .fields)) (found : Verdict)
+module _ (p : Pair) (l : Live) (space : ℕ) (s : space ≡ pairRoom l) (found : Verdict)
     (e : faultAt 0 found
-    ≡ (keptFault (l .count) space (length (l .graph .compatibilities)) (length (l .graph .weights)) (l .points)
+    ≡ ((keptFault (l .count) space (length (l .graph .compatibilities)) (length (l .graph .weights)) (l .points)
+    then numbersFault (l .count) (l .graph .compatibilities) (l .suitable))
     then rangeFault (l .count) (pairOf l) p
     then likeFault (l .count) (pairOf l) p
     then moreFault (l .count) space (length (l .graph .compatibilities)) (length (l .graph .weights)))) where

@@ -7,6 +7,7 @@ use refusal::Verdict;
 ghost use mathlib.Core.Path.{_≡_};
 ghost use mathlib.Core.List.{List};
 ghost use Prim.Native.Nat.{ℕ, _+_, _≤_};
+ghost use lib.ListN.{length};
 ghost use Rattle.refusal.specs.Fault.{_then_};
 ghost use Rattle.refusal.specs.Answer.{outcome};
 ghost use Rattle.refusal.specs.Number.{faultAt};
@@ -15,7 +16,7 @@ ghost use Rattle.pool.specs.Lent.{fieldsNow, lentFields};
 ghost use Rattle.pool.specs.Faultless.{FieldsHold};
 ghost use Rattle.graph.specs.Lent.{graphNow, lentGraph};
 ghost use Rattle.checks.specs.Preconditions.{TablesHaveRoom};
-ghost use Rattle.live.specs.Faults.{keptFault, rangeFault, likeFault, moreFault};
+ghost use Rattle.live.specs.Faults.{keptFault, numbersFault, rangeFault, likeFault, moreFault};
 ghost use Rattle.live.specs.Live.{live};
 ghost use Rattle.live.specs.Faultless.{Registrable};
 ghost use Rattle.live.specs.Calls.{withPair, registered, registering};
@@ -83,7 +84,8 @@ fn more(n: usize, space: usize, compatibilities: usize, weights: usize) -> Verdi
     keeping::rows(n + 1, compatibilities, weights)
 }
 
-// The first fault: 4, 9 and 14 of the pool, 6 and 7 over all pairs, 12 and 9 of one more. The shortest table of the fields has `space` entries.
+// The first fault: 4, 9, 14 and 10 of the pool, 6 and 7 over all pairs, 12 and 9 of one more. The shortest table with an entry for each pair has `space`
+// entries.
 fn judge(
     n: usize,
     space: usize,
@@ -93,19 +95,22 @@ fn judge(
     patient_blood: &[u8],
     donor_age: &[u8],
     patient_age: &[u8],
-    compatibilities: usize,
+    compatibilities: &[u8],
     weights: usize,
+    suitable: &[u16],
     pair: Pair,
 ) -> Verdict
     requires { ⌜ TablesHaveRoom space (now ids) (now «donor_blood») (now «patient_blood») (now «donor_age») (now «patient_age») ⌝ }
+    requires { ⌜ space ≤ length (now suitable) ⌝ }
     ensures { λ r.
         ⌜ ((f g h : List ℕ)
         → let stored = pairIn (fields (now (ids .entry)) (now («donor_blood» .entry)) (now («patient_blood» .entry)) (now («donor_age» .entry))
         (now («patient_age» .entry)) f g h) in
-        faultAt 0 r ≡ (keptFault n space compatibilities weights (now (points .entry)) then rangeFault n stored (named pair)
-        then likeFault n stored (named pair) then moreFault n space compatibilities weights)) ⌝ }
+        let m = now (compatibilities .entry) in
+        faultAt 0 r ≡ ((keptFault n space (length m) weights (now (points .entry)) then numbersFault n m (now (suitable .entry)))
+        then rangeFault n stored (named pair) then likeFault n stored (named pair) then moreFault n space (length m) weights)) ⌝ }
 {
-    match keeping::judge(n, space, compatibilities, weights, points) {
+    match keeping::judge(n, space, compatibilities, weights, suitable, points) {
         Verdict::Faulty(why) => {
             return Verdict::Faulty(why);
         }
@@ -121,7 +126,7 @@ fn judge(
         pair,
     ) {
         Verdict::Faulty(why) => Verdict::Faulty(why),
-        Verdict::Sound => more(n, space, compatibilities, weights),
+        Verdict::Sound => more(n, space, compatibilities.len(), weights),
     }
 }
 
@@ -156,7 +161,8 @@ fn put_pair(
     patient_antibodies[at] = pair.patient_antibodies;
 }
 
-// A pair after the first n, and both tables built anew: from all pairs and by the pool's points, whatever they held.
+// A pair after the first n, and both tables built anew: from all pairs and by the pool's points, whatever they held. The numbers are counted in the M
+// so built: the old ones are those of the M that was lent, which need not be that of the pairs.
 fn add(
     n: usize,
     points: &[u16],
@@ -170,17 +176,18 @@ fn add(
     patient_antibodies: &mut [u64],
     compatibilities: &mut [u8],
     weights: &mut [u16],
+    suitable: &mut [u16],
     pair: Pair,
 )
     requires { let f = fieldsNow ids «donor_blood» «patient_blood» «donor_age» «patient_age»
         «donor_antigens» «patient_antigens» «patient_antibodies» in
-        ⌜ Registrable (named pair) (live n (now points) f (graphNow compatibilities weights)) ⌝ }
+        ⌜ Registrable (named pair) (live n (now points) f (graphNow compatibilities weights) (now suitable)) ⌝ }
     ensures { λ _.
         let f = lentFields ids «donor_blood» «patient_blood» «donor_age» «patient_age»
         «donor_antigens» «patient_antigens» «patient_antibodies» in
         let g = lentGraph compatibilities weights in
-        let l = live n (now (points .entry)) (f .entry) (g .entry) in
-        ⌜ live (n + 1) (now (points .entry)) (f .exit) (g .exit) ≡ registered (named pair) l ⌝ }
+        let l = live n (now (points .entry)) (f .entry) (g .entry) (now (suitable .entry)) in
+        ⌜ live (n + 1) (now (points .entry)) (f .exit) (g .exit) (now (suitable .exit)) ≡ registered (named pair) l ⌝ }
 {
     put_pair(
         n,
@@ -207,6 +214,7 @@ fn add(
         compatibilities,
         weights,
     );
+    suiting::count(n + 1, compatibilities, suitable);
 }
 
 // Registers a pair at the end.
@@ -223,16 +231,17 @@ pub fn register(
     patient_antibodies: &mut [u64],
     compatibilities: &mut [u8],
     weights: &mut [u16],
+    suitable: &mut [u16],
     pair: Pair,
 ) -> Change
     ensures { λ r.
         let l = lentLive count points ids «donor_blood» «patient_blood» «donor_age» «patient_age»
-        «donor_antigens» «patient_antigens» «patient_antibodies» compatibilities weights in
+        «donor_antigens» «patient_antigens» «patient_antibodies» compatibilities weights suitable in
         ⌜ outcome (answerOf r) (l .exit) ≡ registering (named pair) (l .entry) ⌝
         ∗ ⌜ RegistersRightly (named pair) (l .entry) (outcome (answerOf r) (l .exit)) ⌝ }
 {
     let n = *count;
-    let space = checks::room(
+    let held = checks::room(
         ids.len(),
         donor_blood.len(),
         patient_blood.len(),
@@ -242,6 +251,7 @@ pub fn register(
         patient_antigens.len(),
         patient_antibodies.len(),
     );
+    let space = checks::lesser(held, suitable.len());
     match judge(
         n,
         space,
@@ -251,8 +261,9 @@ pub fn register(
         patient_blood,
         donor_age,
         patient_age,
-        compatibilities.len(),
+        compatibilities,
         weights.len(),
+        suitable,
         pair,
     ) {
         Verdict::Faulty(why) => Change::Refused(why),
@@ -270,6 +281,7 @@ pub fn register(
                 patient_antibodies,
                 compatibilities,
                 weights,
+                suitable,
                 pair,
             );
             *count = n + 1;

@@ -95,7 +95,7 @@ fn row_u16(t: &mut [u16], to: usize, from: usize, a: usize, m: usize)
 }
 
 // Where a row stood before row a went.
-fn row_before(a: usize, i: usize) -> usize
+pub fn row_before(a: usize, i: usize) -> usize
     requires { ⌜ i < 200 ⌝ }
     ensures { λ r. ⌜ r ≡ up a i ⌝ }
 {

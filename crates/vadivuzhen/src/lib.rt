@@ -206,11 +206,12 @@ pub extern "C" fn vadivuzhen_register(
     patient_antibodies: &mut [u64],
     compatibilities: &mut [u8],
     weights: &mut [u16],
+    suitable: &mut [u16],
     pair: Pair,
 ) -> LiveAnswer
     ensures { λ r.
         let l = lentLive count points ids «donor_blood» «patient_blood» «donor_age» «patient_age»
-        «donor_antigens» «patient_antigens» «patient_antibodies» compatibilities weights in
+        «donor_antigens» «patient_antigens» «patient_antibodies» compatibilities weights suitable in
         let due = registering (named pair) (l .entry) in
         ⌜ (r ≡ liveNumbers (due .answer)) × NumberedAt0 (due .answer) ⌝
         ∗ ⌜ l .exit ≡ due .lent ⌝
@@ -229,6 +230,7 @@ pub extern "C" fn vadivuzhen_register(
         patient_antibodies,
         compatibilities,
         weights,
+        suitable,
         pair,
     );
     numbers::live_numbers(answer)
@@ -249,11 +251,12 @@ pub extern "C" fn vadivuzhen_withdraw(
     patient_antibodies: &mut [u64],
     compatibilities: &mut [u8],
     weights: &mut [u16],
+    suitable: &mut [u16],
     id: u32,
 ) -> LiveAnswer
     ensures { λ r.
         let l = lentLive count points ids «donor_blood» «patient_blood» «donor_age» «patient_age»
-        «donor_antigens» «patient_antigens» «patient_antibodies» compatibilities weights in
+        «donor_antigens» «patient_antigens» «patient_antibodies» compatibilities weights suitable in
         let due = withdrawing id (l .entry) in
         ⌜ (r ≡ liveNumbers (due .answer)) × NumberedAt0 (due .answer) ⌝
         ∗ ⌜ l .exit ≡ due .lent ⌝
@@ -272,6 +275,7 @@ pub extern "C" fn vadivuzhen_withdraw(
         patient_antibodies,
         compatibilities,
         weights,
+        suitable,
         id,
     );
     numbers::live_numbers(answer)

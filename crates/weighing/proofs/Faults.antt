@@ -28,10 +28,9 @@ use Rattle.weighing.specs.Building.{buildFault}
 use Rattle.weighing.specs.Promises.{FaultlessFields, Fit, BuildFault}
 
 -- the shortest of the tables is the shortest of those that are looked at, or shorter
-pub spaced-fields : (space : ℕ) (f : Fields) → space ≡ fieldRoom f
+pub held-fields : (space : ℕ) (f : Fields) → FieldsHold space f
     → TablesHaveRoom space (f .ids) (f .donorBlood) (f .patientBlood) (f .donorAge) (f .patientAge)
-spaced-fields space f e =
-    let h = fieldRoom-hold space f (rw e (le-refl (fieldRoom f))) in
+held-fields space f h =
     record {
       inIds = h .ids;
       inDonorBlood = h .donorBlood;
@@ -39,6 +38,10 @@ spaced-fields space f e =
       inDonorAge = h .donorAge;
       inPatientAge = h .patientAge;
     }
+
+pub spaced-fields : (space : ℕ) (f : Fields) → space ≡ fieldRoom f
+    → TablesHaveRoom space (f .ids) (f .donorBlood) (f .patientBlood) (f .donorAge) (f .patientAge)
+spaced-fields space f e = held-fields space f (fieldRoom-hold space f (rw e (le-refl (fieldRoom f))))
 
 -- tables that hold the pairs and the points are those with room for them
 abbrev Held : ℕ → ℕ → List ℕ → Fields → Type 0

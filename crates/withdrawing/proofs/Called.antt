@@ -1,9 +1,11 @@
 -- What `withdraw` answers and leaves, by what was found. Assumes nothing.
-use mathlib.Core.Path.{_≡_, sym, ap, ap₂, _∙_}
+use mathlib.Core.Path.{_≡_, sym, ap, _∙_}
 use mathlib.Core.Bool.{true, not}
+use mathlib.Core.List.{List}
 use Prim.Native.Nat.{ℕ, _-_}
 use lib.ListN.{length}
 use Rattle.laws.specs.Below.{anyBelow}
+use Rattle.refusal.specs.Fault.{_then_}
 use Rattle.refusal.specs.Answer.{finished, outcome}
 use Rattle.refusal.specs.Number.{numberOf, faultAt}
 use Rattle.refusal.specs.declared.Refusal.{Refusal}
@@ -11,10 +13,11 @@ use Rattle.refusal.specs.declared.Refusal.the-variants.{UnknownId}
 use Rattle.refusal.specs.declared.Verdict.{Verdict}
 use Rattle.refusal.specs.declared.Verdict.the-variants.{Sound, Faulty}
 use Rattle.refusal.proofs.Faults.{none-then, fault-then, none-refuse, fault-refuse, sound-none, faulty-fault, unless-none, unless-fault}
-use Rattle.pool.specs.Tables.{Fields, fieldRoom, itemIn, pairIn}
+use Rattle.pool.specs.Tables.{Fields, itemIn, pairIn}
 use Rattle.graph.specs.Graph.{Graph, graph}
-use Rattle.live.specs.Live.{Live, live}
-use Rattle.live.specs.Faults.{keptFault, storedFault, withdrawFault}
+use Rattle.live.specs.Live.{Live, live, pairRoom}
+use Rattle.live.specs.Suitable.{withNumbers}
+use Rattle.live.specs.Faults.{keptFault, numbersFault, storedFault, withdrawFault}
 use Rattle.live.specs.Faultless.{Kept}
 use Rattle.live.specs.Calls.{placeOf, withoutPair, withoutRow, withoutAt, withdrawing}
 use Rattle.live.specs.Answers.{answerOf}
@@ -25,8 +28,10 @@ use Rattle.withdrawing.specs.Preconditions.{OneOf}
 use Rattle.withdrawing.proofs.Places.{same, place-there, none-there}
 
 -- what `judge` found, of tables of which the shortest has so many entries
-pub found-stored : (l : Live) (space : ℕ) (found : Verdict) → space ≡ fieldRoom (l .fields)
-    → faultAt 0 found ≡ keptFault (l .count) space (length (l .graph .compatibilities)) (length (l .graph .weights)) (l .points)
+pub found-stored : (l : Live) (space : ℕ) (found : Verdict) → space ≡ pairRoom l
+    → faultAt 0 found
+    ≡ (keptFault (l .count) space (length (l .graph .compatibilities)) (length (l .graph .weights)) (l .points)
+    then numbersFault (l .count) (l .graph .compatibilities) (l .suitable))
     → faultAt 0 found ≡ storedFault l
 found-stored l space found r e = rw r at e
 
@@ -52,7 +57,7 @@ module _ (x : ℕ) (l : Live) (found : Verdict) (e : faultAt 0 found ≡ storedF
         there : anyBelow (l .count) (same (itemIn (l .fields .ids)) x) ≡ true
         there = place-there _ _ _ (λ r. q (p ∙ r))
 
-        pub call-one : OneOf a (l .count) (l .fields) (l .graph)
+        pub call-one : OneOf a (l .count) (l .fields) (l .graph) (l .suitable)
         call-one =
             record {
               inside = rw p (place-found _ _ _ there .below);
@@ -60,13 +65,16 @@ module _ (x : ℕ) (l : Live) (found : Verdict) (e : faultAt 0 found ≡ storedF
               fields = call-kept .keep .fields;
               inCompatibilities = call-kept .keep .graph .compatibilities;
               inWeights = call-kept .keep .graph .weights;
+              inNumbers = call-kept .keep .suitable;
+              numbered = call-kept .numbers;
             }
 
-        pub call-withdrawn : (f : Fields) (g : Graph) → f ≡ withoutPair a (l .count) (l .fields)
+        pub call-withdrawn : (f : Fields) (g : Graph) (s : List ℕ) → f ≡ withoutPair a (l .count) (l .fields)
             → g ≡ graph (withoutRow a (l .count) (l .graph .compatibilities)) (withoutRow a (l .count) (l .graph .weights))
-            → outcome (answerOf Done) (live (l .count - 1) (l .points) f g) ≡ withdrawing x l
+            → s ≡ withNumbers (l .count - 1) (withoutRow a (l .count) (l .graph .compatibilities)) (l .suitable)
+            → outcome (answerOf Done) (live (l .count - 1) (l .points) f g s) ≡ withdrawing x l
         unfolding withdrawing withdrawFault withoutAt answerOf pairIn
-        call-withdrawn f g b d =
-            ap₂ (λ (f : Fields) (g : Graph). outcome (finished tt) (live (l .count - 1) (l .points) f g)) b d
+        call-withdrawn f g s b d n =
+            (λ i. outcome (finished tt) (live (l .count - 1) (l .points) (b i) (d i) (n i)))
             ∙ ap (λ (k : ℕ). outcome (finished tt) (withoutAt k l)) p
             ∙ sym (unless-none _ tt _ l (none-then _ _ (sound-none 0 found e h) ∙ none-refuse 16 0 _ (ap not there)))

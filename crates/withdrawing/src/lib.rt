@@ -4,13 +4,14 @@ use live::Change;
 use refusal::Refusal;
 use refusal::Verdict;
 ghost use mathlib.Core.Path.{_≡_};
-ghost use Prim.Native.Nat.{_≤_};
+ghost use Prim.Native.Nat.{_-_, _≤_};
 ghost use lib.ListN.{length};
 ghost use Rattle.refusal.specs.Answer.{outcome};
 ghost use Rattle.pool.specs.Tables.{itemIn};
 ghost use Rattle.pool.specs.Lent.{fieldsNow, lentFields};
 ghost use Rattle.graph.specs.Graph.{graph};
 ghost use Rattle.graph.specs.Lent.{graphNow, lentGraph};
+ghost use Rattle.live.specs.Suitable.{withNumbers};
 ghost use Rattle.live.specs.Calls.{placeOf, withoutPair, withoutRow, withdrawing};
 ghost use Rattle.live.specs.Answers.{answerOf};
 ghost use Rattle.live.specs.Lent.{lentLive};
@@ -32,7 +33,7 @@ fn place_of(ids: &[u32], n: usize, id: u32) -> usize
     n
 }
 
-// Pair a of n goes out of the tables: its fields, and its row and column of M and W.
+// Pair a of n goes out of the tables: its number and those that count its donor, its fields, and its row and column of M and W.
 fn take_out(
     a: usize,
     n: usize,
@@ -46,17 +47,20 @@ fn take_out(
     patient_antibodies: &mut [u64],
     compatibilities: &mut [u8],
     weights: &mut [u16],
+    suitable: &mut [u16],
 )
     requires { let f = fieldsNow ids «donor_blood» «patient_blood» «donor_age» «patient_age»
         «donor_antigens» «patient_antigens» «patient_antibodies» in
-        ⌜ OneOf a n f (graphNow compatibilities weights) ⌝ }
+        ⌜ OneOf a n f (graphNow compatibilities weights) (now suitable) ⌝ }
     ensures { λ _.
         let f = lentFields ids «donor_blood» «patient_blood» «donor_age» «patient_age»
         «donor_antigens» «patient_antigens» «patient_antibodies» in
         let g = lentGraph compatibilities weights in
         ⌜ f .exit ≡ withoutPair a n (f .entry) ⌝
-        ∗ ⌜ g .exit ≡ graph (withoutRow a n (g .entry .compatibilities)) (withoutRow a n (g .entry .weights)) ⌝ }
+        ∗ ⌜ g .exit ≡ graph (withoutRow a n (g .entry .compatibilities)) (withoutRow a n (g .entry .weights)) ⌝
+        ∗ ⌜ now (suitable .exit) ≡ withNumbers (n - 1) (withoutRow a n (g .entry .compatibilities)) (now (suitable .entry)) ⌝ }
 {
+    suiting::take_out(a, n, compatibilities, suitable);
     shifting::without_entry_u32(ids, a, n);
     shifting::without_entry_u8(donor_blood, a, n);
     shifting::without_entry_u8(patient_blood, a, n);
@@ -83,16 +87,17 @@ pub fn withdraw(
     patient_antibodies: &mut [u64],
     compatibilities: &mut [u8],
     weights: &mut [u16],
+    suitable: &mut [u16],
     id: u32,
 ) -> Change
     ensures { λ r.
         let l = lentLive count points ids «donor_blood» «patient_blood» «donor_age» «patient_age»
-        «donor_antigens» «patient_antigens» «patient_antibodies» compatibilities weights in
+        «donor_antigens» «patient_antigens» «patient_antibodies» compatibilities weights suitable in
         ⌜ outcome (answerOf r) (l .exit) ≡ withdrawing id (l .entry) ⌝
         ∗ ⌜ WithdrawsRightly id (l .entry) (outcome (answerOf r) (l .exit)) ⌝ }
 {
     let n = *count;
-    let space = checks::room(
+    let held = checks::room(
         ids.len(),
         donor_blood.len(),
         patient_blood.len(),
@@ -102,7 +107,8 @@ pub fn withdraw(
         patient_antigens.len(),
         patient_antibodies.len(),
     );
-    match keeping::judge(n, space, compatibilities.len(), weights.len(), points) {
+    let space = checks::lesser(held, suitable.len());
+    match keeping::judge(n, space, compatibilities, weights.len(), suitable, points) {
         Verdict::Faulty(why) => {
             return Change::Refused(why);
         }
@@ -125,6 +131,7 @@ pub fn withdraw(
         patient_antibodies,
         compatibilities,
         weights,
+        suitable,
     );
     *count = n - 1;
     Change::Done

@@ -1,7 +1,7 @@
 //! Faults of an input, one by one and any two at once.
 
 use crate::lent::Answered;
-use crate::lives::FIELDS;
+use crate::lives::{count_anew, BY_PAIR};
 use crate::plans::Input;
 use crate::sheets::{Lengths, TABLES};
 use crate::Cases;
@@ -578,10 +578,11 @@ pub fn of_starting() -> Faults<Starting> {
     faults
 }
 
-/// Cuts one of a live pool's field tables off at an end.
+/// Cuts off at an end one of the tables of a live pool that have an entry for
+/// each pair.
 type CutLive = fn(&mut Live, usize);
 
-const CUTS: [(&str, CutLive); FIELDS] = [
+const CUTS: [(&str, CutLive); BY_PAIR] = [
     ("ids", |live, end| live.ids.truncate(end)),
     ("donor_blood", |live, end| live.donor_bloods.truncate(end)),
     ("patient_blood", |live, end| {
@@ -598,6 +599,7 @@ const CUTS: [(&str, CutLive); FIELDS] = [
     ("patient_antibodies", |live, end| {
         live.patient_antibodies.truncate(end)
     }),
+    ("suitable", |live, end| live.suitable.truncate(end)),
 ];
 
 /// Lengths that are too short for `one_more` entries, some of them for `least`
@@ -617,6 +619,12 @@ fn of_live(n: usize) -> Faults<Live> {
     for count in TOO_MANY.into_iter().chain(near) {
         faults.add(format!("a count of {count}"), move |live: &mut Live| {
             live.count = count
+        });
+    }
+    for count in near {
+        faults.add(format!("a count of {count}, counted anew"), move |live| {
+            live.count = count;
+            count_anew(live);
         });
     }
     for (table, cut) in CUTS {
@@ -665,8 +673,53 @@ fn of_live(n: usize) -> Faults<Live> {
             });
         }
     }
-    faults.add("M is full".to_string(), |live| live.m.fill(u8::MAX));
     faults.add("W is full".to_string(), |live| live.w.fill(u16::MAX));
+    faults.add_of("", |live| live, of_numbers(n));
+    faults
+}
+
+/// Faults of the numbers of a live pool of `n` pairs: they become others, or M
+/// does. Some are none, since both change alike.
+fn of_numbers(n: usize) -> Faults<Live> {
+    let mut faults = Faults(Vec::new());
+    // The first past the count too, which is not looked at.
+    for j in some_of(n).into_iter().chain([n]) {
+        // One too high and one too low, and so that the low byte is the same.
+        for by in [1, u16::MAX, 256] {
+            let name = format!("{by} is added to the number of {j}");
+            faults.add(name, move |live: &mut Live| {
+                if let Some(number) = live.suitable.get_mut(j) {
+                    *number = number.wrapping_add(by);
+                }
+            });
+        }
+        faults.add(format!("the number of {j} is 65535"), move |live| {
+            put(&mut live.suitable, j, u16::MAX)
+        });
+    }
+    // Each patient's column, with another donor, and the middle one's own.
+    for (i, j) in some_of(n).into_iter().zip(some_of(n).into_iter().rev()) {
+        for entry in [0, 1, 2] {
+            faults.add(format!("M({i}, {j}) is {entry}"), move |live| {
+                put(&mut live.m, i * n + j, entry)
+            });
+            let name = format!("M({i}, {j}) is {entry}, counted anew");
+            faults.add(name, move |live| {
+                put(&mut live.m, i * n + j, entry);
+                count_anew(live);
+            });
+        }
+    }
+    for entry in [1, u8::MAX] {
+        faults.add(format!("M is full of {entry}"), move |live| {
+            live.m.fill(entry)
+        });
+        let name = format!("M is full of {entry}, counted anew");
+        faults.add(name, move |live| {
+            live.m.fill(entry);
+            count_anew(live);
+        });
+    }
     faults
 }
 

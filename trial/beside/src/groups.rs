@@ -122,7 +122,7 @@ pub const ALL: [Group; 22] = [
     Group {
         name: "live-pools",
         trials: 4_000,
-        due: &[0, 4, 6, 7, 9, 12, 14, 16],
+        due: &[0, 4, 6, 7, 9, 10, 12, 14, 16],
         run: listed,
     },
     Group {
@@ -164,13 +164,13 @@ pub const ALL: [Group; 22] = [
     Group {
         name: "faults-of-registering",
         trials: FAULTY_LIVE.len() as u64 * 2,
-        due: &[0, 4, 6, 7, 9, 12, 14],
+        due: &[0, 4, 6, 7, 9, 10, 12, 14],
         run: faults_of_registering,
     },
     Group {
         name: "faults-of-withdrawing",
         trials: FAULTY_LIVE.len() as u64 * 2,
-        due: &[0, 4, 9, 14, 16],
+        due: &[0, 4, 9, 10, 14, 16],
         run: faults_of_withdrawing,
     },
     Group {
@@ -961,6 +961,8 @@ fn safely_lived(random: &mut Random, cases: &mut Cases) -> Outcome {
         same("ids, safely", safely.ids(), &state.ids[..n])?;
         same("M, safely", safely.compatibilities(), &state.m[..square])?;
         same("W, safely", safely.weights(), &state.w[..square])?;
+        let numbers = live::suitable(&state.pairs());
+        same("the numbers, safely", safely.suitable_donors(), &numbers)?;
     }
 
     let mut held = live::pool_of(given, &state.pairs());

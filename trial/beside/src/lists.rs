@@ -4,10 +4,10 @@
 use crate::faults::{put, TOO_MANY};
 use crate::groups::any_points;
 use crate::lent::{same, Answered, Entry, Outcome};
-use crate::lives::{anything, Kept, Lengths, FIELDS};
+use crate::lives::{anything, count_anew, Kept, Lengths, BY_PAIR};
 use crate::sheets::more;
 use crate::Cases;
-use reference::live::{held, Answer};
+use reference::live::{held, suitable, Answer};
 use reference::points::COUNT;
 use reference::pool::{MOST_AGE, MOST_BLOOD, MOST_PAIRS};
 use reference::random::{plain_pool, points, wrong_points, PoolKind, Random};
@@ -210,13 +210,16 @@ impl List {
     }
 
     /// The pool has the pairs of the plain list, which are those of the account
-    /// of its calls, and the tables of a sheet with these and its points.
+    /// of its calls, the tables of a sheet with these and its points, and for
+    /// each patient the number of their donors that suit.
     fn agrees(&self, random: &mut Random) -> Outcome {
         let state = self.kept.state();
         same("the pairs, by a list", &state.pairs(), &self.pairs)?;
         let account = held(&self.calls, &self.answers);
         same("the pairs, by the account", &account, &self.pairs)?;
         same("the points", &state.points[..COUNT], &self.points.table())?;
+        let numbers = &state.suitable[..state.count];
+        same("the numbers, by a list", numbers, &suitable(&self.pairs))?;
         self.kept.is_built()?;
         if random.chance(1, 10) {
             self.kept.is_of_a_sheet(random)?;
@@ -229,19 +232,19 @@ impl List {
 /// more, and how many they hold. M and W have anything up to what one more would
 /// need.
 fn lengths(random: &mut Random, room: usize) -> (Lengths, usize) {
-    let mut holds = [(); FIELDS + 2].map(|()| room + more(random));
+    let mut holds = [(); BY_PAIR + 2].map(|()| room + more(random));
     if random.chance(1, 4) {
         // Just one table ends before all others.
         holds = holds.map(|pairs| pairs + 1);
-        holds[random.below(FIELDS + 2)] = room;
+        holds[random.below(BY_PAIR + 2)] = room;
     }
     let mut square = |pairs: usize| pairs * pairs + random.below(2 * pairs + 1);
-    let [fields @ .., m, w] = holds;
+    let [by_pair @ .., m, w] = holds;
     let (m, w) = (square(m), square(w));
     let points = COUNT + more(random);
     let lengths = Lengths {
         points,
-        fields,
+        by_pair,
         m,
         w,
     };
@@ -295,16 +298,17 @@ fn any_call_on(random: &mut Random, kept: &mut Kept, source: &[Pair]) -> Answere
 }
 
 /// Changes a live pool's tables or its count as no call does, seldom so that
-/// all later calls are refused.
+/// all later calls are refused. Mostly the numbers are then those of M.
 fn change(random: &mut Random, state: &mut Live) {
     let count = state.count;
     let at = random.below(count.min(MOST_PAIRS) + 2);
+    let bits = random.one_of(&[1, 3, u8::MAX]);
     match random.below(14) {
-        0 => state.m.fill_with(|| random.byte()),
+        0 => state.m.fill_with(|| random.byte() & bits),
         1 => state.w.fill_with(|| random.bits() as u16),
         2 => {
             let entry = random.below(state.m.len() + 1);
-            put(&mut state.m, entry, random.byte());
+            put(&mut state.m, entry, random.byte() & bits);
         }
         3 => {
             let from = random.below(state.ids.len() + 1);
@@ -328,5 +332,11 @@ fn change(random: &mut Random, state: &mut Live) {
             state.m.truncate(end);
         }
         _ => (),
+    }
+    if random.chance(4, 5) {
+        count_anew(state);
+    }
+    if random.chance(1, 10) {
+        put(&mut state.suitable, at, random.bits() as u16 & 511);
     }
 }

@@ -4,20 +4,22 @@ use crate::lent::{same, Answered, Entry, Lent, Outcome};
 use crate::sheets::built_of_sheet;
 use reference::live;
 use reference::points::COUNT;
+use reference::pool::MOST_PAIRS;
 use reference::random::Random;
 use reference::{sheet, Call, Live, Pair, Points, Reason};
 use vadivuzhen::raw::{self, BuildAnswer, LiveAnswer, Six, WriteAnswer};
 
-/// How many tables a live pool has for the pairs' fields.
-pub const FIELDS: usize = 8;
+/// How many tables of a live pool have an entry for each pair: eight of the
+/// fields, and that of the numbers.
+pub const BY_PAIR: usize = 9;
 
 /// The lengths of a live pool's tables.
 #[derive(Clone, Copy)]
 pub struct Lengths {
     /// Of the points.
     pub points: usize,
-    /// Of the fields.
-    pub fields: [usize; FIELDS],
+    /// Of the fields, and of the numbers.
+    pub by_pair: [usize; BY_PAIR],
     /// Of M.
     pub m: usize,
     /// Of W.
@@ -28,23 +30,24 @@ pub struct Lengths {
 pub fn anything(random: &mut Random, lengths: Lengths) -> Live {
     let Lengths {
         points,
-        fields,
+        by_pair,
         m,
         w,
     } = lengths;
     Live {
         count: usize::any(random) >> random.below(64),
         points: any_table(random, points),
-        ids: any_table(random, fields[0]),
-        donor_bloods: any_table(random, fields[1]),
-        patient_bloods: any_table(random, fields[2]),
-        donor_ages: any_table(random, fields[3]),
-        patient_ages: any_table(random, fields[4]),
-        donor_antigens: any_table(random, fields[5]),
-        patient_antigens: any_table(random, fields[6]),
-        patient_antibodies: any_table(random, fields[7]),
+        ids: any_table(random, by_pair[0]),
+        donor_bloods: any_table(random, by_pair[1]),
+        patient_bloods: any_table(random, by_pair[2]),
+        donor_ages: any_table(random, by_pair[3]),
+        patient_ages: any_table(random, by_pair[4]),
+        donor_antigens: any_table(random, by_pair[5]),
+        patient_antigens: any_table(random, by_pair[6]),
+        patient_antibodies: any_table(random, by_pair[7]),
         m: any_table(random, m),
         w: any_table(random, w),
+        suitable: any_table(random, by_pair[8]),
     }
 }
 
@@ -54,13 +57,22 @@ pub fn sound(random: &mut Random, points: Points, pairs: &[Pair]) -> Live {
     let room = pairs.len() + 1;
     let lengths = Lengths {
         points: COUNT,
-        fields: [room; FIELDS],
+        by_pair: [room; BY_PAIR],
         m: room * room,
         w: room * room,
     };
     let empty = live::start(&anything(random, lengths), points);
     let calls: Vec<Call> = pairs.iter().map(|&pair| Call::Register(pair)).collect();
     live::after(empty.expect("points that pass"), &calls).0
+}
+
+/// Makes the numbers those of M, where the count or M was changed, if the tables
+/// reach so far.
+pub fn count_anew(live: &mut Live) {
+    let n = live.count;
+    if n <= MOST_PAIRS && live.holds(n) {
+        live.suitable[..n].copy_from_slice(&live::ones_in_columns(n, &live.m));
+    }
 }
 
 fn any_table<T: Entry>(random: &mut Random, length: usize) -> Vec<T> {
@@ -83,6 +95,7 @@ pub struct Kept {
     patient_antibodies: Lent<u64>,
     m: Lent<u8>,
     w: Lent<u16>,
+    suitable: Lent<u16>,
 }
 
 impl Kept {
@@ -101,6 +114,7 @@ impl Kept {
             patient_antibodies: Lent::of(random, &state.patient_antibodies),
             m: Lent::of(random, &state.m),
             w: Lent::of(random, &state.w),
+            suitable: Lent::of(random, &state.suitable),
             state,
         }
     }
@@ -168,6 +182,7 @@ impl Kept {
             patient_antibodies: self.patient_antibodies.fill(),
             m: self.m.fill(),
             w: self.w.fill(),
+            suitable: self.suitable.fill(),
         }
     }
 
@@ -204,7 +219,8 @@ impl Kept {
         self.patient_antibodies
             .filled("patient_antibodies", &state.patient_antibodies)?;
         self.m.filled("M", &state.m)?;
-        self.w.filled("W", &state.w)
+        self.w.filled("W", &state.w)?;
+        self.suitable.filled("suitable", &state.suitable)
     }
 
     /// The number of pairs, as the library left it.

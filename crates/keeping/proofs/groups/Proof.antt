@@ -5,10 +5,9 @@ use native.Mathlib.Omega.{arith}
 use borrow.Author.Needs.{needs}
 use Rattle.refusal.specs.Fault.{none, firstBelow}
 use Rattle.refusal.specs.Number.{faultAt}
-use Rattle.refusal.proofs.Faults.{first-more, first-hit, sound-none, faulty-fault}
+use Rattle.refusal.proofs.Faults.{first-more, first-hit, passed-all, sound-none, faulty-fault}
 use Rattle.pool.specs.Tables.{itemIn}
 use Rattle.pool.specs.Faults.{groupFault}
-use Rattle.keeping.proofs.Found.{passed-all}
 use Rattle.keeping.proofs.groups.Statement.{statement}
 use Rattle.keeping.proofs.groups.Tie as tie
 

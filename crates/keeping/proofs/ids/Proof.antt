@@ -5,10 +5,9 @@ use native.Mathlib.Omega.{arith}
 use borrow.Author.Needs.{needs}
 use Rattle.refusal.specs.Fault.{none, firstBelow}
 use Rattle.refusal.specs.Number.{faultAt}
-use Rattle.refusal.proofs.Faults.{first-more, first-hit, fault-refuse, none-refuse}
+use Rattle.refusal.proofs.Faults.{first-more, first-hit, passed-all, fault-refuse, none-refuse}
 use Rattle.pool.specs.Tables.{itemIn}
 use Rattle.pool.specs.Faults.{idFault}
-use Rattle.keeping.proofs.Found.{passed-all}
 use Rattle.keeping.proofs.ids.Statement.{statement}
 use Rattle.keeping.proofs.ids.Tie as tie
 

@@ -11,4 +11,4 @@ pub try-start-spec : {M : Type 1} → statement M
 try-start-spec =
     tie.close
     (tie.spec (λ c. search needs) slice-aggregate-start (λ c κs. search needs) (λ c. search needs) (λ c κs. search needs)
-    (λ c κs. search needs) (λ c κs. search needs) (λ c κs. search needs) (λ c. search needs) (λ c κs. search needs) (λ c. search needs))
+    (λ c κs. search needs) (λ c κs. search needs) (λ c. search needs))

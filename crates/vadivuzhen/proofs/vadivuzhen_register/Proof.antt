@@ -6,7 +6,7 @@ use Rattle.vadivuzhen.proofs.vadivuzhen_register.Statement.{statement}
 use Rattle.vadivuzhen.proofs.vadivuzhen_register.Tie as tie
 
 abbrev called : tie.After-live-numbers → tie.After-register
-called c = c .before .before .before .before .before .before .before .before .before .before .before .before .before .before .before .before .before .before .before .before .before
+called c = c .before .before .before .before .before .before .before .before .before .before .before .before .before .before .before .before .before .before .before .before .before .before .before
 
 returns : tie.Need-returns
 returns c =
@@ -20,4 +20,5 @@ vadivuzhen-register-spec =
     (λ c. called c .register .kept .1 .1 .1 .1 .0) (λ c. called c .register .kept .1 .1 .1 .1 .1 .0)
     (λ c. called c .register .kept .1 .1 .1 .1 .1 .1 .0) (λ c. called c .register .kept .1 .1 .1 .1 .1 .1 .1 .0)
     (λ c. called c .register .kept .1 .1 .1 .1 .1 .1 .1 .1 .0) (λ c. called c .register .kept .1 .1 .1 .1 .1 .1 .1 .1 .1 .0)
-    (λ c. called c .register .kept .1 .1 .1 .1 .1 .1 .1 .1 .1 .1 .0) (λ c. called c .register .kept .1 .1 .1 .1 .1 .1 .1 .1 .1 .1 .1 .0) returns)
+    (λ c. called c .register .kept .1 .1 .1 .1 .1 .1 .1 .1 .1 .1 .0) (λ c. called c .register .kept .1 .1 .1 .1 .1 .1 .1 .1 .1 .1 .1 .0)
+    (λ c. called c .register .kept .1 .1 .1 .1 .1 .1 .1 .1 .1 .1 .1 .1 .0) returns)
