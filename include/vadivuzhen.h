@@ -225,7 +225,8 @@ VADIVUZHEN_ANSWERS struct vadivuzhen_build_answer vadivuzhen_build(
  * shuffle: it is drawn for a match, and vadivuzhen_write makes a sheet of version 2 of the pool with it.
  *
  * Of `suitable` the first N entries are stored numbers, one for each patient: entry j is the number of donors that suit patient j, which is the ones in column
- * j of M, that is how many of the N entries at i * N + j are 1. Whoever shows these numbers reads them there; no call is made for that.
+ * j of M, that is how many of the N entries at i * N + j are 1. Whoever shows these numbers reads them there; no call is made for that. Whoever fills or
+ * changes M by other means than these two calls counts its columns anew as well: else both refuse 10.
  *
  * Tables of VADIVUZHEN_MOST_PAIRS entries, and M and W of VADIVUZHEN_ENTRIES(VADIVUZHEN_MOST_PAIRS), always suffice. They may be shorter, with room for
  * fewer pairs. What they hold past the count's entries does not matter, and stays as it is: after a withdrawal the last pair's fields and stored number, and
@@ -283,7 +284,7 @@ VADIVUZHEN_ANSWERS struct vadivuzhen_live_answer vadivuzhen_start(
  * the points fewer than VADIVUZHEN_POINTS; 14, of the stored points; 10, where one of the N stored numbers is not the ones in its column of the M that is
  * lent; 6, of any pair, stored or new; 7, where a stored pair has the id of an earlier one, or the new pair that of a stored one; 12, where N is 200, whatever
  * the lengths; 9, where one more does not fit: a table of the fields or `suitable` has fewer than N + 1 entries, or M or W fewer than
- * VADIVUZHEN_ENTRIES(N + 1). 10 asks nothing else of M: an entry above 1 is no one, and a pair's own counts where it is 1. Each number is looked for in the
+ * VADIVUZHEN_ENTRIES(N + 1). 10 asks nothing else of M: an entry above 1 is not a one, and a pair's own counts where it is 1. Each number is looked for in the
  * whole pool before the next is: where a stored id is there twice and the new pair is out of range, that is 6.
  * Proved: a pair is registered if and only if there is none of these faults. */
 VADIVUZHEN_ANSWERS struct vadivuzhen_live_answer vadivuzhen_register(

@@ -703,7 +703,7 @@ static void taken_out(void)
     check(leave(lengths_for(4), live.ids[1 + 1]) == VADIVUZHEN_FINISHED && as_due(), "of two with an id the first withdraws, and a pair out of range can");
 }
 
-/* The live pool has three pairs, and M and the numbers as a caller has put them in: an entry above 1 is no one, and a pair's own counts. */
+/* The live pool has three pairs, and M and the numbers as a caller has put them in: an entry above 1 is not a one, and a pair's own counts. */
 static void put_by_hand(void)
 {
     static const uint8_t m[9] = {0, 1, 5, 1, 1, 2, 0, 1, 1};

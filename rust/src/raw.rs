@@ -251,7 +251,7 @@ pub struct LentLive<'a> {
     pub m: &'a mut [u8],
     /// W.
     pub w: &'a mut [u16],
-    /// How many donors suit patient j.
+    /// How many donors suit each patient.
     pub suitable: &'a mut [u16],
 }
 

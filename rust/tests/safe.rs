@@ -808,7 +808,7 @@ fn bare(pairs: &[Pair]) -> Bare {
 }
 
 /// Three pairs, with an M put in by hand, and the numbers that it has: an entry
-/// above 1 is no one, and a pair's own counts.
+/// above 1 is not a one, and a pair's own counts.
 fn by_hand() -> Bare {
     let mut pool = bare(&three());
     pool.m[..9].copy_from_slice(&[0, 1, 5, 1, 1, 2, 0, 1, 1]);

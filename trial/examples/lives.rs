@@ -1,4 +1,4 @@
-//! Prints what becomes of a live pool: the run of W-206's page call by call, with
+//! Prints what becomes of a live pool: a run of W-206 and W-207 call by call, with
 //! W-207's numbers, each refusal, tables changed by hand, and two hundred pairs,
 //! in the words of the program `try_lives` of the proved library: what the two
 //! print is compared.
@@ -126,9 +126,9 @@ fn told(answer: &Result<Live, Reason>) -> String {
     }
 }
 
-/// The page's run, with the tables after each call.
-fn page() {
-    println!("# The page's run");
+/// A run, with the tables after each call.
+fn run() {
+    println!("# A run");
     let (mut pool, line) = Pool::started(ROOM);
     println!("{line}");
     pool.shown();
@@ -303,7 +303,7 @@ fn refused_withdrawals() {
     }
 }
 
-/// The page's three pairs, with M and the numbers put in by hand: some entries
+/// The run's three pairs, with M and the numbers put in by hand: some entries
 /// are above 1, and some ones stand on the diagonal.
 fn by_hand() -> Pool {
     let (mut pool, _) = Pool::started(ROOM);
@@ -369,7 +369,7 @@ fn many() {
 }
 
 fn main() {
-    page();
+    run();
     println!("# Each refusal");
     refused_starts();
     refused_registrations();

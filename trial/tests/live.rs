@@ -66,7 +66,7 @@ fn pairs_of(n: usize) -> Vec<Pair> {
     (0..n).map(pair).collect()
 }
 
-/// The page's three pairs with M and the numbers put in by hand: entries above 1,
+/// The run's three pairs with M and the numbers put in by hand: entries above 1,
 /// and ones on the diagonal.
 fn by_hand() -> Live {
     let mut live = holding(4, &[ELEVEN, TWELVE, THIRTEEN]);
@@ -92,7 +92,7 @@ fn put<T>(table: &mut [T], at: usize, entry: T) {
     }
 }
 
-// ---- The page's run
+// ---- A run
 
 #[test]
 fn three_register_and_the_second_withdraws() {

@@ -7,14 +7,14 @@ ghost use mathlib.Core.Path.{_≡_};
 ghost use Prim.Native.Nat.{_≤_};
 ghost use lib.ListN.{length};
 ghost use Rattle.laws.specs.Lent.{filled};
-ghost use Rattle.refusal.specs.Fault.{_then_, firstBelow};
+ghost use Rattle.refusal.specs.Fault.{firstBelow};
 ghost use Rattle.refusal.specs.Answer.{outcome};
 ghost use Rattle.refusal.specs.Number.{faultAt};
 ghost use Rattle.pool.specs.Points.{registryPoints};
 ghost use Rattle.pool.specs.Tables.{itemIn};
 ghost use Rattle.pool.specs.Faults.{groupFault, idFault};
 ghost use Rattle.points.specs.Named.{named};
-ghost use Rattle.live.specs.Faults.{graphFault, keptFault, numbersFault};
+ghost use Rattle.live.specs.Faults.{graphFault, sizesFault, storedFault};
 ghost use Rattle.live.specs.Calls.{inOrder, starting};
 ghost use Rattle.live.specs.Answers.{answerOf};
 ghost use Rattle.live.specs.Lent.{lentBeginning};
@@ -69,10 +69,9 @@ pub fn rows(n: usize, compatibilities: usize, weights: usize) -> Verdict
     Verdict::Sound
 }
 
-// 4 of the count, 9 of the tables for it and for the points, 14 of the points. The shortest table with an entry for each pair has `space` entries, M and W have
-// the next two.
+// 4 of the count, 9 of the tables for it and for the points. The shortest table with an entry for each pair has `space` entries, M and W have the next two.
 fn sizes(n: usize, space: usize, compatibilities: usize, weights: usize, points: &[u16]) -> Verdict
-    ensures { λ r. ⌜ faultAt 0 r ≡ keptFault n space compatibilities weights (now (points .entry)) ⌝ }
+    ensures { λ r. ⌜ faultAt 0 r ≡ sizesFault n space compatibilities weights (now (points .entry)) ⌝ }
 {
     if n > 200 {
         return Verdict::Faulty(Refusal::TooManyPairs);
@@ -83,13 +82,10 @@ fn sizes(n: usize, space: usize, compatibilities: usize, weights: usize, points:
         }
         Verdict::Sound => {}
     }
-    match rows(n, compatibilities, weights) {
-        Verdict::Faulty(why) => Verdict::Faulty(why),
-        Verdict::Sound => points::judge(points::own(points)),
-    }
+    rows(n, compatibilities, weights)
 }
 
-// What both calls look at first: 4, 9 and 14, and then 10 of the numbers.
+// What both calls look at first: 4 and 9, 14 of the points, 10 of the numbers.
 pub fn judge(
     n: usize,
     space: usize,
@@ -100,10 +96,15 @@ pub fn judge(
 ) -> Verdict
     requires { ⌜ space ≤ length (now suitable) ⌝ }
     ensures { λ r.
-        ⌜ faultAt 0 r ≡ (keptFault n space (length (now (compatibilities .entry))) weights (now (points .entry))
-        then numbersFault n (now (compatibilities .entry)) (now (suitable .entry))) ⌝ }
+        ⌜ faultAt 0 r ≡ storedFault n space (now (compatibilities .entry)) weights (now (points .entry)) (now (suitable .entry)) ⌝ }
 {
     match sizes(n, space, compatibilities.len(), weights, points) {
+        Verdict::Faulty(why) => {
+            return Verdict::Faulty(why);
+        }
+        Verdict::Sound => {}
+    }
+    match points::judge(points::own(points)) {
         Verdict::Faulty(why) => Verdict::Faulty(why),
         Verdict::Sound => suiting::judge(n, compatibilities, suitable),
     }

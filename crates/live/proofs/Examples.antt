@@ -12,7 +12,7 @@ use Rattle.donation.specs.Weight.{mismatches, mismatchPoints, agePoints, weight
 use Rattle.graph.specs.Graph.{inRows, filledGraph}
 use Rattle.live.specs.Live.{pairRoom}
 use Rattle.live.specs.Suitable.{onesIn, withNumbers}
-use Rattle.live.specs.Faults.{startFault, graphFault, keptFault, numbersFault, rangeFault, likeFault, moreFault, registerFault, withdrawFault}
+use Rattle.live.specs.Faults.{startFault, graphFault, sizesFault, numbersFault, storedFault, rangeFault, likeFault, moreFault, registerFault, withdrawFault}
 use Rattle.live.specs.Calls.{inOrder, starting, withPair, registered, registering, placeOf, up, withoutEntry, withoutRow, withoutPair, withoutAt, withdrawing}
 use Rattle.live.specs.Lists.{does, after, trace, takesOut, withdrawnIn, staying, broughtIn, held}
 use Rattle.live.specs.Examples.{LiveRun, NumbersRun}
@@ -20,14 +20,14 @@ use Rattle.live.specs.Examples.{LiveRun, NumbersRun}
 pub live-run : LiveRun
 unfolding table either anyBelow countBelow one filled stored refuse _then_ firstBelow unless documentPoints hasPoints pointCount pointsOf heaviest fieldRoom pairIn
     groupFault idFault pointsFault roomFault tablesFault bloodTable suits has shareBit compatibility mismatches mismatchPoints agePoints weight inRows
-    filledGraph pairRoom onesIn withNumbers startFault graphFault keptFault numbersFault rangeFault likeFault moreFault registerFault withdrawFault inOrder starting withPair registered registering placeOf up withoutEntry
+    filledGraph pairRoom onesIn withNumbers startFault graphFault sizesFault numbersFault storedFault rangeFault likeFault moreFault registerFault withdrawFault inOrder starting withPair registered registering placeOf up withoutEntry
     withoutRow withoutPair withoutAt withdrawing does after trace takesOut withdrawnIn staying broughtIn held
 live-run = record { start = refl; three = refl; two = refl; moved = refl; answers = refl; ids = refl; holds = refl }
 
 pub numbers-run : NumbersRun
 unfolding table either anyBelow countBelow one filled stored refuse _then_ firstBelow unless documentPoints hasPoints pointCount pointsOf heaviest fieldRoom pairIn
     groupFault idFault pointsFault roomFault tablesFault bloodTable suits has shareBit compatibility mismatches mismatchPoints agePoints weight inRows
-    filledGraph pairRoom onesIn withNumbers startFault graphFault keptFault numbersFault rangeFault likeFault moreFault registerFault withdrawFault inOrder starting withPair registered registering placeOf up withoutEntry
+    filledGraph pairRoom onesIn withNumbers startFault graphFault sizesFault numbersFault storedFault rangeFault likeFault moreFault registerFault withdrawFault inOrder starting withPair registered registering placeOf up withoutEntry
     withoutRow withoutPair withoutAt withdrawing does after trace takesOut withdrawnIn staying broughtIn held
 numbers-run =
     record { three = refl; two = refl; again = refl; withdrawn = refl; registered = refl; registers = refl; withdraws = refl }

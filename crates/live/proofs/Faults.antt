@@ -1,6 +1,7 @@
 -- What the calls of a live pool check: what has none of the faults, and that each is there. Assumes nothing.
 use mathlib.Core.Path.{_≡_, refl, ap, _∙_}
 use mathlib.Core.Bool.{not}
+use mathlib.Core.List.{List}
 use Prim.Native.Nat.{ℕ, _+_, _*_, _≤_, _<_, min}
 use native.Mathlib.Nat.{le-refl, le-trans, min-le-left, min-le-right, le-min}
 use native.Mathlib.Omega.{arith}
@@ -9,12 +10,12 @@ use lib.Dec.{eqb}
 use lib.ListN.{length}
 use Rattle.laws.specs.Below.{anyBelow, Some}
 use Rattle.laws.proofs.Below.{any-none, none-any, any-hit, any-found}
-use Rattle.refusal.specs.Fault.{Fault, none, fault, refuse, _then_}
+use Rattle.refusal.specs.Fault.{Fault, none, fault, refuse}
 use Rattle.refusal.proofs.Faults.{then-none, none-then, refuse-none, none-refuse, first-none, none-first, by-refuse, by-then, by-first}
 use Rattle.pool.specs.Pool.{Pair}
 use Rattle.pool.specs.Points.{Points, hasPoints, pointCount}
 use Rattle.pool.specs.Tables.{itemIn, fieldRoom}
-use Rattle.pool.specs.Faults.{idFault, roomFault, tablesFault}
+use Rattle.pool.specs.Faults.{idFault, roomFault, pointsFault}
 use Rattle.pool.specs.Faultless.{SoundPoints, FieldsHold}
 use Rattle.pool.proofs.Points.{points-none, points-passed, points-fault}
 use Rattle.pool.proofs.Pairs.{groups-none, groups-passed, groups-fault, id-none, id-passed, id-fault}
@@ -22,8 +23,9 @@ use Rattle.pool.proofs.Rooms.{fieldRoom-hold, hold-fieldRoom}
 use Rattle.pool.proofs.Reading.{room-none, room-passed, room-fault, tables-none, tables-passed, tables-fault}
 use Rattle.live.specs.Live.{Live, liveVersion, weighedBy, pairOf, pairRoom}
 use Rattle.live.specs.Suitable.{onesIn}
-use Rattle.live.specs.Faults.{startFault, graphFault, keptFault, numbersFault, groupsFault, rangeFault, likeFault, moreFault, storedFault, registerFault, withdrawFault}
+use Rattle.live.specs.Faults.{startFault, graphFault, sizesFault, numbersFault, storedFault, groupsFault, rangeFault, likeFault, moreFault, keptFault, registerFault, withdrawFault}
 use Rattle.live.specs.Faultless.{TablesKeep, TrueNumber, TrueNumbers, Kept, KeptFault, StartFault, AllInRange, AllUnlike, OneMoreFits, Registrable, RegisterFault, Withdrawable, WithdrawFault}
+use Rattle.live.proofs.Suitable.{number-true, true-number}
 
 -- ## Starting
 
@@ -97,78 +99,85 @@ module _ (l : Live) where
 
   -- ### the numbers
 
+  abbrev M : List ℕ
+  M = l .graph .compatibilities
+
   abbrev number : ℕ → Fault
-  number j = refuse 10 0 (not (eqb (itemIn (l .suitable) j) (onesIn n (l .graph .compatibilities) j)))
+  number j = refuse 10 0 (not (eqb (itemIn (l .suitable) j) (onesIn n M j)))
 
   abbrev numbers : Fault
-  numbers = numbersFault n (l .graph .compatibilities) (l .suitable)
+  numbers = numbersFault n M (l .suitable)
 
   numbers-none : TrueNumbers l → numbers ≡ none
   unfolding numbersFault
-  numbers-none t = none-first n number (λ j k. none-refuse 10 0 _ (ap not (eq-eqb _ _ (t j k))))
+  numbers-none t = none-first n number (λ j k. none-refuse 10 0 _ (ap not (eq-eqb _ _ (true-number n M j _ (t j k)))))
 
   numbers-passed : numbers ≡ none → TrueNumbers l
   unfolding numbersFault
-  numbers-passed e j k = eqb-true _ _ (not-false _ (refuse-none _ _ _ (first-none n number e j k)))
+  numbers-passed e j k = number-true n M j _ (eqb-true _ _ (not-false _ (refuse-none _ _ _ (first-none n number e j k))))
 
   numbers-fault : (P : ℕ → ℕ → Type 0) → (Some n (λ j. TrueNumber l j → ⊥) → P 10 0) → (k o : ℕ) → numbers ≡ fault k o → P k o
   unfolding numbersFault
   numbers-fault P ten =
       by-first P n number
-      (λ j k _. by-refuse P 10 0 _ (λ e. ten (record { at = j; below = k; there = eqb-false _ _ (not-true _ e) })))
+      (λ j k _. by-refuse P 10 0 _ (λ e. ten (record { at = j; below = k; there = λ t. eqb-false _ _ (not-true _ e) (true-number n M j _ t) })))
 
   -- ### all of it
 
-  sized-none : Kept l → keptFault n (pairRoom l) m w (l .points) ≡ none
-  unfolding keptFault pointCount hasPoints
-  sized-none k =
-      none-then _ _ (none-refuse 4 0 _ (le-ltb 200 n (k .few)))
-      ∙ none-then _ _ (tables-none liveVersion n (pairRoom l) (l .points) (hold-pairs n (k .keep .fields) (k .keep .suitable)) (k .keep .points))
-      ∙ none-then _ _ (graph-none n m w (k .keep .graph .compatibilities) (k .keep .graph .weights))
-      ∙ points-none (weighedBy l) 0 (k .sound)
+  sizes-none : l .count ≤ 200 → TablesKeep l → sizesFault n (pairRoom l) m w (l .points) ≡ none
+  unfolding sizesFault pointCount hasPoints
+  sizes-none few k =
+      none-then _ _ (none-refuse 4 0 _ (le-ltb 200 n few))
+      ∙ none-then _ _ (tables-none liveVersion n (pairRoom l) (l .points) (hold-pairs n (k .fields) (k .suitable)) (k .points))
+      ∙ graph-none n m w (k .graph .compatibilities) (k .graph .weights)
 
-  pub kept-none : Kept l → storedFault l ≡ none
+  pub kept-none : Kept l → keptFault l ≡ none
+  unfolding storedFault
   kept-none k =
-      let sizes = sized-none k in
-      let true-ones = numbers-none (k .numbers) in
-      none-then _ _ sizes ∙ true-ones
+      let sizes = sizes-none (k .few) (k .keep) in
+      let fourteen = points-none (weighedBy l) 0 (k .sound) in
+      let ten = numbers-none (k .numbers) in
+      none-then _ _ sizes ∙ none-then _ _ fourteen ∙ ten
 
-  tables-keep : tablesFault liveVersion n (pairRoom l) (l .points) ≡ none → graphFault n m w ≡ none → TablesKeep l
-  unfolding pointCount hasPoints
-  tables-keep a b =
-      let t = tables-passed liveVersion n (pairRoom l) (l .points) a in
+  sizes-passed : sizesFault n (pairRoom l) m w (l .points) ≡ none → (n ≤ 200) × TablesKeep l
+  unfolding sizesFault pointCount hasPoints
+  sizes-passed e =
+      let four = then-none _ _ e in
+      let nine = then-none _ _ (four .1) in
+      let t = tables-passed liveVersion n (pairRoom l) (l .points) (nine .0) in
       let p = pairs-hold n (t .0) in
-      let g = graph-passed n m w b in
-      record { fields = p .0; graph = record { compatibilities = g .0; weights = g .1 }; suitable = p .1; points = t .1 }
+      let g = graph-passed n m w (nine .1) in (
+        ltb-false _ _ (refuse-none _ _ _ (four .0)),
+        record { fields = p .0; graph = record { compatibilities = g .0; weights = g .1 }; suitable = p .1; points = t .1 },
+      )
 
-  sized : keptFault n (pairRoom l) m w (l .points) ≡ none → (n ≤ 200) × TablesKeep l × SoundPoints (weighedBy l)
-  unfolding keptFault
-  sized e =
-      let s0 = then-none _ _ e in
-      let s1 = then-none _ _ (s0 .1) in
-      let rest = then-none _ _ (s1 .1) in
-      (ltb-false _ _ (refuse-none _ _ _ (s0 .0)), tables-keep (s1 .0) (rest .0), points-passed (weighedBy l) 0 (rest .1))
-
-  pub kept-passed : storedFault l ≡ none → Kept l
+  pub kept-passed : keptFault l ≡ none → Kept l
+  unfolding storedFault
   kept-passed e =
       let s = then-none _ _ e in
-      let sizes : keptFault n (pairRoom l) m w (l .points) ≡ none = s .0 in
-      let true-ones : numbers ≡ none = s .1 in
-      let z = sized sizes in
-      record { few = z .0; keep = z .1; sound = z .2; numbers = numbers-passed true-ones }
+      let rest = then-none _ _ (s .1) in
+      let fourteen : pointsFault 0 (weighedBy l) ≡ none = rest .0 in
+      let ten : numbers ≡ none = rest .1 in
+      let z = sizes-passed (s .0) in
+      record { few = z .0; keep = z .1; sound = points-passed (weighedBy l) 0 fourteen; numbers = numbers-passed ten }
 
-  pub kept-fault : (P : ℕ → ℕ → Type 0) → ((k : ℕ) → KeptFault l k → P k 0) → (k o : ℕ) → storedFault l ≡ fault k o → P k o
-  unfolding keptFault pointCount hasPoints
-  kept-fault P h =
-      by-then P _ _
-      (by-then P _ _ (by-refuse P 4 0 _ (λ e. h 4 (KeptFault.tooManyPairs (ltb-true _ _ e))))
+  sizes-fault : (P : ℕ → ℕ → Type 0) → ((k : ℕ) → KeptFault l k → P k 0) → (k o : ℕ) → sizesFault n (pairRoom l) m w (l .points) ≡ fault k o → P k o
+  unfolding sizesFault pointCount hasPoints
+  sizes-fault P h =
+      by-then P _ _ (by-refuse P 4 0 _ (λ e. h 4 (KeptFault.tooManyPairs (ltb-true _ _ e))))
       (λ a. let few : n ≤ 200 = ltb-false _ _ (refuse-none _ _ _ a) in
       by-then P _ _
       (tables-fault liveVersion n (pairRoom l) (l .points) P
       (λ no. h 9 (KeptFault.tableTooShort few (λ k. no (hold-pairs n (k .fields) (k .suitable)) (k .points)))))
-      (λ b. by-then P _ _ (graph-fault n m w P (λ no. h 9 (KeptFault.tableTooShort few (λ k. no (k .graph .compatibilities) (k .graph .weights)))))
-      (λ d. points-fault (weighedBy l) 0 P (λ bad. h 14 (KeptFault.wrongPoints few (tables-keep b d) bad))))))
-      (λ e. let z = sized e in numbers-fault P (λ some. h 10 (KeptFault.wrongNumber (z .0) (z .1) (z .2) some)))
+      (λ _. graph-fault n m w P (λ no. h 9 (KeptFault.tableTooShort few (λ k. no (k .graph .compatibilities) (k .graph .weights))))))
+
+  pub kept-fault : (P : ℕ → ℕ → Type 0) → ((k : ℕ) → KeptFault l k → P k 0) → (k o : ℕ) → keptFault l ≡ fault k o → P k o
+  unfolding storedFault
+  kept-fault P h =
+      by-then P _ _ (sizes-fault P h)
+      (λ a. let z = sizes-passed a in
+      by-then P _ _ (points-fault (weighedBy l) 0 P (λ bad. h 14 (KeptFault.wrongPoints (z .0) (z .1) bad)))
+      (λ b. numbers-fault P (λ some. h 10 (KeptFault.wrongNumber (z .0) (z .1) (points-passed (weighedBy l) 0 b) some))))
 
 -- ## Registering
 
@@ -289,7 +298,7 @@ module _ (x : ℕ) (l : Live) where
   pub withdraw-none : Withdrawable x l → withdrawFault x l ≡ none
   unfolding withdrawFault
   withdraw-none r =
-      let kept : storedFault l ≡ none = kept-none l (r .kept) in
+      let kept : keptFault l ≡ none = kept-none l (r .kept) in
       let there : refuse 16 0 (not (anyBelow (n l) (λ j. eqb (here j) x))) ≡ none =
       none-refuse 16 0 _ (rw (any-hit (n l) (λ j. eqb (here j) x) (r .there .at) (r .there .below) (eq-eqb _ _ (r .there .there)))) in
       none-then _ _ kept ∙ there
@@ -298,7 +307,7 @@ module _ (x : ℕ) (l : Live) where
   unfolding withdrawFault
   withdraw-passed e =
       let s = then-none _ _ e in
-      let kept : storedFault l ≡ none = s .0 in
+      let kept : keptFault l ≡ none = s .0 in
       let f = any-found (n l) (λ j. eqb (here j) x) (not-false _ (refuse-none _ _ _ (s .1))) in
       record { kept = kept-passed l kept; there = record { at = f .0; below = f .1; there = eqb-true _ _ (f .2) } }
 

@@ -1,12 +1,8 @@
 -- The theorems on every list of calls from an empty pool. Assumes nothing.
 use mathlib.Core.Path.{_≡_, refl, sym, ap, ap₂, subst, _∙_}
-use mathlib.Core.Bool.{true}
 use mathlib.Core.List.{List, _++_, flatMap, map}
-use mathlib.Core.Logic.{_↔_}
 use Prim.Native.Nat.{ℕ, _+_, _-_, _*_, _≤_, _<_}
 use native.Mathlib.Omega.{arith}
-use borrow.Author.Tests.{eqb-true, eq-eqb}
-use lib.Dec.{eqb}
 use lib.ListN.{length, take}
 use Rattle.laws.specs.Below.{table, Some}
 use Rattle.laws.specs.Lent.{filled}
@@ -26,7 +22,6 @@ use Rattle.pool.proofs.Writing.{writes-rightly}
 use Rattle.pool.proofs.RoundTrip.{pair-in-filled, point-in-filled, faultless-filled, pool-comes-back}
 use Rattle.donation.specs.Compatibility.{compatibility}
 use Rattle.donation.specs.Weight.{weight}
-use Rattle.donation.specs.Promises.{Compatible}
 use Rattle.donation.proofs.Compatible.{one-where-compatible}
 use Rattle.graph.specs.Graph.{Graph, graph, inRows, filledGraph}
 use Rattle.graph.proofs.Rows.{rows-entry}
@@ -37,11 +32,10 @@ use Rattle.weighing.proofs.Promised.{rightly}
 use Rattle.live.specs.Live.{Live, liveVersion, weighedBy, pairOf, pairsOf}
 use Rattle.live.specs.Calls.{inOrder, starting, registering, up, withoutAt}
 use Rattle.live.specs.Faultless.{TrueNumber, KeptFault, NoneHas, Registrable, RegisterFault, WithdrawFault}
-use Rattle.live.specs.Suitable.{onesIn}
 use Rattle.live.specs.Lists.{Call, after, trace, held, staying}
-use Rattle.live.specs.Promises.{Empty, OnASheet, HowMany, SuitedBySoMany, Holds, LiveHolds, startedWith, StartHolds, HasId, Welcome, AnswersBy, LiveAnswers, NoNumberRefused, NeverTen, MayReturn}
+use Rattle.live.specs.Promises.{Empty, OnASheet, SuitedBySoMany, Holds, LiveHolds, startedWith, StartHolds, HasId, Welcome, AnswersBy, LiveAnswers, NeitherRefusesTen, NeverTen, MayReturn}
 use Rattle.live.proofs.Tables.{rows-cong, past-hold, up-not, up-below, pair-moved}
-use Rattle.live.proofs.Suitable.{how-many}
+use Rattle.live.proofs.Suitable.{how-many-same}
 use Rattle.live.proofs.Promised.{rightly-started, starts-empty, registering-done, registering-accepts, rightly-registered, rightly-withdrawn, gone, gone-first, is-without, withdrawing-done, withdrawing-accepts}
 use Rattle.live.proofs.Lists.{Right, compatibility-moved, weight-moved, empty-right, less-right, other-id, kept-by}
 
@@ -187,19 +181,17 @@ module _ (l : Live) (w : Right l) (s out : List ℕ) (other : Tables) (g : Graph
 -- ## Each number is that of the donors that suit
 
 right-suited : (l : Live) → Right l → SuitedBySoMany l
-unfolding onesIn filledGraph
+unfolding filledGraph
 right-suited l w j h =
     let n = l .count in
     let M = l .graph .compatibilities in
-    let suits : (i : ℕ) → i < n → (eqb (itemIn M (i * n + j)) 1 ≡ true) ↔ Compatible (pairOf l) i j =
-    λ i k.
+    how-many-same _ _ n (itemIn (l .suitable) j)
+    (λ i k.
     let e : itemIn M (i * n + j) ≡ compatibility (pairOf l) i j =
     ap (λ (g : Graph). itemIn (g .compatibilities) (i * n + j)) (sym (w .built)) ∙ rows-entry n (compatibility (pairOf l)) M i j k h in
-    let both = one-where-compatible (pairOf l) i j in (
-      λ t. both .0 (sym e ∙ eqb-true _ _ t),
-      λ c. eq-eqb _ _ (e ∙ both .1 c),
-    ) in
-    subst (HowMany (λ i. Compatible (pairOf l) i j) n) (sym (w .kept .numbers j h)) (how-many _ _ n suits)
+    let both = one-where-compatible (pairOf l) i j in
+    (λ o. both .0 (sym e ∙ o), λ c. e ∙ both .1 c))
+    (w .kept .numbers j h)
 
 right-holds : (ps : List Pair) (l : Live) → Right l → pairsOf l ≡ ps → Holds ps l
 right-holds ps l w e =
@@ -299,7 +291,7 @@ pub live-answers : LiveAnswers
 live-answers l calls w =
     subst (λ (ps : List Pair). AnswersBy ps (after calls l)) (list-pairs l calls w) (right-answers (after calls l) (list-right l calls w))
 
--- ## No number is refused
+-- ## Neither call refuses 10
 
 ten-of : (l : Live) (k : ℕ) → KeptFault l k → k ≡ 10 → Some (l .count) (λ j. TrueNumber l j → ⊥)
 ten-of l _ (KeptFault.tooManyPairs _) e = absurd (omega (arith, e))
@@ -318,8 +310,8 @@ ten-withdrawing : (x : ℕ) (l : Live) (k : ℕ) → WithdrawFault x l k → k �
 ten-withdrawing x l k (WithdrawFault.kept _ f) e = ten-of l k f e
 ten-withdrawing x l _ (WithdrawFault.unknownId _ _) e = absurd (omega (arith, e))
 
-no-number-refused : (l : Live) → Right l → NoNumberRefused l
-no-number-refused l w =
+neither-refuses-ten : (l : Live) → Right l → NeitherRefusesTen l
+neither-refuses-ten l w =
     let none : Some (l .count) (λ j. TrueNumber l j → ⊥) → ⊥ = λ s. s .there (w .kept .numbers (s .at) (s .below)) in
     record {
       registers = λ p o e. none (ten-registering p l 10 (rightly-registered p l _ refl .refuses 10 o e .1) refl);
@@ -327,7 +319,7 @@ no-number-refused l w =
     }
 
 pub never-ten : NeverTen
-never-ten l calls w = no-number-refused (after calls l) (list-right l calls w)
+never-ten l calls w = neither-refuses-ten (after calls l) (list-right l calls w)
 
 pub may-return : MayReturn
 unfolding withoutAt

@@ -23,7 +23,7 @@ use Rattle.live.specs.Faultless.{Kept, Registrable, Withdrawable}
 use Rattle.live.specs.Promises.{Started, StartsRightly, Registered, RegistersRightly, FirstWith, WithoutIt, WithdrawsRightly, StartsEmpty}
 use Rattle.live.proofs.Faults.{start-none, start-passed, start-fault, register-none, register-passed, register-fault, withdraw-none, withdraw-passed, withdraw-fault}
 use Rattle.live.proofs.Tables.{filled-kept, length-rows, pair-there, pair-other, with-past, past-hold, place-found, moved-up, row-moved, row-past, pair-moved, without-past}
-use Rattle.live.proofs.Suitable.{numbers-there, numbers-past}
+use Rattle.live.proofs.Suitable.{numbers-there, numbers-past, number-true}
 
 -- ## Starting
 
@@ -87,7 +87,7 @@ module _ (p : Pair) (l : Live) where
         last = pair-there n p (l .fields) (r .more .fields);
         others = λ i h. pair-other n p (l .fields) (r .more .fields) i (λ e. omega (arith, h, e));
         entries = filled-entries (weighedBy l) (n + 1) f′ (l .graph);
-        numbers = numbers-there (n + 1) _ (l .suitable);
+        numbers = λ j k. number-true (n + 1) _ j _ (numbers-there (n + 1) _ (l .suitable) j k);
         past =
             record {
               points = refl;
@@ -172,7 +172,7 @@ module _ (l : Live) where
             let u = moved-up a n i j m h b in
             let v = moved-up a n g k o h d in
             row-moved a n W j k (u .0) (v .0) ∙ ap₂ (entryAt W n) (u .1) (v .1);
-        numbers = numbers-there (n - 1) _ (l .suitable);
+        numbers = λ j k. number-true (n - 1) _ j _ (numbers-there (n - 1) _ (l .suitable) j k);
         past =
             record {
               points = refl;

@@ -1,5 +1,5 @@
--- How many donors suit each patient: the ones in a column of M, where a pair goes too, and the pairs whose donors suit. Assumes nothing.
-use mathlib.Core.Path.{_≡_, refl, sym, ap, ap₂, _∙_}
+-- How many donors suit each patient: the ones in a column of M, where a pair goes too, and what comes to so many. Assumes nothing.
+use mathlib.Core.Path.{_≡_, refl, sym, ap, ap₂, subst, _∙_}
 use mathlib.Core.Bool.{Bool, true, false}
 use mathlib.Core.List.{List}
 use mathlib.Core.Logic.{_↔_}
@@ -8,15 +8,18 @@ use native.Mathlib.Nat.{add-zero}
 use native.Mathlib.Numerals.{add-one}
 use native.Mathlib.Omega.{arith}
 use native.Mathlib.Decide.{decLt}
+use borrow.Author.Tests.{eqb-true, eq-eqb}
 use lib.Dec.{eqb}
 use lib.ListN.{length}
 use Rattle.laws.specs.Below.{countBelow, one}
 use Rattle.laws.proofs.Below.{length-table, true-false, count-cong}
 use Rattle.laws.proofs.Lent.{filled-at}
 use Rattle.pool.specs.Tables.{itemIn}
+use Rattle.weighing.specs.Promises.{entryAt}
 use Rattle.live.specs.Calls.{up, withoutRow}
 use Rattle.live.specs.Suitable.{onesIn, withNumbers}
-use Rattle.live.specs.Promises.{PastKept, HowMany, NoOtherNumber}
+use Rattle.live.specs.Faultless.{HowMany}
+use Rattle.live.specs.Promises.{PastKept, NoOtherNumber}
 use Rattle.live.proofs.Tables.{filled-kept, up-before, up-from, row-moved}
 
 -- ## In a table's first entries
@@ -62,9 +65,9 @@ ones-without a n m j h l =
     ∙ count-without (n - 1) p a (omega arith)
     ∙ ap (λ (x : ℕ). x + one (p a)) same
 
--- ## Those whose donors suit
+-- ## So many
 
-pub how-many : (P : ℕ → Type 0) (p : ℕ → Bool) (n : ℕ) → ((i : ℕ) → i < n → (p i ≡ true) ↔ P i) → HowMany P n (countBelow n p)
+how-many : (P : ℕ → Type 0) (p : ℕ → Bool) (n : ℕ) → ((i : ℕ) → i < n → (p i ≡ true) ↔ P i) → HowMany P n (countBelow n p)
 unfolding countBelow one
 how-many P p zero h = HowMany.empty
 how-many P p (suc n) h = go (p n) refl (how-many P p n (λ i l. h i (omega arith)))
@@ -73,9 +76,32 @@ how-many P p (suc n) h = go (p n) refl (how-many P p n (λ i l. h i (omega arith
     go true e w = rw (add-one) (HowMany.counted n (countBelow n p) w (h n (omega arith) .0 e))
     go false e w = rw (add-zero) (HowMany.passed n (countBelow n p) w (λ q. absurd (true-false (h n (omega arith) .1 q) e)))
 
+-- of what comes to the same
+pub how-many-same : (P Q : ℕ → Type 0) (n k : ℕ) → ((i : ℕ) → i < n → P i ↔ Q i) → HowMany P n k → HowMany Q n k
+how-many-same P Q _ _ h HowMany.empty = HowMany.empty
+how-many-same P Q _ _ h (HowMany.counted n k w p) =
+    HowMany.counted n k (how-many-same P Q n k (λ i l. h i (omega arith)) w) (h n (omega arith) .0 p)
+how-many-same P Q _ _ h (HowMany.passed n k w p) =
+    HowMany.passed n k (how-many-same P Q n k (λ i l. h i (omega arith)) w) (λ q. p (h n (omega arith) .1 q))
+
 pub no-other-number : NoOtherNumber
 no-other-number P _ _ _ HowMany.empty HowMany.empty = refl
 no-other-number P _ _ _ (HowMany.counted n k v p) (HowMany.counted _ o w q) = ap suc (no-other-number P n k o v w)
 no-other-number P _ _ _ (HowMany.counted n k v p) (HowMany.passed _ o w q) = absurd (q p)
 no-other-number P _ _ _ (HowMany.passed n k v p) (HowMany.counted _ o w q) = absurd (p q)
 no-other-number P _ _ _ (HowMany.passed n k v p) (HowMany.passed _ o w q) = no-other-number P n k o v w
+
+-- the ones in a column, by the sum and without it
+module _ (n : ℕ) (m : List ℕ) (j : ℕ) where
+  abbrev AOne : ℕ → Type 0
+  AOne i = entryAt m n i j ≡ 1
+
+  so-many-ones : HowMany AOne n (onesIn n m j)
+  unfolding onesIn
+  so-many-ones = how-many AOne (λ i. eqb (itemIn m (i * n + j)) 1) n (λ i _. (eqb-true _ _, eq-eqb _ _))
+
+  pub number-true : (x : ℕ) → x ≡ onesIn n m j → HowMany AOne n x
+  number-true x e = subst (HowMany AOne n) (sym e) so-many-ones
+
+  pub true-number : (x : ℕ) → HowMany AOne n x → x ≡ onesIn n m j
+  true-number x w = no-other-number AOne n (onesIn n m j) x so-many-ones w

@@ -31,7 +31,7 @@ abbrev pub exampleRoom : Live
 exampleRoom =
     live 0 (2000 ∷ 500 ∷ 300 ∷ 70 ∷ 40 ∷ 9 ∷ 5 ∷ [])
     (fields (replicate 4 9) (replicate 4 9) (replicate 4 9) (replicate 4 9) (replicate 4 9) (replicate 4 9) (replicate 4 9) (replicate 4 9))
-    (graph (replicate 16 7) (replicate 16 77)) (replicate 4 3)
+    (graph (replicate 16 7) (replicate 16 77)) (replicate 4 9)
 
 -- 11 gives A to B and 12 B to A, both young; 13 gives O to O, from a senior donor with three antigens to a senior patient
 abbrev pub threeCalls : List Call
@@ -64,7 +64,7 @@ pub record LiveRun : Type 0 where
 abbrev pub byHand : ℕ → ℕ → ℕ → Live
 byHand a b c =
     let l : Live = after threeCalls exampleRoom in
-    live 3 (l .points) (l .fields) (graph (0 ∷ 1 ∷ 5 ∷ 1 ∷ 1 ∷ 2 ∷ 0 ∷ 1 ∷ 1 ∷ replicate 7 7) (l .graph .weights)) (a ∷ b ∷ c ∷ 3 ∷ [])
+    live 3 (l .points) (l .fields) (graph (0 ∷ 1 ∷ 5 ∷ 1 ∷ 1 ∷ 2 ∷ 0 ∷ 1 ∷ 1 ∷ replicate 7 7) (l .graph .weights)) (a ∷ b ∷ c ∷ 9 ∷ [])
 
 -- 14 gives O to AB: all three suit its patient, and it suits all three
 abbrev pub fourteen : Pair
@@ -85,10 +85,10 @@ wrongNumbers =
 
 -- from call to call; then with M put in by hand: a withdrawal leaves 0 5 and 0 1 of it, and a registration counts in the M that it builds
 pub record NumbersRun : Type 0 where
-  pub three : after threeCalls exampleRoom .suitable ≡ 2 ∷ 2 ∷ 0 ∷ 3 ∷ []
-  pub two : after fourCalls exampleRoom .suitable ≡ 1 ∷ 0 ∷ 0 ∷ 3 ∷ []
-  pub again : after sevenCalls exampleRoom .suitable ≡ 2 ∷ 0 ∷ 2 ∷ 3 ∷ []
-  pub withdrawn : withdrawing 12 (byHand 1 3 1) .lent .suitable ≡ 0 ∷ 1 ∷ 1 ∷ 3 ∷ []
+  pub three : after threeCalls exampleRoom .suitable ≡ 2 ∷ 2 ∷ 0 ∷ 9 ∷ []
+  pub two : after fourCalls exampleRoom .suitable ≡ 1 ∷ 0 ∷ 0 ∷ 9 ∷ []
+  pub again : after sevenCalls exampleRoom .suitable ≡ 2 ∷ 0 ∷ 2 ∷ 9 ∷ []
+  pub withdrawn : withdrawing 12 (byHand 1 3 1) .lent .suitable ≡ 0 ∷ 1 ∷ 1 ∷ 9 ∷ []
   pub registered : registering fourteen (byHand 1 3 1) .lent .suitable ≡ 3 ∷ 3 ∷ 1 ∷ 3 ∷ []
   pub registers : map (λ l. registering fourteen l .answer) wrongNumbers ≡ replicate 8 (refused 10 0)
   pub withdraws : map (λ l. withdrawing 12 l .answer) wrongNumbers ≡ replicate 8 (refused 10 0)

@@ -1,5 +1,5 @@
 -- What has none of the faults, and what each fault is, said without looking for a first one. Assumes nothing.
-use Prim.Native.Nat.{ℕ, _+_, _≤_, _<_}
+use Prim.Native.Nat.{ℕ, suc, _+_, _≤_, _<_}
 use mathlib.Core.Path.{_≡_}
 use lib.ListN.{length}
 use Rattle.laws.specs.Below.{Some}
@@ -7,9 +7,8 @@ use Rattle.pool.specs.Pool.{Pair}
 use Rattle.pool.specs.Points.{Points}
 use Rattle.pool.specs.Tables.{itemIn}
 use Rattle.pool.specs.Faultless.{SoundPoints, InRange, Unlike, FieldsHold}
-use Rattle.weighing.specs.Promises.{Fit}
+use Rattle.weighing.specs.Promises.{Fit, entryAt}
 use Rattle.live.specs.Live.{Live, weighedBy, pairOf}
-use Rattle.live.specs.Suitable.{onesIn}
 
 -- ## What both calls ask of the pool
 
@@ -20,9 +19,15 @@ pub record TablesKeep (l : Live) : Type 0 where
   pub suitable : l .count ≤ length (l .suitable)
   pub points : 6 ≤ length (l .points)
 
--- the number stored with patient j "equals the ones in that patient's column of M", whatever M is
+-- k of the numbers below n have P, and the others don't: with no test that decides it, and no sum
+pub data HowMany (P : ℕ → Type 0) : ℕ → ℕ → Type 0 where
+  empty : HowMany P 0 0
+  counted : (n k : ℕ) → HowMany P n k → P n → HowMany P (suc n) (suc k)
+  passed : (n k : ℕ) → HowMany P n k → (P n → ⊥) → HowMany P (suc n) k
+
+-- the number stored with patient j "equals the ones in that patient's column of M", whatever M is: so many entries of the column are 1
 abbrev pub TrueNumber : Live → ℕ → Type 0
-TrueNumber l j = itemIn (l .suitable) j ≡ onesIn (l .count) (l .graph .compatibilities) j
+TrueNumber l j = HowMany (λ i. entryAt (l .graph .compatibilities) (l .count) i j ≡ 1) (l .count) (itemIn (l .suitable) j)
 
 abbrev pub TrueNumbers : Live → Type 0
 TrueNumbers l = (j : ℕ) → j < l .count → TrueNumber l j

@@ -21,18 +21,24 @@ startFault given points = pointsFault 0 given then roomFault points registryPoin
 unfoldable pub graphFault : ℕ → ℕ → ℕ → Fault
 graphFault n compatibilities weights = roomFault compatibilities (n * n) then roomFault weights (n * n)
 
--- "Both calls refuse 4 for a lent count above 200, 9 where a lent table can't hold that count or the points, then 14": n is the count, `space` the entries of
--- the shortest table with one for each pair, the next two those of M and W
-unfoldable pub keptFault : ℕ → ℕ → ℕ → ℕ → List ℕ → Fault
-keptFault n space compatibilities weights points =
+-- "Both calls refuse 4 for a lent count above 200, 9 where a lent table can't hold that count or the points": n is the count, `space` the entries of the
+-- shortest table with one for each pair, the next two those of M and W
+unfoldable pub sizesFault : ℕ → ℕ → ℕ → ℕ → List ℕ → Fault
+sizesFault n space compatibilities weights points =
     refuse 4 0 (ltb 200 n)
     then tablesFault liveVersion n space points
     then graphFault n compatibilities weights
-    then pointsFault 0 (pointsOfTable liveVersion points)
 
--- "Both calls refuse 10, directly after 14, where a stored number isn't the ones in its column": n numbers t, and M
+-- 10 "where a stored number isn't the ones in its column": n numbers t, and M
 unfoldable pub numbersFault : ℕ → List ℕ → List ℕ → Fault
 numbersFault n m t = firstBelow n (λ j. refuse 10 0 (not (eqb (itemIn t j) (onesIn n m j))))
+
+-- 4, 9, "then 14", and 10 "directly after 14"
+unfoldable pub storedFault : ℕ → ℕ → List ℕ → ℕ → List ℕ → List ℕ → Fault
+storedFault n space m weights points numbers =
+    sizesFault n space (length m) weights points
+    then pointsFault 0 (pointsOfTable liveVersion points)
+    then numbersFault n m numbers
 
 -- "6 over all pairs, stored ones and the new one"
 abbrev pub groupsFault : Pair → Fault
@@ -52,18 +58,16 @@ moreFault n space compatibilities weights =
 
 -- ## The calls, on the pool l
 
-abbrev pub storedFault : Live → Fault
-storedFault l =
-    keptFault (l .count) (pairRoom l) (length (l .graph .compatibilities)) (length (l .graph .weights)) (l .points)
-    then numbersFault (l .count) (l .graph .compatibilities) (l .suitable)
+abbrev pub keptFault : Live → Fault
+keptFault l = storedFault (l .count) (pairRoom l) (l .graph .compatibilities) (length (l .graph .weights)) (l .points) (l .suitable)
 
 unfoldable pub registerFault : Pair → Live → Fault
 registerFault p l =
-    storedFault l
+    keptFault l
     then rangeFault (l .count) (pairOf l) p
     then likeFault (l .count) (pairOf l) p
     then moreFault (l .count) (pairRoom l) (length (l .graph .compatibilities)) (length (l .graph .weights))
 
 -- "withdrawing refuses 16 where the id isn't in the pool"
 unfoldable pub withdrawFault : ℕ → Live → Fault
-withdrawFault id l = storedFault l then refuse 16 0 (not (anyBelow (l .count) (λ j. eqb (pairOf l j .id) id)))
+withdrawFault id l = keptFault l then refuse 16 0 (not (anyBelow (l .count) (λ j. eqb (pairOf l j .id) id)))

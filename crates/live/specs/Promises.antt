@@ -21,7 +21,7 @@ use Rattle.weighing.specs.Building.{building}
 use Rattle.weighing.specs.Promises.{Fit, Entries, Plannable, entryAt}
 use Rattle.live.specs.Live.{Live, live, liveVersion, weighedBy, pairOf, pairsOf}
 use Rattle.live.specs.Calls.{Beginning, inOrder, starting, registering, withdrawing}
-use Rattle.live.specs.Faultless.{TrueNumbers, StartFault, Registrable, RegisterFault, OneMoreFits, Withdrawable, WithdrawFault}
+use Rattle.live.specs.Faultless.{HowMany, TrueNumbers, StartFault, Registrable, RegisterFault, OneMoreFits, Withdrawable, WithdrawFault}
 use Rattle.live.specs.Lists.{Call, after, trace, held}
 
 -- ## "Past the new count's entries nothing changes", and no table changes its length
@@ -146,17 +146,11 @@ pub record OnASheet (l : Live) (ps : List Pair) (s out : List ℕ) (other : Tabl
       (graph (filled (take (l .count * l .count) (l .graph .compatibilities)) (g .compatibilities))
       (filled (take (l .count * l .count) (l .graph .weights)) (g .weights)))
 
--- "How many donors suit each patient", with no M: k of the numbers below n have P, and the others don't, with no test that decides it and no sum
-pub data HowMany (P : ℕ → Type 0) : ℕ → ℕ → Type 0 where
-  empty : HowMany P 0 0
-  counted : (n k : ℕ) → HowMany P n k → P n → HowMany P (suc n) (suc k)
-  passed : (n k : ℕ) → HowMany P n k → (P n → ⊥) → HowMany P (suc n) k
-
--- of no other number
+-- so many, and no other number
 abbrev pub NoOtherNumber : Type 1
 NoOtherNumber = (P : ℕ → Type 0) (n k other : ℕ) → HowMany P n k → HowMany P n other → other ≡ k
 
--- the number stored with each patient is that of the pairs whose donor suits, by document 01's words for compatibility
+-- "How many donors suit each patient", with no M: the number stored with each is that of the pairs whose donor suits, by document 01's words for compatibility
 abbrev pub SuitedBySoMany : Live → Type 0
 SuitedBySoMany l = (j : ℕ) → j < l .count → HowMany (λ i. Compatible (pairOf l) i j) (l .count) (itemIn (l .suitable) j)
 
@@ -229,13 +223,13 @@ pub record AnswersBy (ps : List Pair) (l : Live) : Type 0 where
 abbrev pub LiveAnswers : Type 0
 LiveAnswers = (l : Live) (calls : List Call) → Empty l → AnswersBy (held (trace calls l)) (after calls l)
 
--- in such a pool no number is ever refused, by whatever call
-pub record NoNumberRefused (l : Live) : Type 0 where
+-- in such a pool neither call ever refuses 10
+pub record NeitherRefusesTen (l : Live) : Type 0 where
   pub registers : (p : Pair) (place : ℕ) → registering p l .answer ≡ refused 10 place → ⊥
   pub withdraws : (id place : ℕ) → withdrawing id l .answer ≡ refused 10 place → ⊥
 
 abbrev pub NeverTen : Type 0
-NeverTen = (l : Live) (calls : List Call) → Empty l → NoNumberRefused (after calls l)
+NeverTen = (l : Live) (calls : List Call) → Empty l → NeitherRefusesTen (after calls l)
 
 -- "an id withdrawn may register again"
 abbrev pub MayReturn : Type 0

@@ -6,7 +6,7 @@ use Rattle.laws.specs.Below.{table, countBelow}
 use Rattle.laws.specs.Lent.{filled}
 use Rattle.pool.specs.Tables.{itemIn}
 
--- "the ones in that patient's column of M": M is n rows of n, row i is donor i's, and column j is patient j's. An entry 2 is no one
+-- "the ones in that patient's column of M": M is n rows of n, row i is donor i's, and column j is patient j's. An entry 2 is not a one
 unfoldable pub onesIn : ℕ → List ℕ → ℕ → ℕ
 onesIn n m j = countBelow n (λ i. eqb (itemIn m (i * n + j)) 1)
 

@@ -19,7 +19,7 @@ use Rattle.graph.specs.Preconditions.{Buildable}
 use Rattle.weighing.proofs.Promised.{idless, buildable, filled-whole}
 use Rattle.live.specs.Live.{Live, live, liveVersion, weighedBy, pairOf, pairRoom}
 use Rattle.live.specs.Suitable.{withNumbers}
-use Rattle.live.specs.Faults.{keptFault, numbersFault, rangeFault, likeFault, moreFault, registerFault}
+use Rattle.live.specs.Faults.{storedFault, rangeFault, likeFault, moreFault, registerFault}
 use Rattle.live.specs.Calls.{withPair, registered, registering}
 use Rattle.live.specs.Answers.{answerOf}
 use Rattle.live.specs.declared.Change.the-variants.{Done, Refused}
@@ -57,8 +57,7 @@ module _ (p : Pair) (l : Live) (f : Fields) (stored : f ≡ withPair (l .count) 
 
 module _ (p : Pair) (l : Live) (space : ℕ) (s : space ≡ pairRoom l) (found : Verdict)
     (e : faultAt 0 found
-    ≡ ((keptFault (l .count) space (length (l .graph .compatibilities)) (length (l .graph .weights)) (l .points)
-    then numbersFault (l .count) (l .graph .compatibilities) (l .suitable))
+    ≡ (storedFault (l .count) space (l .graph .compatibilities) (length (l .graph .weights)) (l .points) (l .suitable)
     then rangeFault (l .count) (pairOf l) p
     then likeFault (l .count) (pairOf l) p
     then moreFault (l .count) space (length (l .graph .compatibilities)) (length (l .graph .weights)))) where

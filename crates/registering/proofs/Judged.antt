@@ -6,6 +6,7 @@ use Prim.Native.Nat.{ℕ, _+_, _≤_, _<_}
 use native.Mathlib.Nat.{le-trans}
 use borrow.Author.Tests.{lt-ltb, eq-eqb, ne-eqb}
 use lib.Dec.{eqb}
+use lib.ListN.{length}
 use Rattle.laws.specs.Below.{anyBelow}
 use Rattle.refusal.specs.Fault.{Fault, _then_, firstBelow}
 use Rattle.refusal.specs.Number.{faultAt}
@@ -13,12 +14,13 @@ use Rattle.refusal.specs.declared.Refusal.{Refusal}
 use Rattle.refusal.specs.declared.Refusal.the-variants.{RepeatedId, TooManyTogether, TooShort}
 use Rattle.refusal.specs.declared.Verdict.{Verdict}
 use Rattle.refusal.specs.declared.Verdict.the-variants.{Sound, Faulty}
-use Rattle.refusal.proofs.Faults.{none-then, fault-then, then-assoc, none-refuse, fault-refuse, sound-none, faulty-fault, sound-then, faulty-then}
+use Rattle.refusal.proofs.Faults.{then-none, none-then, fault-then, then-assoc, none-refuse, fault-refuse, sound-none, faulty-fault, sound-then, faulty-then}
 use Rattle.pool.specs.Pool.{Pair}
 use Rattle.pool.specs.Faults.{idFault, roomFault}
 use Rattle.pool.proofs.Reading.{room-none}
 use Rattle.checks.specs.Preconditions.{TablesHaveRoom}
-use Rattle.live.specs.Faults.{graphFault, groupsFault, rangeFault, likeFault, moreFault}
+use Rattle.live.specs.Faults.{graphFault, storedFault, groupsFault, rangeFault, likeFault, moreFault}
+use Rattle.keeping.proofs.Found.{sizes-passed}
 
 -- ## 6 and 7 over all pairs: what was found of the groups of the stored ones, of the new one's, and of the stored ids
 
@@ -86,6 +88,14 @@ module _ (K R L M : Fault) (kept : Verdict) (e : faultAt 0 kept ≡ K) where
 
     pub judged-more : pairs ≡ Sound → (more : Verdict) → faultAt 0 more ≡ M → faultAt 0 more ≡ (K then R then L then M)
     judged-more g more h = sound-then 0 kept _ _ e s (sound-then 0 pairs _ M f g h ∙ then-assoc R L M)
+
+-- what 4, 9, 14 and 10 let pass is at most 200, and fits the tables with an entry for each pair
+pub stored-fits : (n space : ℕ) (m : List ℕ) (weights : ℕ) (points numbers : List ℕ) (found : Verdict)
+    → faultAt 0 found ≡ storedFault n space m weights points numbers → found ≡ Sound → (n ≤ 200) × (n ≤ space)
+unfolding storedFault
+stored-fits n space m weights points numbers found e g =
+    let s = sizes-passed n space (length m) weights points (then-none _ _ (sound-none 0 found e g) .0) in
+    (s .0, s .1)
 
 -- tables with room for `space` have room for fewer
 pub room-fewer : (n space : ℕ) {ids donorBlood patientBlood donorAge patientAge : List ℕ} → n ≤ space

@@ -1,4 +1,4 @@
-// Registering a pair in a live pool (document 02, W-206). All is checked before anything is filled, so that a refusal leaves every table and the count as they
+// Registering a pair in a live pool (document 02, W-206 and W-207). All is checked before anything is filled, so that a refusal leaves every table and the count as they
 // were.
 use live::Change;
 use live::Pair;
@@ -16,7 +16,7 @@ ghost use Rattle.pool.specs.Lent.{fieldsNow, lentFields};
 ghost use Rattle.pool.specs.Faultless.{FieldsHold};
 ghost use Rattle.graph.specs.Lent.{graphNow, lentGraph};
 ghost use Rattle.checks.specs.Preconditions.{TablesHaveRoom};
-ghost use Rattle.live.specs.Faults.{keptFault, numbersFault, rangeFault, likeFault, moreFault};
+ghost use Rattle.live.specs.Faults.{storedFault, rangeFault, likeFault, moreFault};
 ghost use Rattle.live.specs.Live.{live};
 ghost use Rattle.live.specs.Faultless.{Registrable};
 ghost use Rattle.live.specs.Calls.{withPair, registered, registering};
@@ -107,8 +107,8 @@ fn judge(
         → let stored = pairIn (fields (now (ids .entry)) (now («donor_blood» .entry)) (now («patient_blood» .entry)) (now («donor_age» .entry))
         (now («patient_age» .entry)) f g h) in
         let m = now (compatibilities .entry) in
-        faultAt 0 r ≡ ((keptFault n space (length m) weights (now (points .entry)) then numbersFault n m (now (suitable .entry)))
-        then rangeFault n stored (named pair) then likeFault n stored (named pair) then moreFault n space (length m) weights)) ⌝ }
+        faultAt 0 r ≡ (storedFault n space m weights (now (points .entry)) (now (suitable .entry)) then rangeFault n stored (named pair)
+        then likeFault n stored (named pair) then moreFault n space (length m) weights)) ⌝ }
 {
     match keeping::judge(n, space, compatibilities, weights, suitable, points) {
         Verdict::Faulty(why) => {

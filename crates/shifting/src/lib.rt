@@ -95,7 +95,7 @@ fn row_u16(t: &mut [u16], to: usize, from: usize, a: usize, m: usize)
 }
 
 // Where a row stood before row a went.
-pub fn row_before(a: usize, i: usize) -> usize
+pub fn place_before(a: usize, i: usize) -> usize
     requires { ⌜ i < 200 ⌝ }
     ensures { λ r. ⌜ r ≡ up a i ⌝ }
 {
@@ -110,7 +110,7 @@ pub fn without_row_u8(t: &mut [u8], a: usize, n: usize)
     let m = n - 1;
     let mut i: usize = 0;
     while i < m {
-        row_u8(t, i * m, row_before(a, i) * n, a, m);
+        row_u8(t, i * m, place_before(a, i) * n, a, m);
         i += 1;
     }
 }
@@ -122,7 +122,7 @@ pub fn without_row_u16(t: &mut [u16], a: usize, n: usize)
     let m = n - 1;
     let mut i: usize = 0;
     while i < m {
-        row_u16(t, i * m, row_before(a, i) * n, a, m);
+        row_u16(t, i * m, place_before(a, i) * n, a, m);
         i += 1;
     }
 }

@@ -19,7 +19,7 @@ use Rattle.live.specs.Suitable.{onesIn, withNumbers}
 use Rattle.live.proofs.Tables.{filled-over, filled-past, up-before, up-from, up-below}
 use Rattle.live.proofs.Suitable.{numbers-there, ones-without}
 use Rattle.suiting.specs.Counted.{onesAbove}
-use Rattle.suiting.specs.Preconditions.{Countable, CountedAbove, Numbered}
+use Rattle.suiting.specs.Preconditions.{Countable, CountedAbove, Lowerable}
 
 -- what stands past the entries that are filled
 filling-past : (j k : ℕ) (f : ℕ → ℕ) (old t : List ℕ) → Filling j f old t → j ≤ k → itemIn t k ≡ itemIn old k
@@ -118,7 +118,7 @@ up-least a j = go (decLt j a)
     go (yes k) = omega (arith, up-before a j k)
     go (no k) = omega (arith, up-from a j (omega arith))
 
-module _ (a n : ℕ) (m old : List ℕ) (w : Numbered a n m old) (j : ℕ) (l : j < n - 1) (t : List ℕ)
+module _ (a n : ℕ) (m old : List ℕ) (w : Lowerable a n m old) (j : ℕ) (l : j < n - 1) (t : List ℕ)
     (v : Filling j (onesIn (n - 1) (withoutRow a n m)) old t) (before : ℕ) (e : before ≡ up a j) where
   pub before-inside : before < n
   before-inside = rw e (up-below a n j l)

@@ -20,7 +20,7 @@ pub record CountedAbove (i n : ℕ) (m t : List ℕ) : Type 0 where
   pub counted : (j : ℕ) → j < n → itemIn t j ≡ onesAbove i n m j
 
 -- the numbers are the ones in their columns, and a is one of the pairs
-pub record Numbered (a n : ℕ) (m t : List ℕ) : Type 0 where
+pub record Lowerable (a n : ℕ) (m t : List ℕ) : Type 0 where
   pub tables : Countable n m t
   pub inside : a < n
   pub numbered : (j : ℕ) → j < n → itemIn t j ≡ onesIn n m j

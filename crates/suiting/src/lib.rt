@@ -16,7 +16,7 @@ ghost use Rattle.live.specs.Suitable.{withNumbers};
 ghost use Rattle.live.specs.Faults.{numbersFault};
 ghost use Rattle.live.specs.Calls.{withoutRow};
 ghost use Rattle.suiting.specs.Counted.{onesAbove};
-ghost use Rattle.suiting.specs.Preconditions.{Countable, CountedAbove, Numbered};
+ghost use Rattle.suiting.specs.Preconditions.{Countable, CountedAbove, Lowerable};
 
 // 1 where an entry of M is a one; an entry 2 is none.
 fn one_of(entry: u8) -> u16
@@ -92,7 +92,7 @@ pub fn judge(n: usize, compatibilities: &[u8], suitable: &[u16]) -> Verdict
 
 // Pair a of n goes, while M still has its row: each number moves to its patient's new place, less by one where donor a suits that patient.
 pub fn take_out(a: usize, n: usize, compatibilities: &[u8], suitable: &mut [u16])
-    requires { ⌜ Numbered a n (now compatibilities) (now suitable) ⌝ }
+    requires { ⌜ Lowerable a n (now compatibilities) (now suitable) ⌝ }
     ensures { λ _.
         ⌜ now (suitable .exit) ≡ withNumbers (n - 1) (withoutRow a n (now (compatibilities .entry))) (now (suitable .entry)) ⌝ }
 {
@@ -100,7 +100,7 @@ pub fn take_out(a: usize, n: usize, compatibilities: &[u8], suitable: &mut [u16]
     let m = n - 1;
     let mut j: usize = 0;
     while j < m {
-        let before = shifting::row_before(a, j);
+        let before = shifting::place_before(a, j);
         suitable[j] = suitable[before] - one_of(compatibilities[start + before]);
         j += 1;
     }

@@ -1,4 +1,4 @@
-// A live pool from call to call: the run of W-206's page with its tables after each call, each refusal and what comes first of two, tables that a caller
+// A live pool from call to call: a run of document 02's W-206 and W-207 with its tables after each call, each refusal and what comes first of two, tables that a caller
 // changed, and two hundred pairs. What it prints is held to the file 'stdout', which is what the planner in Rust prints (trial/examples/lives.rs).
 use live::Change;
 use live::Pair;
@@ -275,7 +275,7 @@ fn of_blood(id: u32, donor_blood: u8, patient_blood: u8) -> Pair {
     }
 }
 
-// The page's three pairs: document 01's, A to B and B to A; and O to O, with a senior donor who has three antigens.
+// The run's three pairs: document 01's, A to B and B to A; and O to O, with a senior donor who has three antigens.
 fn eleven() -> Pair {
     of_blood(11, 1, 2)
 }
@@ -421,9 +421,9 @@ fn withdraw_shown(pool: Pool, id: u32) -> Pool {
     left
 }
 
-// The page's run, with the tables after each call.
-fn try_page() {
-    print(b"# The page's run\nstart");
+// A run, with the tables after each call.
+fn try_run() {
+    print(b"# A run\nstart");
     let mut pool = started();
     print_left(pool);
     print_held(pool);
@@ -494,7 +494,7 @@ const SECOND_BLOOD: usize = 8;
 
 const SECOND_NUMBER: usize = 9;
 
-// The page's first two pairs, with what the row says.
+// The run's first two pairs, with what the row says.
 struct Row {
     numbers: [u16; 10],
 }
@@ -681,7 +681,7 @@ fn try_twice() {
     print(b"\n");
 }
 
-// The page's three pairs, with M changed from 0 1 0, 1 0 0, 1 1 0 to 0 1 5, 1 1 2, 0 1 1, and with these numbers.
+// The run's three pairs, with M changed from 0 1 0, 1 0 0, 1 1 0 to 0 1 5, 1 1 2, 0 1 1, and with these numbers.
 fn by_hand(numbers: [u16; 3]) -> Pool {
     let mut pool = started().with(eleven()).with(twelve()).with(thirteen());
     pool.m[2] = 5;
@@ -809,7 +809,7 @@ fn try_many() {
 }
 
 fn main() {
-    try_page();
+    try_run();
     print(b"# Each refusal\n");
     try_starts();
     try_pools();

@@ -191,7 +191,7 @@ pub extern "C" fn vadivuzhen_start(
     numbers::live_numbers(keeping::start(given, points, count))
 }
 
-// Registers a pair at the end of a live pool, and builds its tables anew.
+// Registers a pair at the end of a live pool, builds its tables anew, and counts each patient's donors in them.
 #[no_mangle]
 pub extern "C" fn vadivuzhen_register(
     count: &mut usize,
@@ -236,7 +236,7 @@ pub extern "C" fn vadivuzhen_register(
     numbers::live_numbers(answer)
 }
 
-// Withdraws the first pair of a live pool that has this id, with its row and its column.
+// Withdraws the first pair of a live pool that has this id, with its row, its column, and its donor in the others' numbers.
 #[no_mangle]
 pub extern "C" fn vadivuzhen_withdraw(
     count: &mut usize,

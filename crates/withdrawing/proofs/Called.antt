@@ -5,7 +5,6 @@ use mathlib.Core.List.{List}
 use Prim.Native.Nat.{ℕ, _-_}
 use lib.ListN.{length}
 use Rattle.laws.specs.Below.{anyBelow}
-use Rattle.refusal.specs.Fault.{_then_}
 use Rattle.refusal.specs.Answer.{finished, outcome}
 use Rattle.refusal.specs.Number.{numberOf, faultAt}
 use Rattle.refusal.specs.declared.Refusal.{Refusal}
@@ -17,25 +16,24 @@ use Rattle.pool.specs.Tables.{Fields, itemIn, pairIn}
 use Rattle.graph.specs.Graph.{Graph, graph}
 use Rattle.live.specs.Live.{Live, live, pairRoom}
 use Rattle.live.specs.Suitable.{withNumbers}
-use Rattle.live.specs.Faults.{keptFault, numbersFault, storedFault, withdrawFault}
+use Rattle.live.specs.Faults.{storedFault, keptFault, withdrawFault}
 use Rattle.live.specs.Faultless.{Kept}
 use Rattle.live.specs.Calls.{placeOf, withoutPair, withoutRow, withoutAt, withdrawing}
 use Rattle.live.specs.Answers.{answerOf}
 use Rattle.live.specs.declared.Change.the-variants.{Done, Refused}
 use Rattle.live.proofs.Faults.{kept-passed}
 use Rattle.live.proofs.Tables.{place-found}
+use Rattle.live.proofs.Suitable.{true-number}
 use Rattle.withdrawing.specs.Preconditions.{OneOf}
 use Rattle.withdrawing.proofs.Places.{same, place-there, none-there}
 
 -- what `judge` found, of tables of which the shortest has so many entries
 pub found-stored : (l : Live) (space : ℕ) (found : Verdict) → space ≡ pairRoom l
-    → faultAt 0 found
-    ≡ (keptFault (l .count) space (length (l .graph .compatibilities)) (length (l .graph .weights)) (l .points)
-    then numbersFault (l .count) (l .graph .compatibilities) (l .suitable))
-    → faultAt 0 found ≡ storedFault l
+    → faultAt 0 found ≡ storedFault (l .count) space (l .graph .compatibilities) (length (l .graph .weights)) (l .points) (l .suitable)
+    → faultAt 0 found ≡ keptFault l
 found-stored l space found r e = rw r at e
 
-module _ (x : ℕ) (l : Live) (found : Verdict) (e : faultAt 0 found ≡ storedFault l) where
+module _ (x : ℕ) (l : Live) (found : Verdict) (e : faultAt 0 found ≡ keptFault l) where
   pub call-refused : (why : Refusal) → found ≡ Faulty why → outcome (answerOf (Refused why)) l ≡ withdrawing x l
   unfolding withdrawing withdrawFault answerOf
   call-refused why h = sym (unless-fault _ tt _ l (numberOf why) 0 (fault-then _ _ (faulty-fault 0 found e why h)))
@@ -60,13 +58,14 @@ module _ (x : ℕ) (l : Live) (found : Verdict) (e : faultAt 0 found ≡ storedF
         pub call-one : OneOf a (l .count) (l .fields) (l .graph) (l .suitable)
         call-one =
             record {
-              inside = rw p (place-found _ _ _ there .below);
-              few = call-kept .few;
+              numbers =
+                  record {
+                    tables = record { few = call-kept .few; rows = call-kept .keep .graph .compatibilities; numbers = call-kept .keep .suitable };
+                    inside = rw p (place-found _ _ _ there .below);
+                    numbered = λ j k. true-number (l .count) (l .graph .compatibilities) j _ (call-kept .numbers j k);
+                  };
               fields = call-kept .keep .fields;
-              inCompatibilities = call-kept .keep .graph .compatibilities;
-              inWeights = call-kept .keep .graph .weights;
-              inNumbers = call-kept .keep .suitable;
-              numbered = call-kept .numbers;
+              weights = call-kept .keep .graph .weights;
             }
 
         pub call-withdrawn : (f : Fields) (g : Graph) (s : List ℕ) → f ≡ withoutPair a (l .count) (l .fields)

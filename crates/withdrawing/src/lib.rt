@@ -1,4 +1,4 @@
-// Withdrawing a pair from a live pool (document 02, W-206). All is checked before anything is moved, so that a refusal leaves every table and the count as they
+// Withdrawing a pair from a live pool (document 02, W-206 and W-207). All is checked before anything is moved, so that a refusal leaves every table and the count as they
 // were.
 use live::Change;
 use refusal::Refusal;
@@ -33,7 +33,7 @@ fn place_of(ids: &[u32], n: usize, id: u32) -> usize
     n
 }
 
-// Pair a of n goes out of the tables: its number and those that count its donor, its fields, and its row and column of M and W.
+// Pair a of n goes out of the tables: its number, and its donor out of the others', its fields, and its row and column of M and W.
 fn take_out(
     a: usize,
     n: usize,
@@ -73,7 +73,8 @@ fn take_out(
     shifting::without_row_u16(weights, a, n);
 }
 
-// Withdraws the first pair with this id; the later ones move down by one. Of M and W, whatever they hold, one row and one column are taken out.
+// Withdraws the first pair with this id; the later ones move down by one. Of M and W, whatever they hold, one row and one column are taken out, and
+// each number is the ones in its column of what is left of M.
 pub fn withdraw(
     count: &mut usize,
     points: &[u16],

@@ -1,8 +1,6 @@
 -- `registering::judge` meets its contract. Assumes nothing.
 use borrow.Author.Needs.{needs}
-use Rattle.refusal.proofs.Faults.{then-none, sound-none}
-use Rattle.keeping.proofs.Found.{kept-fits}
-use Rattle.registering.proofs.Judged.{judged-kept, judged-pairs, judged-more, room-fewer}
+use Rattle.registering.proofs.Judged.{stored-fits, judged-kept, judged-pairs, judged-more, room-fewer}
 use Rattle.registering.proofs.judge.Statement.{statement}
 use Rattle.registering.proofs.judge.Tie as tie
 
@@ -17,13 +15,13 @@ returns c f g h =
 pairs-requires : tie.Need-pairs-requires
 pairs-requires c κs =
     let k = c .before .before in
-    room-fewer _ _ (kept-fits _ _ _ _ _ (then-none _ _ (sound-none 0 (k .judge .result) (k .judge .ensures) (c .enum-told .given .1)) .0) .1) (start k .pre .0)
+    room-fewer _ _ (stored-fits _ _ _ _ _ _ (k .judge .result) (k .judge .ensures) (c .enum-told .given .1) .1) (start k .pre .0)
 
 more-requires : tie.Need-more-requires
 more-requires c κs =
     let told = c .before .before .before in
     let k = told .before .before in
-    kept-fits _ _ _ _ _ (then-none _ _ (sound-none 0 (k .judge .result) (k .judge .ensures) (told .enum-told .given .1)) .0) .0
+    stored-fits _ _ _ _ _ _ (k .judge .result) (k .judge .ensures) (told .enum-told .given .1) .0
 
 returns-2 : tie.Need-returns-2
 returns-2 c f g h =

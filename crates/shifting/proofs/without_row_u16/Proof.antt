@@ -26,14 +26,14 @@ mul-row-u16 c = few-fit (omega arith) (omega arith)
 mul-row-u16-2 : tie.Need-mul-row-u16-2 Inv-loop μ-loop
 mul-row-u16-2 c =
     let t = c .before .before in
-    let r = row-inside _ _ (c .row-before .ensures) (t .loop-test .taken) in
+    let r = row-inside _ _ (c .place-before .ensures) (t .loop-test .taken) in
     few-fit (omega arith) (omega arith)
 
 row-u16-requires : tie.Need-row-u16-requires Inv-loop μ-loop
 row-u16-requires c κs =
     let t = c .before .before in
     let v = t .before .loop .inv in
-    let e = c .row-before .ensures in
+    let e = c .place-before .ensures in
     let r = row-fits (row-inside _ _ e (t .loop-test .taken)) in
     (record { later = mul-le-mul (row-later _ _ e) (omega arith); inside = omega (arith, v .1 .fits, v .2 .kept) }, omega arith)
 
@@ -44,7 +44,7 @@ loop-again c =
     let t = b .before .before in
     let l = t .before .loop in
     let v = l .inv in
-    (omega arith, v .1, row-more _ _ (l .i) _ _ (l .t) _ (v .1) (t .loop-test .taken) (b .row-before .ensures) (v .2) (m .row-u16 .ensures))
+    (omega arith, v .1, row-more _ _ (l .i) _ _ (l .t) _ (v .1) (t .loop-test .taken) (b .place-before .ensures) (v .2) (m .row-u16 .ensures))
 
 same-length : tie.Need-same-length Inv-loop μ-loop
 same-length c = c .before .loop .inv .2 .kept

@@ -1,6 +1,5 @@
 -- `suiting::one_of` meets its contract. Assumes nothing.
 use mathlib.Core.Path.{sym, ap}
-use mathlib.Core.Bool.{Bool}
 use borrow.Author.Tests.{eq-eqb, ne-eqb}
 use Rattle.laws.specs.Below.{one}
 use Rattle.suiting.proofs.one_of.Statement.{statement}

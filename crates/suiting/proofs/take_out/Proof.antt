@@ -7,14 +7,14 @@ use Rattle.laws.proofs.Lent.{Filling, filling-none, filling-all}
 use Rattle.graph.proofs.Rows.{row-fits, rows-few}
 use Rattle.live.specs.Calls.{withoutRow}
 use Rattle.live.specs.Suitable.{onesIn, withNumbers}
-use Rattle.suiting.specs.Preconditions.{Numbered}
+use Rattle.suiting.specs.Preconditions.{Lowerable}
 use Rattle.suiting.proofs.Counting.{before-inside, number-least, number-more}
 use Rattle.suiting.proofs.take_out.Statement.{statement}
 use Rattle.suiting.proofs.take_out.Tie as tie
 
 abbrev Inv-loop : tie.InvT-loop
 Inv-loop a n compatibilities suitable₀ start m j₀ suitable j =
-    (j ≤ n - 1) × Numbered a n compatibilities suitable₀ × Filling j (onesIn (n - 1) (withoutRow a n compatibilities)) suitable₀ suitable
+    (j ≤ n - 1) × Lowerable a n compatibilities suitable₀ × Filling j (onesIn (n - 1) (withoutRow a n compatibilities)) suitable₀ suitable
 
 abbrev μ-loop : tie.MeasureT-loop
 μ-loop a n compatibilities suitable₀ start m j₀ suitable j = m - j
@@ -30,20 +30,20 @@ sub-m c = omega (arith, c .before .before .pre .inside)
 loop-holds : tie.Need-loop-holds Inv-loop μ-loop
 loop-holds c = (omega arith, c .before .before .pre, filling-none _ _)
 
-row-before-requires : tie.Need-row-before-requires Inv-loop μ-loop
-row-before-requires c κs = omega (arith, c .loop-test .taken, c .before .loop .inv .1 .tables .few)
+place-before-requires : tie.Need-place-before-requires Inv-loop μ-loop
+place-before-requires c κs = omega (arith, c .loop-test .taken, c .before .loop .inv .1 .tables .few)
 
 -- moments, each seen from a later one
-abbrev start : tie.After-row-before Inv-loop μ-loop → tie.Start Inv-loop μ-loop
+abbrev start : tie.After-place-before Inv-loop μ-loop → tie.Start Inv-loop μ-loop
 start c = c .before .before .before .before .before
 
-abbrev found : tie.After-one-of Inv-loop μ-loop → tie.After-row-before Inv-loop μ-loop
+abbrev found : tie.After-one-of Inv-loop μ-loop → tie.After-place-before Inv-loop μ-loop
 found c = c .before .before .before
 
-inside : (c : tie.After-row-before Inv-loop μ-loop) → c .row-before .result < start c .args .n
+inside : (c : tie.After-place-before Inv-loop μ-loop) → c .place-before .result < start c .args .n
 inside c =
     let l = c .before .before .loop in
-    before-inside _ _ _ _ (l .inv .1) (l .j) (c .before .loop-test .taken) (l .suitable) (l .inv .2) _ (c .row-before .ensures)
+    before-inside _ _ _ _ (l .inv .1) (l .j) (c .before .loop-test .taken) (l .suitable) (l .inv .2) _ (c .place-before .ensures)
 
 mul-suitable : tie.Need-mul-suitable Inv-loop μ-loop
 mul-suitable c = omega (arith, inside c, c .before .before .loop .inv .1 .tables .few)
@@ -67,7 +67,7 @@ sub-suitable : tie.Need-sub-suitable Inv-loop μ-loop
 sub-suitable c =
     let r = found c in
     let l = r .before .before .loop in
-    number-least _ _ _ _ (l .inv .1) (l .j) (r .before .loop-test .taken) (l .suitable) (l .inv .2) _ (r .row-before .ensures) _ (c .one-of .ensures)
+    number-least _ _ _ _ (l .inv .1) (l .j) (r .before .loop-test .taken) (l .suitable) (l .inv .2) _ (r .place-before .ensures) _ (c .one-of .ensures)
 
 slice-write-suitable : tie.Need-slice-write-suitable Inv-loop μ-loop
 slice-write-suitable c =
@@ -82,7 +82,7 @@ loop-again c =
     let v = l .inv in (
       omega arith,
       v .1,
-      number-more _ _ _ _ (v .1) (l .j) (r .before .loop-test .taken) (l .suitable) (v .2) _ (r .row-before .ensures) _ (c .one-of .ensures),
+      number-more _ _ _ _ (v .1) (l .j) (r .before .loop-test .taken) (l .suitable) (v .2) _ (r .place-before .ensures) _ (c .one-of .ensures),
     )
 
 same-length : tie.Need-same-length Inv-loop μ-loop
@@ -97,5 +97,5 @@ returns c =
 pub take-out-spec : {M : Type 1} → statement M
 take-out-spec =
     tie.close
-    (tie.spec Inv-loop μ-loop mul-start sub-m loop-holds row-before-requires mul-suitable slice-read-suitable add-one-of shared-slice-read-one-of
+    (tie.spec Inv-loop μ-loop mul-start sub-m loop-holds place-before-requires mul-suitable slice-read-suitable add-one-of shared-slice-read-one-of
     (λ c κs. search needs) sub-suitable (λ c. search needs) slice-write-suitable (λ c. search needs) (λ c. search needs) loop-again same-length returns)

@@ -1,6 +1,5 @@
 -- `withdrawing::take_out` meets its contract. Assumes nothing.
 use mathlib.Core.Path.{ap₂}
-use borrow.Author.Needs.{needs}
 use Rattle.graph.specs.Graph.{graph}
 use Rattle.live.specs.Calls.{withoutPair}
 use Rattle.withdrawing.proofs.take_out.Statement.{statement}
@@ -49,38 +48,57 @@ abbrev first : tie.After-without-entry-u64 → tie.After-take-out
 first c = c .before .before .before .before .before .before .before .before .before .before .before .before .before .before .before .before .before .before .before .before .before .before .before .before
 
 take-out-requires : tie.Need-take-out-requires
-take-out-requires c κs =
-    let p = c .before .before .before .before .before .before .before .before .before .before .before .before .before .pre in
-    record {
-      tables = record { few = p .few; rows = p .inCompatibilities; numbers = p .inNumbers };
-      inside = p .inside;
-      numbered = p .numbered;
-    }
+take-out-requires c κs = c .before .before .before .before .before .before .before .before .before .before .before .before .before .pre .numbers
+
+without-entry-u32-requires : tie.Need-without-entry-u32-requires
+without-entry-u32-requires c κs =
+    let p = start (c .before .before .before) .pre in
+    record { inside = p .numbers .inside; fits = p .fields .ids }
+
+without-entry-u8-requires : tie.Need-without-entry-u8-requires
+without-entry-u8-requires c κs =
+    let p = start (c .before .before .before .before .before .before .before) .pre in
+    record { inside = p .numbers .inside; fits = p .fields .donorBlood }
+
+without-entry-u8-requires-2 : tie.Need-without-entry-u8-requires-2
+without-entry-u8-requires-2 c κs =
+    let p = start (c .before .before .before .before .before .before .before .before .before .before .before) .pre in
+    record { inside = p .numbers .inside; fits = p .fields .patientBlood }
+
+without-entry-u8-requires-3 : tie.Need-without-entry-u8-requires-3
+without-entry-u8-requires-3 c κs =
+    let p = start (c .before .before .before .before .before .before .before .before .before .before .before .before .before .before .before) .pre in
+    record { inside = p .numbers .inside; fits = p .fields .donorAge }
+
+without-entry-u8-requires-4 : tie.Need-without-entry-u8-requires-4
+without-entry-u8-requires-4 c κs =
+    let p = start (c .before .before .before .before .before .before .before .before .before .before .before .before .before .before .before .before .before .before .before) .pre in
+    record { inside = p .numbers .inside; fits = p .fields .patientAge }
 
 without-entry-u64-requires : tie.Need-without-entry-u64-requires
 without-entry-u64-requires c κs =
     let p = start (c .before .before .before .before .before .before .before .before .before .before .before .before .before .before .before .before .before .before .before .before .before .before .before) .pre in
-    record { inside = p .inside; fits = p .fields .donorAntigens }
+    record { inside = p .numbers .inside; fits = p .fields .donorAntigens }
 
 without-entry-u64-requires-2 : tie.Need-without-entry-u64-requires-2
 without-entry-u64-requires-2 c κs =
     let p = start (first (c .before .before .before)) .pre in
-    record { inside = p .inside; fits = p .fields .patientAntigens }
+    record { inside = p .numbers .inside; fits = p .fields .patientAntigens }
 
 without-entry-u64-requires-3 : tie.Need-without-entry-u64-requires-3
 without-entry-u64-requires-3 c κs =
     let p = start (first (c .before .before .before .before .before .before .before)) .pre in
-    record { inside = p .inside; fits = p .fields .patientAntibodies }
+    record { inside = p .numbers .inside; fits = p .fields .patientAntibodies }
 
 without-row-u8-requires : tie.Need-without-row-u8-requires
 without-row-u8-requires c κs =
     let p = start (first (c .before .before .before .before .before .before .before .before .before .before .before)) .pre in
-    record { inside = p .inside; few = p .few; fits = p .inCompatibilities }
+    record { inside = p .numbers .inside; few = p .numbers .tables .few; fits = p .numbers .tables .rows }
 
 without-row-u16-requires : tie.Need-without-row-u16-requires
 without-row-u16-requires c κs =
     let p = start (first (c .before .before .before .before .before .before .before .before .before .before .before .before .before .before .before)) .pre in
-    record { inside = p .inside; few = p .few; fits = p .inWeights }
+    record { inside = p .numbers .inside; few = p .numbers .tables .few; fits = p .weights }
 
 returns : tie.Need-returns
 unfolding withoutPair
@@ -101,8 +119,8 @@ returns c = (
 pub take-out-spec : {M : Type 1} → statement M
 take-out-spec =
     tie.close
-    (tie.spec take-out-requires (λ c κs. search needs) (λ c κs. search needs) (λ c κs. search needs) (λ c κs. search needs) (λ c κs. search needs)
-    without-entry-u64-requires without-entry-u64-requires-2 without-entry-u64-requires-3 without-row-u8-requires without-row-u16-requires
+    (tie.spec take-out-requires without-entry-u32-requires without-entry-u8-requires without-entry-u8-requires-2 without-entry-u8-requires-3
+    without-entry-u8-requires-4 without-entry-u64-requires without-entry-u64-requires-2 without-entry-u64-requires-3 without-row-u8-requires without-row-u16-requires
     (λ c. ids c .without-entry-u32 .kept .0) (λ c. donor-blood c .without-entry-u8 .kept .0) (λ c. patient-blood c .without-entry-u82 .kept .0)
     (λ c. donor-age c .without-entry-u83 .kept .0) (λ c. patient-age c .without-entry-u84 .kept .0) (λ c. donor-antigens c .without-entry-u64 .kept .0)
     (λ c. patient-antigens c .without-entry-u642 .kept .0) (λ c. patient-antibodies c .without-entry-u643 .kept .0) (λ c. compatibilities c .without-row-u8 .kept .0)

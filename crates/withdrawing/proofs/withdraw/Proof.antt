@@ -7,7 +7,7 @@ use Rattle.refusal.specs.Number.{faultAt}
 use Rattle.pool.specs.Tables.{fieldRoom}
 use Rattle.live.specs.Live.{Live, pairRoom}
 use Rattle.live.specs.Lent.{liveNow}
-use Rattle.live.specs.Faults.{storedFault}
+use Rattle.live.specs.Faults.{keptFault}
 use Rattle.live.proofs.Faults.{room-holds, lesser-pairs}
 use Rattle.live.proofs.Promised.{rightly-withdrawn}
 use Rattle.withdrawing.specs.Preconditions.{OneOf}
@@ -57,7 +57,7 @@ judge-requires c κs =
     let m = c .before .before in
     room-holds (at-first m) (m .lesser .result) (shortest m) .1
 
-found : (c : tie.After-judge) → faultAt 0 (c .judge .result) ≡ storedFault (lent c)
+found : (c : tie.After-judge) → faultAt 0 (c .judge .result) ≡ keptFault (lent c)
 found c = found-stored (lent c) (measured c .lesser .result) (c .judge .result) (shortest (measured c)) (c .judge .ensures)
 
 one : (c : tie.Else1)
@@ -94,7 +94,7 @@ take-out-requires : tie.Need-take-out-requires
 take-out-requires c κs = one (known c)
 
 sub-count : tie.Need-sub-count
-sub-count c = omega (arith, one (known (taken-out c .before)) .inside)
+sub-count c = omega (arith, one (known (taken-out c .before)) .numbers .inside)
 
 returns-3 : tie.Need-returns-3
 returns-3 c =
