@@ -2,21 +2,19 @@
 use mathlib.Core.Path.{_≡_, sym, _∙_}
 use mathlib.Core.List.{List}
 use Prim.Native.Nat.{ℕ, _*_, _≤_, _<_}
-use borrow.Author.Tests.{lt-ltb, le-ltb, ltb-false}
-use lib.ListN.{length}
-use Rattle.refusal.specs.Fault.{none, _then_}
+use borrow.Author.Tests.{lt-ltb, le-ltb}
+use Rattle.refusal.specs.Fault.{_then_}
 use Rattle.refusal.specs.Number.{faultAt}
 use Rattle.refusal.specs.declared.Refusal.{Refusal}
 use Rattle.refusal.specs.declared.Refusal.the-variants.{TooManyPairs, TooShort}
 use Rattle.refusal.specs.declared.Verdict.{Verdict}
 use Rattle.refusal.specs.declared.Verdict.the-variants.{Sound, Faulty}
-use Rattle.refusal.proofs.Faults.{then-none, none-then, fault-then, refuse-none, none-refuse, fault-refuse, sound-then, faulty-then}
-use Rattle.pool.specs.Points.{registryPoints, hasPoints, pointCount}
+use Rattle.refusal.proofs.Faults.{none-then, fault-then, none-refuse, fault-refuse, sound-then, faulty-then}
 use Rattle.pool.specs.Faults.{roomFault, tablesFault}
-use Rattle.pool.proofs.Reading.{room-none, tables-passed}
+use Rattle.pool.proofs.Reading.{room-none}
 use Rattle.live.specs.Live.{liveVersion}
 use Rattle.live.specs.Faults.{graphFault, sizesFault}
-use Rattle.live.proofs.Faults.{graph-none, graph-passed}
+use Rattle.live.proofs.Faults.{graph-none}
 
 -- ## 9 of M and W
 
@@ -53,13 +51,3 @@ module _ (n space compatibilities weights : ℕ) (points : List ℕ) where
     pub sizes-rows : found ≡ Sound → (rows : Verdict) → faultAt 0 rows ≡ graphFault n compatibilities weights
         → faultAt 0 rows ≡ sizesFault n space compatibilities weights points
     sizes-rows g rows h = sound-then 0 found _ _ e g h ∙ sym after-many
-
-  -- what passes: at most 200, and it fits the tables with an entry for each pair, and M; the six points fit theirs
-  pub sizes-passed : sizesFault n space compatibilities weights points ≡ none
-      → (n ≤ 200) × (n ≤ space) × (n * n ≤ compatibilities) × (registryPoints ≤ length points)
-  unfolding sizesFault pointCount hasPoints
-  sizes-passed e =
-      let s = then-none _ _ e in
-      let rest = then-none _ _ (s .1) in
-      let t = tables-passed liveVersion n space points (rest .0) in
-      (ltb-false _ _ (refuse-none _ _ _ (s .0)), t .0, graph-passed n compatibilities weights (rest .1) .0, t .1)

@@ -17,17 +17,18 @@ use Rattle.live.specs.Calls.{inOrder, starting, withPair, registered, re
 use Rattle.live.specs.Lists.{does, after, trace, takesOut, withdrawnIn, staying, broughtIn, held}
 use Rattle.live.specs.Examples.{LiveRun, NumbersRun}
 
-pub live-run : LiveRun
+runs : LiveRun × NumbersRun
 unfolding table either anyBelow countBelow one filled stored refuse _then_ firstBelow unless documentPoints hasPoints pointCount pointsOf heaviest fieldRoom pairIn
     groupFault idFault pointsFault roomFault tablesFault bloodTable suits has shareBit compatibility mismatches mismatchPoints agePoints weight inRows
     filledGraph pairRoom onesIn withNumbers startFault graphFault sizesFault numbersFault storedFault rangeFault likeFault moreFault registerFault withdrawFault inOrder starting withPair registered registering placeOf up withoutEntry
     withoutRow withoutPair withoutAt withdrawing does after trace takesOut withdrawnIn staying broughtIn held
-live-run = record { start = refl; three = refl; two = refl; moved = refl; answers = refl; ids = refl; holds = refl }
+runs = (
+  record { start = refl; three = refl; two = refl; moved = refl; answers = refl; ids = refl; holds = refl },
+  record { three = refl; two = refl; again = refl; withdrawn = refl; registered = refl; registers = refl; withdraws = refl },
+)
+
+pub live-run : LiveRun
+live-run = runs .0
 
 pub numbers-run : NumbersRun
-unfolding table either anyBelow countBelow one filled stored refuse _then_ firstBelow unless documentPoints hasPoints pointCount pointsOf heaviest fieldRoom pairIn
-    groupFault idFault pointsFault roomFault tablesFault bloodTable suits has shareBit compatibility mismatches mismatchPoints agePoints weight inRows
-    filledGraph pairRoom onesIn withNumbers startFault graphFault sizesFault numbersFault storedFault rangeFault likeFault moreFault registerFault withdrawFault inOrder starting withPair registered registering placeOf up withoutEntry
-    withoutRow withoutPair withoutAt withdrawing does after trace takesOut withdrawnIn staying broughtIn held
-numbers-run =
-    record { three = refl; two = refl; again = refl; withdrawn = refl; registered = refl; registers = refl; withdraws = refl }
+numbers-run = runs .1

@@ -67,6 +67,19 @@ module _ (n compatibilities weights : ℕ) where
       by-then P _ _ (room-fault P compatibilities (n * n) (λ l. nine (λ h _. omega (arith, l, h))))
       (λ _. room-fault P weights (n * n) (λ l. nine (λ _ h. omega (arith, l, h))))
 
+-- ## 4 and 9
+
+module _ (n space compatibilities weights : ℕ) (points : List ℕ) where
+  pub sizes-passed : sizesFault n space compatibilities weights points ≡ none
+      → (n ≤ 200) × (n ≤ space) × (n * n ≤ compatibilities) × (n * n ≤ weights) × (6 ≤ length points)
+  unfolding sizesFault pointCount hasPoints
+  sizes-passed e =
+      let four = then-none _ _ e in
+      let nine = then-none _ _ (four .1) in
+      let t = tables-passed liveVersion n space points (nine .0) in
+      let g = graph-passed n compatibilities weights (nine .1) in
+      (ltb-false _ _ (refuse-none _ _ _ (four .0)), t .0, g .0, g .1, t .1)
+
 -- ## What both calls look at first
 
 module _ (l : Live) where
@@ -139,17 +152,11 @@ module _ (l : Live) where
       let ten = numbers-none (k .numbers) in
       none-then _ _ sizes ∙ none-then _ _ fourteen ∙ ten
 
-  sizes-passed : sizesFault n (pairRoom l) m w (l .points) ≡ none → (n ≤ 200) × TablesKeep l
-  unfolding sizesFault pointCount hasPoints
-  sizes-passed e =
-      let four = then-none _ _ e in
-      let nine = then-none _ _ (four .1) in
-      let t = tables-passed liveVersion n (pairRoom l) (l .points) (nine .0) in
-      let p = pairs-hold n (t .0) in
-      let g = graph-passed n m w (nine .1) in (
-        ltb-false _ _ (refuse-none _ _ _ (four .0)),
-        record { fields = p .0; graph = record { compatibilities = g .0; weights = g .1 }; suitable = p .1; points = t .1 },
-      )
+  tables-keep : sizesFault n (pairRoom l) m w (l .points) ≡ none → (n ≤ 200) × TablesKeep l
+  tables-keep e =
+      let s = sizes-passed n (pairRoom l) m w (l .points) e in
+      let p = pairs-hold n (s .1) in
+      (s .0, record { fields = p .0; graph = record { compatibilities = s .2; weights = s .3 }; suitable = p .1; points = s .4 })
 
   pub kept-passed : keptFault l ≡ none → Kept l
   unfolding storedFault
@@ -158,7 +165,7 @@ module _ (l : Live) where
       let rest = then-none _ _ (s .1) in
       let fourteen : pointsFault 0 (weighedBy l) ≡ none = rest .0 in
       let ten : numbers ≡ none = rest .1 in
-      let z = sizes-passed (s .0) in
+      let z = tables-keep (s .0) in
       record { few = z .0; keep = z .1; sound = points-passed (weighedBy l) 0 fourteen; numbers = numbers-passed ten }
 
   sizes-fault : (P : ℕ → ℕ → Type 0) → ((k : ℕ) → KeptFault l k → P k 0) → (k o : ℕ) → sizesFault n (pairRoom l) m w (l .points) ≡ fault k o → P k o
@@ -175,7 +182,7 @@ module _ (l : Live) where
   unfolding storedFault
   kept-fault P h =
       by-then P _ _ (sizes-fault P h)
-      (λ a. let z = sizes-passed a in
+      (λ a. let z = tables-keep a in
       by-then P _ _ (points-fault (weighedBy l) 0 P (λ bad. h 14 (KeptFault.wrongPoints (z .0) (z .1) bad)))
       (λ b. numbers-fault P (λ some. h 10 (KeptFault.wrongNumber (z .0) (z .1) (points-passed (weighedBy l) 0 b) some))))
 

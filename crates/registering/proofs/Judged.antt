@@ -20,7 +20,7 @@ use Rattle.pool.specs.Faults.{idFault, roomFault}
 use Rattle.pool.proofs.Reading.{room-none}
 use Rattle.checks.specs.Preconditions.{TablesHaveRoom}
 use Rattle.live.specs.Faults.{graphFault, storedFault, groupsFault, rangeFault, likeFault, moreFault}
-use Rattle.keeping.proofs.Found.{sizes-passed}
+use Rattle.live.proofs.Faults.{sizes-passed}
 
 -- ## 6 and 7 over all pairs: what was found of the groups of the stored ones, of the new one's, and of the stored ids
 

@@ -9,7 +9,7 @@ use Rattle.pool.specs.Tables.{pointsOfTable}
 use Rattle.pool.specs.Faults.{pointsFault}
 use Rattle.live.specs.Live.{liveVersion}
 use Rattle.live.specs.Faults.{storedFault}
-use Rattle.keeping.proofs.Found.{sizes-passed}
+use Rattle.live.proofs.Faults.{sizes-passed}
 use Rattle.keeping.proofs.judge.Statement.{statement}
 use Rattle.keeping.proofs.judge.Tie as tie
 
@@ -37,7 +37,7 @@ returns c =
 own-requires : tie.Need-own-requires
 own-requires c κs =
     let z = sized c in
-    sizes-passed _ _ _ _ _ (sound-none 0 (z .sizes .result) (z .sizes .ensures) (c .enum-told .given .1)) .3
+    sizes-passed _ _ _ _ _ (sound-none 0 (z .sizes .result) (z .sizes .ensures) (c .enum-told .given .1)) .4
 
 judge-requires-2 : tie.Need-judge-requires-2
 judge-requires-2 c κs =
