@@ -192,6 +192,13 @@ module _ (a : ℕ) where
   unfolding up
   up-from i l = rw (le-ltb i a l)
 
+  pub up-least : (i : ℕ) → i ≤ up a i
+  up-least i = go (decLt i a)
+    where
+      go : Dec (i < a) → i ≤ up a i
+      go (yes k) = omega (arith, up-before i k)
+      go (no k) = omega (arith, up-from i (omega arith))
+
   pub up-below : (n i : ℕ) → i < n - 1 → up a i < n
   up-below n i l = go (decLt i a)
     where

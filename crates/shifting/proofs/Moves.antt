@@ -4,7 +4,6 @@ use mathlib.Core.List.{List, _++_}
 use Prim.Native.Nat.{ℕ, _+_, _-_, _*_, _≤_, _<_}
 use native.Mathlib.Nat.{mul-le-mul}
 use native.Mathlib.Omega.{arith}
-use native.Mathlib.Decide.{decLt}
 use mir.Syntax.{w64}
 use mir.Val.{Fits}
 use lib.ListN.{length, take, set, length-take}
@@ -16,7 +15,7 @@ use Rattle.laws.proofs.Lent.{Filling, stored-then, filled-stored, getD-stored-p
 use Rattle.pool.specs.Tables.{itemIn}
 use Rattle.graph.proofs.Rows.{Storing, storing-more, cell, rows-more}
 use Rattle.live.specs.Calls.{up, withoutEntry}
-use Rattle.live.proofs.Tables.{filled-past, up-before, up-from, up-below}
+use Rattle.live.proofs.Tables.{filled-past, up-before, up-from, up-least, up-below}
 use Rattle.shifting.specs.Preconditions.{Later, Entry, Square}
 
 -- ## A loop that moves entries to an earlier place
@@ -75,14 +74,6 @@ row-out to from a m old mid new p l e f =
     ∙ ap (λ (x : List ℕ). stored to x old) (sym (gap-table a m (entries old from) l))
 
 -- ## Rows that stay
-
--- a row that stays stood at its place or later
-up-least : (a i : ℕ) → i ≤ up a i
-up-least a i = go (decLt i a)
-  where
-    go : Dec (i < a) → i ≤ up a i
-    go (yes k) = rw (up-before a i k) (omega arith)
-    go (no k) = rw (up-from a i (omega arith)) (omega arith)
 
 -- a product of numbers up to 200
 pub few-fit : {i n : ℕ} → i ≤ 200 → n ≤ 200 → Fits w64 (i * n)

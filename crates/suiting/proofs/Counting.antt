@@ -4,7 +4,6 @@ use mathlib.Core.Bool.{not}
 use mathlib.Core.List.{List}
 use Prim.Native.Nat.{ℕ, zero, suc, _+_, _-_, _*_, _≤_, _<_}
 use native.Mathlib.Omega.{arith}
-use native.Mathlib.Decide.{decLt}
 use lib.Dec.{eqb}
 use lib.ListN.{length, set}
 use Rattle.laws.specs.Below.{table, countBelow, one}
@@ -16,7 +15,7 @@ use Rattle.pool.specs.Tables.{itemIn}
 use Rattle.live.specs.Faults.{numbersFault}
 use Rattle.live.specs.Calls.{up, withoutRow}
 use Rattle.live.specs.Suitable.{onesIn, withNumbers}
-use Rattle.live.proofs.Tables.{filled-over, filled-past, up-before, up-from, up-below}
+use Rattle.live.proofs.Tables.{filled-over, filled-past, up-least, up-below}
 use Rattle.live.proofs.Suitable.{numbers-there, ones-without}
 use Rattle.suiting.specs.Counted.{onesAbove}
 use Rattle.suiting.specs.Preconditions.{Countable, CountedAbove, Lowerable}
@@ -110,13 +109,6 @@ is-compared n m counts old t e =
     (ap (λ (s : List ℕ). itemIn s j) e ∙ numbers-there n m old j l))
 
 -- ## A pair goes
-
-up-least : (a j : ℕ) → j ≤ up a j
-up-least a j = go (decLt j a)
-  where
-    go : Dec (j < a) → j ≤ up a j
-    go (yes k) = omega (arith, up-before a j k)
-    go (no k) = omega (arith, up-from a j (omega arith))
 
 module _ (a n : ℕ) (m old : List ℕ) (w : Lowerable a n m old) (j : ℕ) (l : j < n - 1) (t : List ℕ)
     (v : Filling j (onesIn (n - 1) (withoutRow a n m)) old t) (before : ℕ) (e : before ≡ up a j) where
