@@ -427,6 +427,113 @@ static void floors(void)
     check(plan_refused(201, 200001, 0, VADIVUZHEN_TOO_MANY_PAIRS), "and after too many pairs");
 }
 
+/* A pool of at most ten pairs, and what planning leaves of it. */
+enum { TEN = 10 };
+
+struct small {
+    size_t n;
+    uint8_t m[TEN * TEN];
+    uint16_t w[TEN * TEN];
+    struct vadivuzhen_plan_answer plan;
+    uint32_t choices[TEN / 2];
+    struct vadivuzhen_cycle records[TEN / 2];
+};
+
+static void edge(struct small *pool, size_t from, size_t to, uint16_t weight)
+{
+    pool->m[from * pool->n + to] = 1;
+    pool->w[from * pool->n + to] = weight;
+}
+
+static void both_ways(struct small *pool, size_t a, size_t b, uint16_t weight)
+{
+    edge(pool, a, b, weight);
+    edge(pool, b, a, weight);
+}
+
+/* The exchanges 0 to 1 to 2 to 0. */
+static void triple(struct small *pool, uint16_t weight)
+{
+    edge(pool, 0, 1, weight);
+    edge(pool, 1, 2, weight);
+    edge(pool, 2, 0, weight);
+}
+
+static void plan_small(struct small *pool, uint32_t floor)
+{
+    static const uint16_t order[TEN] = {0, 1, 2, 3, 4, 5, 6, 7, 8, 9};
+    static uint32_t weights[VADIVUZHEN_SUBSETS(TEN)];
+    uint16_t donors[TEN], recipients[TEN];
+    pool->plan = vadivuzhen_plan(
+        pool->n, floor, pool->m, TEN * TEN, pool->w, TEN * TEN, order, TEN, weights, VADIVUZHEN_SUBSETS(TEN), pool->choices, TEN / 2,
+        donors, TEN, recipients, TEN, pool->records, TEN / 2);
+}
+
+/* What an exchange weighs by the lent tables; `third` is n for one of two. */
+static uint64_t weight_of(const struct small *pool, size_t first, size_t second, size_t third)
+{
+    const size_t n = pool->n;
+    if (third == n)
+        return (uint64_t)pool->m[first * n + second] * pool->m[second * n + first] * (pool->w[first * n + second] + pool->w[second * n + first]);
+    return (uint64_t)pool->m[first * n + second] * pool->m[second * n + third] * pool->m[third * n + first]
+        * (pool->w[first * n + second] + pool->w[second * n + third] + pool->w[third * n + first]);
+}
+
+/* The sum of each planned exchange's weight times its number of pairs, over the records. */
+static uint64_t credit(const struct small *pool)
+{
+    uint64_t sum = 0;
+    for (size_t i = 0; i < pool->plan.cycles; i++) {
+        const struct vadivuzhen_cycle *record = &pool->records[i];
+        sum += (record->third == pool->n ? 2 : 3) * weight_of(pool, record->first, record->second, record->third);
+    }
+    return sum;
+}
+
+/* The weight of the exchanges of two in which pair first + i is with pair other + i, `count` of them. */
+static uint64_t swaps(const struct small *pool, size_t first, size_t other, size_t count)
+{
+    uint64_t sum = 0;
+    for (size_t i = 0; i < count; i++)
+        sum += weight_of(pool, first + i, other + i, pool->n);
+    return sum;
+}
+
+/* Was a plan made of that weight, with that sum, and do some rivals weigh just that? */
+static int tight(const struct small *pool, uint64_t weight, uint64_t sum, uint64_t rivals)
+{
+    return pool->plan.refusal == VADIVUZHEN_FINISHED && pool->plan.weight == weight && credit(pool) == sum && rivals == sum;
+}
+
+/* Pools in which no bound on the rivals can be lower than the sum that credits the twos. */
+static void credits(void)
+{
+    struct small six = {.n = 6}, four = {.n = 4}, ten = {.n = TEN};
+    triple(&six, 2);
+    for (size_t i = 0; i < 3; i++)
+        both_ways(&six, i, i + 3, 3);
+    plan_small(&six, 0);
+    check(tight(&six, 6, 18, swaps(&six, 0, 3, 3)), "a planned triple is credited three times: k8, 18 and 18");
+    plan_small(&six, 5);
+    check(tight(&six, 6, 18, swaps(&six, 0, 3, 3)), "with floor 5 too");
+    plan_small(&six, 6);
+    check(tight(&six, 0, 0, 0) && swaps(&six, 0, 3, 3) == 18, "with floor 6 nothing is planned, and no rival is above it");
+
+    both_ways(&four, 0, 1, 5);
+    both_ways(&four, 0, 2, 5);
+    both_ways(&four, 1, 3, 5);
+    plan_small(&four, 0);
+    check(tight(&four, 10, 20, swaps(&four, 0, 2, 2)), "a planned two is credited twice: 20 and 20, and three times the weight is 30");
+
+    triple(&ten, 4);
+    both_ways(&ten, 3, 4, 4);
+    for (size_t i = 0; i < 5; i++)
+        both_ways(&ten, i, i + 5, i < 3 ? 6 : 4);
+    plan_small(&ten, 0);
+    check(tight(&ten, 20, 52, swaps(&ten, 0, 5, 5)), "both: 52 and 52, and three times the weight is 60");
+    check(ten.choices[0] == 0 && ten.choices[1] == 144 && ten.choices[2] == 165 && ten.choices[3] == 165 && ten.choices[4] == 165, "their choices");
+}
+
 /* ---- A live pool ---- */
 
 /* Room for one pair more than a live pool may have. */
@@ -900,6 +1007,7 @@ int main(void)
     joins_by_points();
     a_record();
     floors();
+    credits();
     starts();
     lives();
     taken_out();

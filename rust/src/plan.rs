@@ -24,8 +24,10 @@ pub struct Tally {
 ///
 /// Its cycles are executable, each weighs more than the floor that was planned
 /// with, and no pair is in two of them; and no other such set of cycles weighs
-/// more than three times as much. With floor 0 that holds of every set of
-/// executable cycles with no pair in two of them, weightless ones included.
+/// more than three times as much, nor more than [`credit`](Plan::credit), which
+/// is less as soon as an exchange of two is planned. With floor 0 both hold of
+/// every set of executable cycles with no pair in two of them, weightless ones
+/// included.
 ///
 /// Pairs go by their numbers, from 0 to N − 1; their ids are for the printout,
 /// which `Display` shows as well. A plan holds a weight for each of
@@ -35,6 +37,7 @@ pub struct Tally {
 #[must_use = "planning leaves nothing but the plan"]
 pub struct Plan {
     answer: PlanAnswer,
+    credit: u64,
     weights: Vec<u32>,
     choices: Vec<u32>,
     // N entries each.
@@ -54,6 +57,7 @@ impl Plan {
         let subsets: usize = (1..n).map(|below| below * (n - below)).sum();
         let mut plan = Plan {
             answer: PlanAnswer::default(),
+            credit: 0,
             weights: vec![0; subsets],
             choices: vec![0; rounds],
             ids: tables.ids().to_vec(),
@@ -77,6 +81,7 @@ impl Plan {
         );
         finished(plan.answer.refusal, 0)?;
         plan.records.truncate(plan.answer.cycles);
+        plan.credit = plan.records.iter().map(|cycle| credit(cycle, tables)).sum();
         Ok(plan)
     }
 
@@ -93,6 +98,33 @@ impl Plan {
     /// The sum of the planned cycles' weights.
     pub fn weight(&self) -> u64 {
         self.answer.weight
+    }
+
+    /// The sum of each planned cycle's weight times its number of pairs, by the
+    /// tables that were planned. No other set of executable cycles of two or
+    /// three pairs that each weigh more than the floor, with no pair in two of
+    /// them, weighs more than that.
+    ///
+    /// With the weight of the planned twos added it is three times the plan's
+    /// weight. So it is the tighter of the two bounds, and the same where no two
+    /// is planned.
+    ///
+    /// # Example
+    ///
+    /// ```
+    /// use vadivuzhen::Tables;
+    ///
+    /// // Four pairs; 0 and 1, 0 and 2, 1 and 3 may give to each other, at 5.
+    /// let m = [[0, 1, 1, 0], [1, 0, 0, 1], [1, 0, 0, 0], [0, 1, 0, 0]].concat();
+    /// let w = m.iter().map(|&edge| 5 * u16::from(edge)).collect();
+    /// let plan = Tables::new(vec![11, 12, 13, 14], m, w)?.plan(&[0, 1, 2, 3])?;
+    ///
+    /// // 0 and 1 are planned. 0 with 2 and 1 with 3 would weigh 20.
+    /// assert_eq!((plan.weight(), plan.credit()), (10, 20));
+    /// # Ok::<(), vadivuzhen::Refused>(())
+    /// ```
+    pub fn credit(&self) -> u64 {
+        self.credit
     }
 
     /// The number of planned cycles.
@@ -168,6 +200,20 @@ impl Plan {
         sound(answer.refusal);
         text(printed, answer.length)
     }
+}
+
+/// A planned cycle's weight times its number of pairs.
+fn credit(cycle: &Cycle, tables: &Tables) -> u64 {
+    let n = tables.pairs();
+    let mut pairs = [cycle.first, cycle.second, cycle.third]
+        .map(usize::from)
+        .to_vec();
+    // N stands for no pair.
+    pairs.retain(|&pair| pair < n);
+    let next = pairs.iter().cycle().skip(1);
+    let edges = pairs.iter().zip(next);
+    let weights = edges.map(|(from, to)| u64::from(tables.weights()[from * n + to]));
+    weights.sum::<u64>() * pairs.len() as u64
 }
 
 /// The printout, as [`Plan::print`] gives it.

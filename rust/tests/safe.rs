@@ -1020,6 +1020,118 @@ fn the_eight_pairs_of_the_examples_with_floors() {
     assert_eq!(none.tally(), plan.tally());
 }
 
+/// Tables of so many pairs, from edges: donor, patient, weight.
+fn tables_of(n: usize, edges: &[(usize, usize, u16)]) -> Tables {
+    let (mut m, mut w) = (vec![0; n * n], vec![0; n * n]);
+    for &(from, to, weight) in edges {
+        m[from * n + to] = 1;
+        w[from * n + to] = weight;
+    }
+    Tables::new((0..n as u32).collect(), m, w).expect("n rows of n")
+}
+
+/// Edges of one weight both ways between two pairs.
+fn both_ways(a: usize, b: usize, weight: u16) -> [(usize, usize, u16); 2] {
+    [(a, b, weight), (b, a, weight)]
+}
+
+/// The sum over the pairs that have a partner of what their cycle weighs, going
+/// from each to the pair that its donor gives to, until it is back.
+fn weights_of_pairs(tables: &Tables, plan: &Plan) -> u64 {
+    let n = tables.pairs();
+    let of_pair = |pair: usize| {
+        let (mut at, mut weight) = (pair, 0);
+        while let Some(next) = plan.recipient_of(at) {
+            weight += u64::from(tables.weights()[at * n + next]);
+            at = next;
+            if at == pair {
+                break;
+            }
+        }
+        weight
+    };
+    (0..n).map(of_pair).sum()
+}
+
+#[test]
+fn no_rival_weighs_more_than_the_credit() {
+    let identity: Vec<u16> = (0..10).collect();
+    let triple = |a: usize, weight| {
+        [
+            (a, a + 1, weight),
+            (a + 1, a + 2, weight),
+            (a + 2, a, weight),
+        ]
+    };
+    let k8 = [
+        &triple(0, 2)[..],
+        &both_ways(0, 3, 3),
+        &both_ways(1, 4, 3),
+        &both_ways(2, 5, 3),
+    ];
+    let four = [both_ways(0, 1, 5), both_ways(0, 2, 5), both_ways(1, 3, 5)];
+    let ten = [
+        &triple(0, 4)[..],
+        &both_ways(3, 4, 4),
+        &both_ways(0, 5, 6),
+        &both_ways(1, 6, 6),
+        &both_ways(2, 7, 6),
+        &both_ways(3, 8, 4),
+        &both_ways(4, 9, 4),
+    ];
+    // In each the rivals of the planned cycles' pairs weigh just the credit.
+    for (tables, weight, credit, rivals) in [
+        (tables_of(6, &k8.concat()), 6, 18, 6 + 6 + 6),
+        (tables_of(4, &four.concat()), 10, 20, 10 + 10),
+        (tables_of(10, &ten.concat()), 20, 52, 12 + 12 + 12 + 8 + 8),
+    ] {
+        let plan = tables.plan(&identity).expect("a plan");
+        assert_eq!((plan.weight(), plan.credit()), (weight, credit));
+        assert_eq!(plan.credit(), rivals);
+        assert_eq!(plan.credit(), weights_of_pairs(&tables, &plan));
+    }
+    // A floor is for rivals too: with 6 nothing of k8 is planned.
+    let k8 = tables_of(6, &k8.concat());
+    let credit = |floor| k8.plan_above(floor, &identity).expect("a plan").credit();
+    assert_eq!((credit(5), credit(6)), (18, 0));
+}
+
+#[test]
+fn the_credit_of_the_examples() {
+    // The third has no two.
+    for (sheet, weight, credit) in [
+        (
+            &include_bytes!("../../examples/eight.sheet")[..],
+            5_450,
+            14_150,
+        ),
+        (
+            include_bytes!("../../examples/eight_by_age.sheet"),
+            4_720,
+            12_480,
+        ),
+        (
+            include_bytes!("../../examples/thirty_six.sheet"),
+            16_710,
+            3 * 16_710,
+        ),
+    ] {
+        let pool = Pool::read(sheet).expect("a sheet");
+        let (tables, n) = (pool.tables(), pool.len());
+        let whole = pool.plan();
+        assert_eq!((whole.weight(), whole.credit()), (weight, credit));
+        for floor in [0, 2_700, 3_000, 3_300, MOST_FLOOR] {
+            let plan = pool.plan_above(floor).expect("a plan");
+            let weights = cycle_weights(&tables, &plan);
+            let cycles = plan.records().iter().zip(&weights);
+            let twos = cycles.filter(|(cycle, _)| usize::from(cycle.third) == n);
+            let twos: u64 = twos.map(|(_, &weight)| u64::from(weight)).sum();
+            assert_eq!(plan.credit() + twos, 3 * plan.weight());
+            assert_eq!(plan.credit(), weights_of_pairs(&tables, &plan));
+        }
+    }
+}
+
 #[test]
 fn a_floor_too_high_is_refused_before_the_tables() {
     let high = Err(refused(Refusal::FloorTooHigh, 0));

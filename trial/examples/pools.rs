@@ -1,5 +1,5 @@
-//! Prints document 01's pools k1 to k12, some with a floor, a pool of 36 and one
-//! of 200, with the plans that this planner makes of them, in the words of the
+//! Prints document 01's pools k1 to k12, some with a floor, two with rivals that
+//! weigh as much as they can, a pool of 36 and one of 200, with the plans that this planner makes of them, in the words of the
 //! program `try_pools` of the proved library: what the two print is compared.
 
 use reference::{plan, Room};
@@ -71,16 +71,19 @@ fn planned(lent: &Lent<'_>, room: Room, flat: usize) -> Tables {
     }
 }
 
-/// The tables for a pool of at most 6 pairs, and one entry more in most.
+/// The tables for a pool of at most 10 pairs, and one entry more in most.
 const SMALL: Room = Room {
-    weights: 36,
-    choices: 4,
-    donors: 7,
-    recipients: 7,
-    records: 4,
+    weights: 166,
+    choices: 6,
+    donors: 11,
+    recipients: 11,
+    records: 6,
 };
 
-/// A pool of at most 6 pairs.
+/// How many numbers these records have.
+const FLAT: usize = 18;
+
+/// A pool of at most 10 pairs.
 fn small(name: &str, n: usize, floor: u32, m: &[u8], w: &[u16], shuffle: &[u16]) {
     let lent = Lent {
         n,
@@ -89,7 +92,7 @@ fn small(name: &str, n: usize, floor: u32, m: &[u8], w: &[u16], shuffle: &[u16])
         w,
         shuffle,
     };
-    let t = planned(&lent, SMALL, 12);
+    let t = planned(&lent, SMALL, FLAT);
     println!("{name}: {}", t.answer);
     println!("{}", line("weights", &t.weights, (n * n * n - n) / 6 + 1));
     println!("{}", line("choices", &t.choices, n / 2 + 1));
@@ -123,7 +126,7 @@ fn with_floors(name: &str, n: usize, edges: &[(usize, usize, u16)], floors: &[u3
     }
 }
 
-const IDENTITY: [u16; 6] = [0, 1, 2, 3, 4, 5];
+const IDENTITY: [u16; 10] = [0, 1, 2, 3, 4, 5, 6, 7, 8, 9];
 
 /// An edge where (7i + 11j) mod 5 is below 2, of weight 1 + (31i + 17j) mod
 /// 997; place p holds pair 7p mod n.
@@ -179,7 +182,7 @@ fn main() {
     of_edges("k10 with shuffle 2 0 1", 3, &k10, &[2, 0, 1]);
     let both = at(&[(0, 3), (3, 0), (1, 4), (4, 1), (2, 5), (5, 2)], 3);
     let k8 = [at(&forward, 2), both].concat();
-    of_edges("k8", 6, &k8, &IDENTITY);
+    of_edges("k8", 6, &k8, &IDENTITY[..6]);
     of_edges(
         "k9",
         4,
@@ -212,7 +215,20 @@ fn main() {
         w: &[],
         shuffle: &[],
     };
-    println!("4 and 13: {}", planned(&lent, SMALL, 12).answer);
+    println!("4 and 13: {}", planned(&lent, SMALL, FLAT).answer);
+
+    let both_ways = |pairs: &[(usize, usize)], weight: u16| -> Vec<(usize, usize, u16)> {
+        let ways = |&(a, b): &(usize, usize)| [(a, b, weight), (b, a, weight)];
+        pairs.iter().flat_map(ways).collect()
+    };
+    let four = both_ways(&[(0, 1), (0, 2), (1, 3)], 5);
+    of_edges("10 against 20", 4, &four, &IDENTITY[..4]);
+    let ten = [
+        at(&forward, 4),
+        both_ways(&[(3, 4), (3, 8), (4, 9)], 4),
+        both_ways(&[(0, 5), (1, 6), (2, 7)], 6),
+    ];
+    of_edges("20 against 52", 10, &ten.concat(), &IDENTITY);
 
     let (m, w, shuffle) = large(36);
     for (name, floor) in [("36 pairs", 0), ("36 pairs, floor 2500", 2_500)] {

@@ -1,7 +1,10 @@
-//! The heaviest set of exchanges there is, found by trying every one.
+//! The heaviest set of exchanges there is, found by trying every one, and the
+//! sum that no such set is above.
+
+use crate::planner::Plan;
 
 /// The greatest number of pairs that is tried.
-pub const MOST_PAIRS: usize = 8;
+pub const MOST_PAIRS: usize = 10;
 
 /// A set of executable cycles sharing no pair, and what it weighs.
 #[derive(Clone, Debug, Default, PartialEq, Eq)]
@@ -16,7 +19,8 @@ pub struct Best {
 /// in two of them. The empty set is one.
 ///
 /// Neither shuffle nor published order plays a part here: cycles are of
-/// pairs. There are 5,916 such sets in a complete graph of eight pairs.
+/// pairs. There are 5,916 such sets in a complete graph of eight pairs, and
+/// 171,576 in one of ten.
 ///
 /// # Panics
 ///
@@ -87,6 +91,28 @@ pub fn cycle_weight(cycle: &[usize], n: usize, m: &[u8], w: &[u16]) -> Option<u3
     Some(sum)
 }
 
+/// A plan's cycles in order of choice: the pairs of each in giving order, and
+/// its weight by these tables, 0 if it is not executable.
+pub fn planned_cycles(n: usize, m: &[u8], w: &[u16], plan: &Plan) -> Vec<(Vec<usize>, u32)> {
+    let of_record = |record: &[u16; 3]| {
+        let pairs = record.iter().map(|&pair| usize::from(pair));
+        // The third is N for a two.
+        let cycle: Vec<usize> = pairs.filter(|&pair| pair != n).collect();
+        let weight = cycle_weight(&cycle, n, m, w).unwrap_or(0);
+        (cycle, weight)
+    };
+    plan.records.iter().map(of_record).collect()
+}
+
+/// "Add up each planned cycle's weight times its number of pairs" (W-208).
+pub fn credit(n: usize, m: &[u8], w: &[u16], plan: &Plan) -> u32 {
+    let cycles = planned_cycles(n, m, w, plan);
+    let credits = cycles
+        .iter()
+        .map(|(cycle, weight)| weight * cycle.len() as u32);
+    credits.sum()
+}
+
 #[cfg(test)]
 mod tests {
     use super::*;
@@ -112,7 +138,7 @@ mod tests {
         });
         // One question leads to each set but the empty one.
         assert_eq!(asked.get() + 1, 5_916);
-        assert_eq!(sets(8), 5_916);
+        assert_eq!((sets(8), sets(10)), (5_916, 171_576));
     }
 
     #[test]

@@ -35,7 +35,7 @@
 //!   floor of W-202 in its line 7;
 //! - [`mod@best`], the heaviest set of exchanges there is, of all or of those
 //!   above the floor, found by trying them all, for the factor three of
-//!   demand 3;
+//!   demand 3, and the sum of W-208, which credits the twos;
 //! - [`gates`], the rounds made of counting gates with no branch on a secret;
 //! - [`straight`], the plan as one writes it when nothing is secret and
 //!   nothing is counted.
@@ -88,7 +88,7 @@ pub mod tables;
 pub mod tally;
 
 pub use crate::algorithm1::algorithm1;
-pub use crate::best::{best, best_above};
+pub use crate::best::{best, best_above, credit};
 pub use crate::join::join;
 pub use crate::live::{Call, Live, Pair};
 pub use crate::planner::{plan, Plan, Room, MOST_FLOOR};

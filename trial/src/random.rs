@@ -103,8 +103,8 @@ pub enum TableKind {
     Weightless,
     /// The heaviest edges there can be, and some that are nearly so.
     Heavy,
-    /// Pool k8 laid over the pairs again and again: plans may fall to a third
-    /// of what could be had.
+    /// Pool k8, or twos in a row, laid over the pairs again and again: plans may
+    /// fall to a third or to a half of what could be had.
     Traps,
 }
 
@@ -159,21 +159,33 @@ pub fn tables(random: &mut Random, n: usize, kind: TableKind) -> Tables {
     tables
 }
 
-/// k8 over any six pairs, then over six others, and so on.
+/// k8 over any six pairs, or three twos in a row over any four, of which the
+/// middle one may be planned; then over others, and so on.
 fn traps(random: &mut Random, n: usize) -> Tables {
     let mut tables = Tables::empty(n);
     let pairs = random.shuffle(n);
-    for six in pairs.chunks_exact(6) {
+    let mut left = &pairs[..];
+    while left.len() >= 4 {
+        let triple = left.len() >= 6 && random.chance(1, 2);
+        let (now, later) = left.split_at(if triple { 6 } else { 4 });
+        left = later;
         let scale = random.between(1, 1_000) as u16;
         let mut lay = |from: usize, to: usize, weight: u16| {
-            let entry = usize::from(six[from]) * n + usize::from(six[to]);
+            let entry = usize::from(now[from]) * n + usize::from(now[to]);
             tables.m[entry] = 1;
             tables.w[entry] = scale * weight;
         };
-        for i in 0..3 {
-            lay(i, (i + 1) % 3, 2);
-            lay(i, i + 3, 3);
-            lay(i + 3, i, 3);
+        if triple {
+            for i in 0..3 {
+                lay(i, (i + 1) % 3, 2);
+                lay(i, i + 3, 3);
+                lay(i + 3, i, 3);
+            }
+        } else {
+            for i in 0..3 {
+                lay(i, i + 1, 3);
+                lay(i + 1, i, 3);
+            }
         }
     }
     tables

@@ -2,6 +2,7 @@
 use mathlib.Core.Path.{_≡_, refl, sym, ap, _∙_}
 use mathlib.Core.List.{List, map}
 use Prim.Native.Nat.{ℕ, _≤_}
+use native.Mathlib.Omega.{arith}
 use Rattle.laws.specs.Below.{table}
 use Rattle.laws.proofs.Below.{getD-table}
 use Rattle.refusal.specs.Fault.{Fault, none, fault, _then_}
@@ -25,6 +26,7 @@ use Rattle.exchange.specs.Algorithm1 as Algorithm1
 use Rattle.exchange.proofs.Inverse.{Invertible}
 use Rattle.exchange.proofs.Charged.{planned-apart}
 use Rattle.exchange.proofs.Planned.{planned-set, rival-factor, all-count}
+use Rattle.exchange.proofs.Credited.{credits-twos}
 use Rattle.exchange.proofs.Tallied.{tallied}
 use Rattle.exchange.proofs.Shuffled.{same-cycles}
 use Rattle.exchange.proofs.Partners.{algorithm-partners}
@@ -81,6 +83,7 @@ module _ (points : Points) (version : ℕ) (own : ℕ → ℕ) (n : ℕ) (pair :
         number = refl;
         weighs = refl;
         factor = λ cs h. rival-factor noFloor 3 n m v (table n s) seated cs h (all-count noFloor refl m v cs);
+        credit = credits-twos noFloor 3 n m v (table n s) seated (omega arith) (λ i j _ _. compatibility-most pair i j);
         counts = tallied noFloor n m v (table n s);
         partners = partners;
         cycles = same;

@@ -17,6 +17,7 @@ use Rattle.exchange.specs.Planning.{Lent, Plan, mostFloor, planning}
 use Rattle.exchange.specs.Algorithm1 as Algorithm1
 use Rattle.exchange.specs.Faultless.{LongEnough}
 use Rattle.exchange.specs.Rivals.{ExchangeSetOf, weightIn}
+use Rattle.exchange.specs.Credit.{CreditsTwos}
 use Rattle.exchange.specs.Promises.{TallyOf}
 use Rattle.printout.specs.Printed.{PrintedPlan, planText, refusalText}
 use Rattle.answers.specs.Most.{most}
@@ -43,6 +44,8 @@ pub record PlanGuarantee (q : Input) (p : PrintedPlan) : Type 0 where
   pub weighs : p .weight ≡ weightIn q planned
   -- "three times the plan's weight is at least the weight of every other set of executable 2- and 3-cycles sharing no pair"
   pub factor : (cs : List (List ℕ)) → ExchangeSetOf q cs → weightIn q cs ≤ q .scope .largest * p .weight
+  -- "a bound that credits the twos" (document 02, W-208)
+  pub credit : CreditsTwos q (p .weight) planned
   -- "every such tally is"
   pub counts : TallyOf (q .scope) (tally (p .comparisons) (p .products) (p .rounds))
   -- "The plan equals that of Algorithm 1, in each pair's donor and recipient", and in its cycles

@@ -1,4 +1,4 @@
--- k1 to k12, and floors, computed. Assumes nothing.
+-- k1 to k12, floors, and pools in which W-208's bound is tight, computed. Assumes nothing.
 use mathlib.Core.Path.{_≡_, refl}
 use mathlib.Core.List.{[], _∷_, flatMap}
 use mathlib.Core.Bool.{false}
@@ -14,17 +14,21 @@ use Rattle.greedy.specs.Places.{among, meets}
 use Rattle.greedy.specs.Tally.{raise, nextRound}
 use Rattle.greedy.specs.Rounds.{join, byHalves, choosing, clear, clearingTally, rounds}
 use Rattle.exchange.specs.Subsets.{ascending, subsets, eachFirst, orders, cycles, along, edges, entry, productOf, sumOf, weigh, firstOf, heaviest, pairsAt, bestCycle, subsetWeight, evaluationTally}
-use Rattle.exchange.specs.Resolution.{resolved, recordOf, recipientBy, donorBy, recipientTable, donorTable, total}
+use Rattle.exchange.specs.Input.{inputOf}
+use Rattle.exchange.specs.Resolution.{resolved, recordOf, pairsOf, recipientBy, donorBy, recipientTable, donorTable, total}
 use Rattle.exchange.specs.Planning.{tableFault, shortToRead, shortToFill, planFault, leftBy, plannedBy, planFrom, filledLent, planning}
-use Rattle.exchange.specs.Pools.{read, tableOf, blank, foundIn, found, k8edges, PoolsComeOut, FloorsComeOut, FirstFaultTold, FourBeforeThirteen, PastUnchanged, RivalOfK8}
-use Rattle.exchange.specs.Rivals.{Exchange}
+use Rattle.exchange.specs.Pools.{read, tableOf, blank, foundIn, found, boundsBy, boundsOf, k8, k8rival, four, fourRival, ten, tenRival, PoolsComeOut, FloorsComeOut, FirstFaultTold, FourBeforeThirteen, PastUnchanged, CreditsComeOut}
+use Rattle.exchange.specs.Rivals.{planned, Exchange, ExchangeSetOf}
+use Rattle.exchange.specs.Credit.{credited}
 
-computed : PoolsComeOut × FloorsComeOut × FirstFaultTold × FourBeforeThirteen × PastUnchanged
+computed : PoolsComeOut × FloorsComeOut × FirstFaultTold × FourBeforeThirteen × PastUnchanged × (boundsOf (k8 0) ≡ 18 ∷ 18 ∷ []) × (boundsOf (k8 5) ≡ 18 ∷ 18 ∷ [])
+    × (boundsOf (k8 6) ≡ 0 ∷ 0 ∷ []) × (boundsOf four ≡ 20 ∷ 30 ∷ []) × (boundsOf ten ≡ 52 ∷ 60 ∷ [])
 unfolding flatMap table either anyBelow countBelow one filled refuse _then_ unless shuffleFault roomFault among meets raise nextRound join
     byHalves choosing clear clearingTally rounds ascending subsets eachFirst orders cycles along edges entry productOf sumOf weigh firstOf
-    heaviest pairsAt bestCycle subsetWeight evaluationTally resolved recordOf recipientBy donorBy recipientTable donorTable total tableFault
-    shortToRead shortToFill planFault leftBy plannedBy planFrom filledLent planning read tableOf blank foundIn found
-computed = (refl, refl, refl, refl, refl)
+    heaviest pairsAt bestCycle subsetWeight evaluationTally resolved recordOf pairsOf recipientBy donorBy recipientTable donorTable total tableFault
+    shortToRead shortToFill planFault leftBy plannedBy planFrom filledLent planning read tableOf blank foundIn found planned credited
+    boundsBy boundsOf
+computed = (refl, refl, refl, refl, refl, refl, refl, refl, refl, refl)
 
 pub pools : PoolsComeOut
 pools = computed .0
@@ -41,22 +45,58 @@ four-before-thirteen = computed .3
 pub past-unchanged : PastUnchanged
 past-unchanged = computed .4
 
-pub rival-of-k8 : RivalOfK8
-unfolding table among meets either along edges entry productOf sumOf weigh total read tableOf
-rival-of-k8 = record {
-  set = record {
-    exchanges = (
-      swap 0 3 (omega arith) (omega arith) refl refl refl,
-      (swap 1 4 (omega arith) (omega arith) refl refl refl, (swap 2 5 (omega arith) (omega arith) refl refl refl, tt)),
-    );
-    apart = ((refl, (refl, tt)), ((refl, tt), (tt, tt)));
-  };
-  weight = refl;
-  above = (omega arith, (omega arith, (omega arith, tt)));
-}
-  where
-    m : ℕ → ℕ → ℕ
-    m = entry (tableOf (λ a. a .mark) 6 k8edges) 6
+-- ---- W-208's bound, tight
 
-    swap : (a b : ℕ) → a < 6 → b < 6 → eqb a b ≡ false → m a b ≡ 1 → m b a ≡ 1 → Exchange 3 6 m (a ∷ b ∷ [])
-    swap a b h k d e g = record { least = omega arith; most = omega arith; pool = (h, (k, tt)); different = (rw d, (refl, tt)); executable = (e, (g, tt)) }
+-- a swap among n pairs
+swap : (n : ℕ) (m : ℕ → ℕ → ℕ) (a b : ℕ) → a < n → b < n → eqb a b ≡ false → m a b ≡ 1 → m b a ≡ 1 → Exchange 3 n m (a ∷ b ∷ [])
+unfolding among either along edges
+swap n m a b h k d e g = record { least = omega arith; most = omega arith; pool = (h, (k, tt)); different = (rw d, (refl, tt)); executable = (e, (g, tt)) }
+
+k8-set : (f : ℕ) → ExchangeSetOf (inputOf (k8 f)) k8rival
+unfolding table among meets either entry read tableOf
+k8-set f =
+    let of = swap 6 (inputOf (k8 f) .compatible) in
+    record {
+      exchanges = (
+        of 0 3 (omega arith) (omega arith) refl refl refl,
+        (of 1 4 (omega arith) (omega arith) refl refl refl, (of 2 5 (omega arith) (omega arith) refl refl refl, tt)),
+      );
+      apart = ((refl, (refl, tt)), ((refl, tt), (tt, tt)));
+    }
+
+four-set : ExchangeSetOf (inputOf four) fourRival
+unfolding table among meets either entry read tableOf
+four-set =
+    let of = swap 4 (inputOf four .compatible) in
+    record {
+      exchanges = (of 0 2 (omega arith) (omega arith) refl refl refl, (of 1 3 (omega arith) (omega arith) refl refl refl, tt));
+      apart = ((refl, tt), (tt, tt));
+    }
+
+ten-set : ExchangeSetOf (inputOf ten) tenRival
+unfolding table among meets either entry read tableOf
+ten-set =
+    let of = swap 10 (inputOf ten .compatible) in
+    record {
+      exchanges = (
+        of 0 5 (omega arith) (omega arith) refl refl refl,
+        (
+          of 1 6 (omega arith) (omega arith) refl refl refl,
+          (
+            of 2 7 (omega arith) (omega arith) refl refl refl,
+            (of 3 8 (omega arith) (omega arith) refl refl refl, (of 4 9 (omega arith) (omega arith) refl refl refl, tt)),
+          ),
+        ),
+      );
+      apart = ((refl, (refl, (refl, (refl, tt)))), ((refl, (refl, (refl, tt))), ((refl, (refl, tt)), ((refl, tt), (tt, tt)))));
+    }
+
+pub credits-come-out : CreditsComeOut
+unfolding table among meets either along edges entry productOf sumOf weigh total read tableOf
+credits-come-out = record {
+  triple = record { bounds = computed .5; set = k8-set 0; above = (omega arith, (omega arith, (omega arith, tt))); weight = refl };
+  floor = record { bounds = computed .6; set = k8-set 5; above = (omega arith, (omega arith, (omega arith, tt))); weight = refl };
+  two = record { bounds = computed .8; set = four-set; above = (omega arith, (omega arith, tt)); weight = refl };
+  both = record { bounds = computed .9; set = ten-set; above = (omega arith, (omega arith, (omega arith, (omega arith, (omega arith, tt))))); weight = refl };
+  light = (computed .7, k8-set 6, refl);
+}

@@ -16,7 +16,8 @@ use Rattle.exchange.specs.Subsets.{subsets, cycles, edges, productOf, su
 use Rattle.exchange.specs.Resolution.{resolved, total}
 use Rattle.exchange.specs.Input.{inputWith}
 use Rattle.exchange.specs.Planning.{roundCount, leftBy, plannedBy}
-use Rattle.exchange.specs.Rivals.{Each, credited}
+use Rattle.exchange.specs.Rivals.{Each}
+use Rattle.exchange.specs.Credit.{credited}
 use Rattle.exchange.proofs.Ordered.{Subset, subsets-all, each-at, each-mono, arrange, arrange-alike, subset-at, mem-map}
 use Rattle.exchange.proofs.Weighed.{weigh-rotate, mem-orders, heaviest-each, heaviest-alike}
 use Rattle.exchange.proofs.Inverse.{Invertible, seats, pairs-seats, seats-below, seats-times, pairs-times}

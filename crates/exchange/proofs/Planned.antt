@@ -16,7 +16,8 @@ use Rattle.exchange.specs.Subsets.{subsets, weigh, pairsAt, bestCycle, e
 use Rattle.exchange.specs.Resolution.{resolved, total}
 use Rattle.exchange.specs.Input.{inputWith}
 use Rattle.exchange.specs.Planning.{roundCount, leftBy, plannedBy}
-use Rattle.exchange.specs.Rivals.{Each, Different, Exchange, ExchangeSet, credited}
+use Rattle.exchange.specs.Rivals.{Each, Different, Exchange, ExchangeSet}
+use Rattle.exchange.specs.Credit.{credited}
 use Rattle.exchange.proofs.Ordered.{each-mono}
 use Rattle.exchange.proofs.Inverse.{Invertible, pairs-below}
 use Rattle.exchange.proofs.Charged.{weightsOf, joined, family, size-most, Rival, cycle-below, planned-size, planned-weight, planned-apart, planned-credit, planned-factor}
@@ -111,8 +112,3 @@ heavy-count f m w cs h = each-mono (λ (c : List ℕ). f < weigh m w c) (Counts 
 pub all-count : (f : ℕ) → f ≡ 0 → (m w : ℕ → ℕ → ℕ) (cs : List (List ℕ)) → Each (Counts f m w) cs
 all-count f e m w [] = tt
 all-count f e m w (c ∷ cs) = (subst (λ (g : ℕ). (weigh m w c ≡ 0) ⊎ (g < weigh m w c)) (sym e) (eq-zero-or-pos (weigh m w c)), all-count f e m w cs)
-
-pub credited-most : (l n : ℕ) (m w : ℕ → ℕ → ℕ) (cs : List (List ℕ)) → Each (Exchange l n m) cs → credited m w cs ≤ l * total m w cs
-unfolding credited total
-credited-most l n m w [] h = omega arith
-credited-most l n m w (c ∷ cs) h = omega (arith, credited-most l n m w cs (h .1), native.Mathlib.Nat.mul-le-mul-left (weigh m w c) (h .0 .most))

@@ -30,7 +30,7 @@ below-pool n (q ∷ c) h = (below-head n q c h, below-pool n c (below-tail n q c
 among-none : (p : ℕ) (c : List ℕ) → among p c ≡ false → times p c ≡ 0
 among-none p c h = omega (arith, leb-false 1 (times p c) (sym (among-times p c) ∙ h))
 
-none-among : (p : ℕ) (c : List ℕ) → times p c ≡ 0 → among p c ≡ false
+pub none-among : (p : ℕ) (c : List ℕ) → times p c ≡ 0 → among p c ≡ false
 none-among p c h = among-times p c ∙ lt-leb 1 (times p c) (omega arith)
 
 pub different-once : (c : List ℕ) → Different c → NoneTwice c

@@ -16,8 +16,7 @@ use Rattle.exchange.specs.Input.{request}
 use Rattle.exchange.specs.Resolution.{resolved, recordOf, recipientTable, donorTable, total}
 use Rattle.exchange.specs.Planning as Planning
 use Rattle.exchange.specs.Planning.{Lent, lent, Plan, plan, roundCount, Lengths, lengthsOf, shortToRead, shortToFill, tableFault}
-use Rattle.exchange.specs.Rivals.{Each}
-use Rattle.exchange.specs.Promises.{planned}
+use Rattle.exchange.specs.Rivals.{planned, Each}
 
 -- ## "Floor 0 gives the plans of today": document 01's planning, which has no floor and no refusal 13
 

@@ -1,4 +1,4 @@
--- "Pools to try": k1 to k12, each with what must come out, and what floors make of some. Assumes nothing.
+-- "Pools to try": k1 to k12, each with what must come out, what floors make of some, and pools in which W-208's bound is tight. Assumes nothing.
 use Prim.Native.Nat.{ℕ, _*_, _/_, _%_}
 use mathlib.Core.Bool.{false, cond}
 use mathlib.Core.List.{List, [], _∷_, _++_, map}
@@ -10,9 +10,10 @@ use Rattle.refusal.specs.Answer.{Answer, finished, refused, Outcome, outcome}
 use Rattle.cycle.specs.declared.Cycle.{Cycle}
 use Rattle.greedy.specs.Tally.{Tally, tally}
 use Rattle.exchange.specs.Subsets.{upToThree, subsetCount}
-use Rattle.exchange.specs.Input.{Input, inputOf, request}
+use Rattle.exchange.specs.Input.{Input, Request, inputOf, request}
 use Rattle.exchange.specs.Planning.{Lent, lent, Plan, plan, roundCount, planning}
-use Rattle.exchange.specs.Rivals.{ExchangeSetOf, AboveFloor, weightIn}
+use Rattle.exchange.specs.Rivals.{planned, ExchangeSetOf, AboveFloor, weightIn}
+use Rattle.exchange.specs.Credit.{creditIn}
 
 -- "Edges as donor→patient:weight"; `mark` is the edge's M entry
 pub record Arrow : Type 0 where
@@ -64,24 +65,21 @@ unfoldable pub foundIn : Answer Plan → Lent → Found
 foundIn (finished p) t = made (t .choices) (t .weights) (p .weight) (p .cycles) (t .recipients) (t .donors) (t .records) (p .tally)
 foundIn (refused k o) t = turned k o t
 
+-- what planning is asked: so many pairs, a floor, edges and a shuffle
+abbrev pub asked : ℕ → ℕ → List Arrow → List ℕ → Request
+asked n f es s = request n f (tableOf (λ a. a .mark) n es) (tableOf (λ a. a .weight) n es) s
+
 unfoldable pub found : Case → Found
 found c =
-    let o : Outcome Plan Lent =
-    planning
-    (request (c .pairs) (c .floor) (tableOf (λ a. a .mark) (c .pairs) (c .edges)) (tableOf (λ a. a .weight) (c .pairs) (c .edges)) (c .shuffle))
-    (blank (c .pairs)) in
+    let o : Outcome Plan Lent = planning (asked (c .pairs) (c .floor) (c .edges) (c .shuffle)) (blank (c .pairs)) in
     foundIn (o .answer) (o .lent)
 
 abbrev pub k3edges : List Arrow
 k3edges = edge 0 1 5 ∷ edge 1 0 7 ∷ []
 
--- k8, and its rival of weight 18
 abbrev pub k8edges : List Arrow
 k8edges =
     edge 0 1 2 ∷ edge 1 2 2 ∷ edge 2 0 2 ∷ edge 0 3 3 ∷ edge 3 0 3 ∷ edge 1 4 3 ∷ edge 4 1 3 ∷ edge 2 5 3 ∷ edge 5 2 3 ∷ []
-
-abbrev pub k8rival : List (List ℕ)
-k8rival = (0 ∷ 3 ∷ []) ∷ (1 ∷ 4 ∷ []) ∷ (2 ∷ 5 ∷ []) ∷ []
 
 -- "identity shuffle unless given"
 abbrev pub cases : List Case
@@ -181,17 +179,62 @@ FourBeforeThirteen = planning (request 201 200001 [] [] []) nothing ≡ outcome 
 -- k3 again, in tables longer than is due: "what lies past these, and past the last record, is unchanged"
 abbrev pub PastUnchanged : Type 0
 PastUnchanged =
-    planning (request 2 0 (tableOf (λ a. a .mark) 2 k3edges) (tableOf (λ a. a .weight) 2 k3edges) (0 ∷ 1 ∷ 99 ∷ []))
+    planning (asked 2 0 k3edges (0 ∷ 1 ∷ 99 ∷ []))
     (lent (99 ∷ 99 ∷ []) (99 ∷ 99 ∷ []) (99 ∷ 99 ∷ 99 ∷ []) (99 ∷ 99 ∷ 99 ∷ []) (cycle 99 99 99 ∷ cycle 99 99 99 ∷ []))
     ≡ outcome (finished (plan 12 1 (tally 1 6 1)))
     (lent (12 ∷ 99 ∷ []) (0 ∷ 99 ∷ []) (1 ∷ 0 ∷ 99 ∷ []) (1 ∷ 0 ∷ 99 ∷ []) (cycle 0 1 2 ∷ cycle 99 99 99 ∷ []))
 
--- with any floor
-abbrev pub k8 : ℕ → Input
-k8 f = inputOf (request 6 f (tableOf (λ a. a .mark) 6 k8edges) (tableOf (λ a. a .weight) 6 k8edges) (0 ∷ 1 ∷ 2 ∷ 3 ∷ 4 ∷ 5 ∷ []))
+-- ## Rivals that weigh as much as the sum in which the twos are credited (document 02, W-208)
 
--- "weight 6 against a rival 18": it is a rival set, and weighs 18, with floor 0; and it is one with floor 5, where the plan weighs 6 too
-pub record RivalOfK8 : Type 0 where
-  pub set : ExchangeSetOf (k8 0) k8rival
-  pub weight : weightIn (k8 0) k8rival ≡ 18
-  pub above : AboveFloor (k8 5) k8rival
+-- two bounds on the rivals: the sum over the records that planning leaves, and three times the plan's weight; of a refusal none
+unfoldable pub boundsBy : Input → Answer Plan → Lent → List ℕ
+boundsBy q (finished p) t = creditIn q (planned (q .scope .pairs) p t) ∷ 3 * p .weight ∷ []
+boundsBy q (refused k o) t = []
+
+unfoldable pub boundsOf : Request → List ℕ
+boundsOf r = let o : Outcome Plan Lent = planning r (blank (r .scope .pairs)) in boundsBy (inputOf r) (o .answer) (o .lent)
+
+-- in a pool with these two bounds some rival set weighs the first of them
+pub record Tight (r : Request) (sum thrice : ℕ) (rival : List (List ℕ)) : Type 0 where
+  pub bounds : boundsOf r ≡ sum ∷ thrice ∷ []
+  pub set : ExchangeSetOf (inputOf r) rival
+  pub above : AboveFloor (inputOf r) rival
+  pub weight : weightIn (inputOf r) rival ≡ sum
+
+-- k8 with any floor, and its rival
+abbrev pub k8 : ℕ → Request
+k8 f = asked 6 f k8edges (0 ∷ 1 ∷ 2 ∷ 3 ∷ 4 ∷ 5 ∷ [])
+
+abbrev pub k8rival : List (List ℕ)
+k8rival = (0 ∷ 3 ∷ []) ∷ (1 ∷ 4 ∷ []) ∷ (2 ∷ 5 ∷ []) ∷ []
+
+-- 0 and 1, 0 and 2, 1 and 3 both ways at 5: 0 and 1 are planned, and each is in a rival that weighs as much
+abbrev pub four : Request
+four = asked 4 0 (edge 0 1 5 ∷ edge 1 0 5 ∷ edge 0 2 5 ∷ edge 2 0 5 ∷ edge 1 3 5 ∷ edge 3 1 5 ∷ []) (0 ∷ 1 ∷ 2 ∷ 3 ∷ [])
+
+abbrev pub fourRival : List (List ℕ)
+fourRival = (0 ∷ 2 ∷ []) ∷ (1 ∷ 3 ∷ []) ∷ []
+
+-- 0→1→2→0 at 4, 3 and 4 both ways at 4; 0 and 5, 1 and 6, 2 and 7 both ways at 6, 3 and 8, 4 and 9 both ways at 4: the first two are planned, and each of
+-- their pairs is in a rival that weighs as much
+abbrev pub ten : Request
+ten =
+    asked 10 0
+    (edge 0 1 4 ∷ edge 1 2 4 ∷ edge 2 0 4 ∷ edge 3 4 4 ∷ edge 4 3 4
+    ∷ edge 0 5 6 ∷ edge 5 0 6 ∷ edge 1 6 6 ∷ edge 6 1 6 ∷ edge 2 7 6 ∷ edge 7 2 6
+    ∷ edge 3 8 4 ∷ edge 8 3 4 ∷ edge 4 9 4 ∷ edge 9 4 4
+    ∷ [])
+    (0 ∷ 1 ∷ 2 ∷ 3 ∷ 4 ∷ 5 ∷ 6 ∷ 7 ∷ 8 ∷ 9 ∷ [])
+
+abbrev pub tenRival : List (List ℕ)
+tenRival = (0 ∷ 5 ∷ []) ∷ (1 ∷ 6 ∷ []) ∷ (2 ∷ 7 ∷ []) ∷ (3 ∷ 8 ∷ []) ∷ (4 ∷ 9 ∷ []) ∷ []
+
+pub record CreditsComeOut : Type 0 where
+  -- k8, "weight 6 against a rival 18", with floor 0 and with floor 5: a triple is planned
+  pub triple : Tight (k8 0) 18 18 k8rival
+  pub floor : Tight (k8 5) 18 18 k8rival
+  -- a two, and a triple and a two
+  pub two : Tight four 20 30 fourRival
+  pub both : Tight ten 52 60 tenRival
+  -- with floor 6 nothing is planned in k8, and its rival of 18 is none above the floor: against all sets there is no such bound
+  pub light : (boundsOf (k8 6) ≡ 0 ∷ 0 ∷ []) × ExchangeSetOf (inputOf (k8 6)) k8rival × (weightIn (inputOf (k8 6)) k8rival ≡ 18)

@@ -6,7 +6,7 @@ use mathlib.Core.Bool.{true, false}
 use mathlib.Core.Logic.{_↔_}
 use mathlib.Core.List.{List, [], _∷_, map}
 use lib.Dec.{eqb}
-use lib.ListN.{length, getD, take}
+use lib.ListN.{length, getD}
 use Rattle.laws.specs.Below.{one, Some, ExactlyOne}
 use Rattle.refusal.specs.Answer.{finished, refused, Outcome}
 use Rattle.greedy.specs.Places.{among, meets}
@@ -14,18 +14,12 @@ use Rattle.greedy.specs.Tally.{Tally, tally}
 use Rattle.greedy.specs.Promises.{Remains}
 use Rattle.exchange.specs.Subsets.{Scope, order, subsetCount, entry, subsetWeight, pairsAt}
 use Rattle.exchange.specs.Input.{Input, Request, inputOf, request}
-use Rattle.exchange.specs.Resolution.{pairsOf}
 use Rattle.exchange.specs.Planning.{Lent, Plan, roundCount, planning}
 use Rattle.exchange.specs.Algorithm1 as Algorithm1
 use Rattle.exchange.specs.Algorithm1.{next}
 use Rattle.exchange.specs.Faultless.{FaultlessInput, PlanFault}
-use Rattle.exchange.specs.Rivals.{Each, ExchangeSetOf, AboveFloor, weightIn, credited}
-
--- ## The planned cycles
-
--- "the first records, as many as the result's number of cycles"
-unfoldable pub planned : ℕ → Plan → Lent → List (List ℕ)
-planned n p t = map (pairsOf n) (take (p .cycles) (t .records))
+use Rattle.exchange.specs.Rivals.{planned, Each, ExchangeSetOf, AboveFloor, weightIn}
+use Rattle.exchange.specs.Credit.{CreditsTwos}
 
 -- ## The tally's closed form, in the words of demand 3
 
@@ -91,20 +85,10 @@ pub record Guarantee (q : Input) (p : Plan) (t : Lent) : Type 0 where
   -- "three times the plan's weight is at least the weight of every other set of executable 2- and 3-cycles sharing no pair", of "those whose cycles all
   -- weigh more than the floor"
   pub factor : (cs : List (List ℕ)) → ExchangeSetOf q cs → AboveFloor q cs → weightIn q cs ≤ q .scope .largest * p .weight
-  -- and so is the sum of each planned cycle's weight times its number of pairs, which is no more than that
-  pub credit :
-      (cs : List (List ℕ))
-      → ExchangeSetOf q cs
-      → AboveFloor q cs
-      → weightIn q cs ≤ credited (q .compatible) (q .weight) (planned (q .scope .pairs) p t)
-  pub credit-most : credited (q .compatible) (q .weight) (planned (q .scope .pairs) p t) ≤ q .scope .largest * p .weight
-  -- with floor 0 both hold of every such set, as demand 3 has it: a cycle of it may weigh 0
+  -- with floor 0 of every such set, as demand 3 has it: a cycle of it may weigh 0
   pub factor-all : q .floor ≡ 0 → (cs : List (List ℕ)) → ExchangeSetOf q cs → weightIn q cs ≤ q .scope .largest * p .weight
-  pub credit-all :
-      q .floor ≡ 0
-      → (cs : List (List ℕ))
-      → ExchangeSetOf q cs
-      → weightIn q cs ≤ credited (q .compatible) (q .weight) (planned (q .scope .pairs) p t)
+  -- "a bound that credits the twos" (document 02, W-208)
+  pub credit : CreditsTwos q (p .weight) (planned (q .scope .pairs) p t)
   -- "every such tally is"
   pub tally : TallyOf (q .scope) (p .tally)
   -- "The plan equals that of Algorithm 1, in each pair's donor and recipient", and in its cycles

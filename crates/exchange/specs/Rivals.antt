@@ -1,13 +1,18 @@
--- Rival sets, in the words of document 01's 'Resolution', and of document 02's W-202. Assumes nothing.
-use Prim.Native.Nat.{ℕ, _+_, _*_, _≤_, _<_}
+-- The planned cycles and rival sets, in the words of document 01's 'Resolution', and of document 02's W-202. Assumes nothing.
+use Prim.Native.Nat.{ℕ, _≤_, _<_}
 use mathlib.Core.Path.{_≡_}
 use mathlib.Core.Bool.{false}
-use mathlib.Core.List.{List, [], _∷_}
-use lib.ListN.{length}
+use mathlib.Core.List.{List, [], _∷_, map}
+use lib.ListN.{length, take}
 use Rattle.greedy.specs.Places.{among, meets}
 use Rattle.exchange.specs.Subsets.{Edge, edges, weigh}
 use Rattle.exchange.specs.Input.{Input}
-use Rattle.exchange.specs.Resolution.{total}
+use Rattle.exchange.specs.Resolution.{pairsOf, total}
+use Rattle.exchange.specs.Planning.{Lent, Plan}
+
+-- "The planned cycles are the first records, as many as the result's number of cycles"
+unfoldable pub planned : ℕ → Plan → Lent → List (List ℕ)
+planned n p t = map (pairsOf n) (take (p .cycles) (t .records))
 
 -- every one of a list
 abbrev pub Each : {A : Type 0} → (A → Type 0) → List A → Type 0
@@ -52,8 +57,3 @@ AboveFloor q cs = Each (λ (c : List ℕ). q .floor < weigh (q .compatible) (q .
 -- what such a set weighs
 abbrev pub weightIn : Input → List (List ℕ) → ℕ
 weightIn q cs = total (q .compatible) (q .weight) cs
-
--- the sum of each cycle's weight times its number of pairs
-unfoldable pub credited : (ℕ → ℕ → ℕ) → (ℕ → ℕ → ℕ) → List (List ℕ) → ℕ
-credited m w [] = 0
-credited m w (c ∷ cs) = weigh m w c * length c + credited m w cs

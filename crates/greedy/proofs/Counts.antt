@@ -97,7 +97,7 @@ shared-both p (q ∷ c) l h = elim (same? p q) [
 
 -- ---- a list of numbers below n has as many as its counts add up to: so at most n different ones, and as many as any list with the same counts
 
-total : ℕ → List ℕ → ℕ
+unfoldable pub total : ℕ → List ℕ → ℕ
 total zero l = 0
 total (suc n) l = times n l + total n l
 
@@ -145,7 +145,7 @@ pub below-tail : (n x : ℕ) (l : List ℕ) → AllBelow n (x ∷ l) → AllBelo
 unfolding times
 below-tail n x l h p q = omega (arith, h p q)
 
-length-total : (n : ℕ) (l : List ℕ) → AllBelow n l → length l ≡ total n l
+pub length-total : (n : ℕ) (l : List ℕ) → AllBelow n l → length l ≡ total n l
 length-total n [] h = omega (arith, total-nil n)
 length-total n (x ∷ l) h = omega (arith, total-cons n x l, total-one n x (below-head n x l h), length-total n l (below-tail n x l h))
 

@@ -1,5 +1,5 @@
-// Pools to try, and the plans that planning makes of them: document 01's k1 to k12, pools with floors, one of 36 and one of 200. What it prints is held to
-// the file 'stdout'. Every lent entry holds 99 before a call, and the first one past the filled part is printed too.
+// Pools to try, and the plans that planning makes of them: document 01's k1 to k12, pools with floors, pools with rivals that weigh as much as they can, one of
+// 36 and one of 200. What it prints is held to the file 'stdout'. Every lent entry holds 99 before a call, and the first one past the filled part is printed too.
 use cycle::Cycle;
 use planner::Planning;
 ghost use mathlib.Core.Path.{_≡_};
@@ -155,19 +155,19 @@ fn plan(
     together(answer, records)
 }
 
-// Plans a pool of at most 6 pairs and so many subsets, and prints the answer and what stands then in each table, with one entry past what is due.
+// Plans a pool of at most 10 pairs and so many subsets, and prints the answer and what stands then in each table, with one entry past what is due.
 fn try_pool(name: &[u8], n: usize, floor: u32, subsets: usize, m: &[u8], w: &[u16], shuffle: &[u16])
-    requires { ⌜ (n ≤ 6) × (subsets ≤ 35) ⌝ }
+    requires { ⌜ (n ≤ 10) × (subsets ≤ 165) ⌝ }
 {
     let past = n + 1;
     let rounds = n / 2;
     let past_choices = rounds + 1;
     let past_records = 3 * rounds + 1;
     let past_weights = subsets + 1;
-    let mut weights = [99u32; 36];
-    let mut choices = [99u32; 4];
-    let mut donors = [99u16; 7];
-    let mut recipients = [99u16; 7];
+    let mut weights = [99u32; 166];
+    let mut choices = [99u32; 6];
+    let mut donors = [99u16; 11];
+    let mut recipients = [99u16; 11];
     let planned = plan(
         n,
         floor,
@@ -367,6 +367,50 @@ fn try_floors() {
     try_high();
 }
 
+// Rivals that weigh the sum of each planned cycle's weight times its number of pairs: beside a two, and beside a triple and a two.
+fn try_rivals() {
+    let identity = [0u16, 1, 2, 3, 4, 5, 6, 7, 8, 9];
+    let four = [0u8, 1, 1, 0, 1, 0, 0, 1, 1, 0, 0, 0, 0, 1, 0, 0];
+    let fives = [0u16, 5, 5, 0, 5, 0, 0, 5, 5, 0, 0, 0, 0, 5, 0, 0];
+    try_pool(b"10 against 20:", 4, 0, 10, &four, &fives, &identity);
+    let mut m = [0u8; 100];
+    let mut w = [0u16; 100];
+    // 0 to 1 to 2 to 0, and 3 and 4 both ways, at 4
+    m[1] = 1;
+    m[12] = 1;
+    m[20] = 1;
+    m[34] = 1;
+    m[43] = 1;
+    w[1] = 4;
+    w[12] = 4;
+    w[20] = 4;
+    w[34] = 4;
+    w[43] = 4;
+    // 0 and 5, 1 and 6, 2 and 7 both ways at 6
+    m[5] = 1;
+    m[50] = 1;
+    m[16] = 1;
+    m[61] = 1;
+    m[27] = 1;
+    m[72] = 1;
+    w[5] = 6;
+    w[50] = 6;
+    w[16] = 6;
+    w[61] = 6;
+    w[27] = 6;
+    w[72] = 6;
+    // 3 and 8, 4 and 9 both ways at 4
+    m[38] = 1;
+    m[83] = 1;
+    m[49] = 1;
+    m[94] = 1;
+    w[38] = 4;
+    w[83] = 4;
+    w[49] = 4;
+    w[94] = 4;
+    try_pool(b"20 against 52:", 10, 0, 165, &m, &w, &identity);
+}
+
 // A pool that a formula gives: an edge where (7i + 11j) mod 5 is below 2, of weight 1 + (31i + 17j) mod 997; place p holds pair 7p mod n.
 fn fill_entry(n: usize, k: usize, m: &mut [u8], w: &mut [u16])
     requires { ⌜ (0 < n) × (k < 40000) × (k < length (now m)) × (k < length (now w)) ⌝ }
@@ -466,6 +510,7 @@ fn main() {
     try_k9();
     try_refusals();
     try_floors();
+    try_rivals();
     try_36(b"36 pairs:", 0);
     try_36(b"36 pairs, floor 2500:", 2500);
     try_200();

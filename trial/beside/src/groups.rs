@@ -25,8 +25,8 @@ use reference::random::{
 };
 use reference::sheet::{self, length};
 use reference::{
-    best, best_above, build_pool, Live, Pair, Plan, Points, Pool, Reason, Room, Tables, Tally,
-    MOST_FLOOR,
+    best, best_above, build_pool, credit, Live, Pair, Plan, Points, Pool, Reason, Room, Tables,
+    Tally, MOST_FLOOR,
 };
 
 /// Trials of one sort.
@@ -270,20 +270,38 @@ fn too_high(random: &mut Random, n: usize, kind: u64) -> Answered {
     }
 }
 
-/// Three times the plan's weight is at least that of the best set whose cycles
-/// all weigh more than the floor; with floor 0, of the best set there is.
+/// The caller's own tables of the safe crate, with the entries of N pairs.
+fn safe_tables(input: &Input) -> Result<vadivuzhen::Tables, String> {
+    let n = input.n;
+    let ids = (0..n as u32).collect();
+    let (m, w) = (input.m[..n * n].to_vec(), input.w[..n * n].to_vec());
+    vadivuzhen::Tables::new(ids, m, w).map_err(|refused| refused.to_string())
+}
+
+/// Three times the plan's weight, and the sum of each planned cycle's weight
+/// times its number of pairs, are at least the weight of the best set whose
+/// cycles all weigh more than the floor; with floor 0, of the best set there is.
+/// The safe crate adds up the same sum.
 fn bound(seed: u64, random: &mut Random, cases: &mut Cases) -> Result<(), String> {
     let n = (seed % 9) as usize;
     let mut input = input(random, n, seed / 9)?;
+    let tables = safe_tables(&input)?;
     let rival = best_above(n, input.floor, &input.m, &input.w);
     let every = best(n, &input.m, &input.w);
     for (floor, best) in [(input.floor, rival), (0, every)] {
         input.floor = floor;
         let (plan, _) = made(random, &input)?;
-        if plan.weight > best.weight || 3 * plan.weight < best.weight {
-            let weight = plan.weight;
+        let weight = plan.weight;
+        if weight > best.weight || 3 * weight < best.weight {
             return Err(format!("floor {floor}: weight {weight} beside {best:?}"));
         }
+        let sum = credit(n, &input.m, &input.w, &plan);
+        if sum < best.weight || sum > 3 * weight {
+            return Err(format!("floor {floor}: sum {sum} beside {best:?}"));
+        }
+        let safely = tables.plan_above(floor, &input.shuffle);
+        let safely = safely.map_err(|refused| refused.to_string())?;
+        same("the credit", safely.credit(), sum.into())?;
         cases.add(0);
     }
     Ok(())
@@ -310,9 +328,7 @@ fn floors(seed: u64, random: &mut Random, cases: &mut Cases) -> Result<(), Strin
     let (whole, tally) = made(random, &input)?;
     let weights = weights(&input, &whole);
 
-    let ids = (0..n as u32).collect();
-    let (m, w) = (input.m[..n * n].to_vec(), input.w[..n * n].to_vec());
-    let tables = vadivuzhen::Tables::new(ids, m, w).map_err(|refused| refused.to_string())?;
+    let tables = safe_tables(&input)?;
     let safely = |floor| tables.plan_above(floor, &input.shuffle);
     let safely_whole = tables.plan(&input.shuffle);
     same("the plan with floor 0", safely(0), safely_whole.clone())?;

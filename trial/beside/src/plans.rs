@@ -1,7 +1,7 @@
 //! Planning and printing beside the reference.
 
 use crate::lent::{same, Answered, Lent};
-use reference::best::cycle_weight;
+use reference::best::planned_cycles;
 use reference::printout::Printed;
 use reference::random::Random;
 use reference::{algorithm1, printout, Plan, Reason, Room, Tally};
@@ -123,13 +123,8 @@ pub fn made(random: &mut Random, input: &Input) -> Result<(Plan, Tally), String>
 /// The weight of each planned cycle by the lent tables, in order of choice; of
 /// one that is not executable, 0.
 pub fn weights(input: &Input, plan: &Plan) -> Vec<u32> {
-    let n = input.n;
-    let weigh = |record: &[u16; 3]| {
-        let pairs = record.iter().map(|&pair| usize::from(pair));
-        let cycle: Vec<usize> = pairs.filter(|&pair| pair < n).collect();
-        cycle_weight(&cycle, n, &input.m, &input.w).unwrap_or(0)
-    };
-    plan.records.iter().map(weigh).collect()
+    let cycles = planned_cycles(input.n, &input.m, &input.w, plan);
+    cycles.into_iter().map(|(_, weight)| weight).collect()
 }
 
 /// Prints a plan into a buffer of `room` bytes.
