@@ -360,11 +360,11 @@ struct vadivuzhen_plan_answer {
  * Proved: a plan is made if and only if there are none of these faults. Of every plan made: its donors and recipients are those of Algorithm 1 of arXiv
  * 2302.13880, with the floor for the 0 of its line 7; all its cycles can be carried out; each of them weighs more than the floor; no pair is in two of
  * them; no other set of exchanges of two or three pairs that can all be carried out and each weigh more than the floor, with no pair in two of them, weighs
- * more than three times as much, and with floor 0 neither does one of which some weigh 0; nor does such a set weigh more than the sum, over the records, of
- * each exchange's weight times its number of pairs, two where the third is n and else three, and that sum with the weight of the planned exchanges of two
- * is three times the plan's weight, so that it is the lower bound of the two as soon as one of two is planned; and the tally depends on n alone, at every
- * floor: with T triples and P twos among n pairs and R = n / 2 rounds, rounds are R, comparisons T + R (T + P), and products 2P + 7T + R (5 (T + P) - 1)
- * + (R - 1) (2P + 3T), or 0 where R is 0. */
+ * more than three times as much, and with floor 0 neither does one of which some weigh 0; none of these sets weighs more than the sum over the planned
+ * exchanges, the first `cycles` records, of each one's weight times its number of pairs, two where the third is n and else three: that sum and the weight of
+ * the planned exchanges of two together are three times the plan's weight, so that as soon as one of two pairs is planned the sum is the smaller of the two
+ * limits; and the tally depends on n alone, at every floor: with T triples and P twos among n pairs and R = n / 2 rounds, rounds are R, comparisons
+ * T + R (T + P), and products 2P + 7T + R (5 (T + P) - 1) + (R - 1) (2P + 3T), or 0 where R is 0. */
 VADIVUZHEN_ANSWERS struct vadivuzhen_plan_answer vadivuzhen_plan(
     size_t n, uint32_t floor,
     const uint8_t *m, size_t m_length,

@@ -451,7 +451,7 @@ static void both_ways(struct small *pool, size_t a, size_t b, uint16_t weight)
     edge(pool, b, a, weight);
 }
 
-/* The exchanges 0 to 1 to 2 to 0. */
+/* 0 gives to 1, 1 to 2 and 2 to 0. */
 static void triple(struct small *pool, uint16_t weight)
 {
     edge(pool, 0, 1, weight);
@@ -490,22 +490,24 @@ static uint64_t credit(const struct small *pool)
     return sum;
 }
 
-/* The weight of the exchanges of two in which pair first + i is with pair other + i, `count` of them. */
-static uint64_t swaps(const struct small *pool, size_t first, size_t other, size_t count)
+/* The weight of those exchanges of two that are above the floor, of `count` in which pair first + i is with pair other + i. */
+static uint64_t swaps(const struct small *pool, uint32_t floor, size_t first, size_t other, size_t count)
 {
     uint64_t sum = 0;
-    for (size_t i = 0; i < count; i++)
-        sum += weight_of(pool, first + i, other + i, pool->n);
+    for (size_t i = 0; i < count; i++) {
+        uint64_t weight = weight_of(pool, first + i, other + i, pool->n);
+        sum += weight > floor ? weight : 0;
+    }
     return sum;
 }
 
-/* Was a plan made of that weight, with that sum, and do some rivals weigh just that? */
+/* Was a plan made of that weight, with that sum, and do these rivals weigh just that? */
 static int tight(const struct small *pool, uint64_t weight, uint64_t sum, uint64_t rivals)
 {
     return pool->plan.refusal == VADIVUZHEN_FINISHED && pool->plan.weight == weight && credit(pool) == sum && rivals == sum;
 }
 
-/* Pools in which no bound on the rivals can be lower than the sum that credits the twos. */
+/* Pools in which no limit for the rivals can be lower than the sum that credits the twos. */
 static void credits(void)
 {
     struct small six = {.n = 6}, four = {.n = 4}, ten = {.n = TEN};
@@ -513,24 +515,24 @@ static void credits(void)
     for (size_t i = 0; i < 3; i++)
         both_ways(&six, i, i + 3, 3);
     plan_small(&six, 0);
-    check(tight(&six, 6, 18, swaps(&six, 0, 3, 3)), "a planned triple is credited three times: k8, 18 and 18");
+    check(tight(&six, 6, 18, swaps(&six, 0, 0, 3, 3)), "a planned triple is credited three times: k8, 18 and 18");
     plan_small(&six, 5);
-    check(tight(&six, 6, 18, swaps(&six, 0, 3, 3)), "with floor 5 too");
+    check(tight(&six, 6, 18, swaps(&six, 5, 0, 3, 3)), "with floor 5 too");
     plan_small(&six, 6);
-    check(tight(&six, 0, 0, 0) && swaps(&six, 0, 3, 3) == 18, "with floor 6 nothing is planned, and no rival is above it");
+    check(tight(&six, 0, 0, swaps(&six, 6, 0, 3, 3)), "with floor 6 nothing is planned, and none of these rivals is above it");
 
     both_ways(&four, 0, 1, 5);
     both_ways(&four, 0, 2, 5);
     both_ways(&four, 1, 3, 5);
     plan_small(&four, 0);
-    check(tight(&four, 10, 20, swaps(&four, 0, 2, 2)), "a planned two is credited twice: 20 and 20, and three times the weight is 30");
+    check(tight(&four, 10, 20, swaps(&four, 0, 0, 2, 2)), "a planned two is credited twice: 20 and 20, and three times the weight is 30");
 
     triple(&ten, 4);
     both_ways(&ten, 3, 4, 4);
     for (size_t i = 0; i < 5; i++)
         both_ways(&ten, i, i + 5, i < 3 ? 6 : 4);
     plan_small(&ten, 0);
-    check(tight(&ten, 20, 52, swaps(&ten, 0, 5, 5)), "both: 52 and 52, and three times the weight is 60");
+    check(tight(&ten, 20, 52, swaps(&ten, 0, 0, 5, 5)), "both: 52 and 52, and three times the weight is 60");
     check(ten.choices[0] == 0 && ten.choices[1] == 144 && ten.choices[2] == 165 && ten.choices[3] == 165 && ten.choices[4] == 165, "their choices");
 }
 

@@ -1053,25 +1053,42 @@ fn weights_of_pairs(tables: &Tables, plan: &Plan) -> u64 {
     (0..n).map(of_pair).sum()
 }
 
+/// What an exchange weighs, each pair's donor giving to the next one's patient;
+/// 0 if it can't be carried out.
+fn exchange(tables: &Tables, pairs: &[usize]) -> u64 {
+    let n = tables.pairs();
+    let next = pairs.iter().cycle().skip(1);
+    let edges: Vec<usize> = pairs.iter().zip(next).map(|(a, b)| a * n + b).collect();
+    if edges
+        .iter()
+        .any(|&edge| tables.compatibilities()[edge] != 1)
+    {
+        return 0;
+    }
+    let weights = edges.iter().map(|&edge| u64::from(tables.weights()[edge]));
+    weights.sum()
+}
+
 #[test]
 fn no_rival_weighs_more_than_the_credit() {
     let identity: Vec<u16> = (0..10).collect();
-    let triple = |a: usize, weight| {
-        [
-            (a, a + 1, weight),
-            (a + 1, a + 2, weight),
-            (a + 2, a, weight),
-        ]
-    };
+    let forward =
+        |a: usize, b: usize, c: usize, weight| [(a, b, weight), (b, c, weight), (c, a, weight)];
     let k8 = [
-        &triple(0, 2)[..],
+        &forward(0, 1, 2, 2)[..],
         &both_ways(0, 3, 3),
         &both_ways(1, 4, 3),
         &both_ways(2, 5, 3),
     ];
     let four = [both_ways(0, 1, 5), both_ways(0, 2, 5), both_ways(1, 3, 5)];
+    let seven = [
+        &forward(0, 1, 2, 4)[..],
+        &forward(0, 3, 4, 4),
+        &both_ways(1, 5, 6),
+        &both_ways(2, 6, 6),
+    ];
     let ten = [
-        &triple(0, 4)[..],
+        &forward(0, 1, 2, 4)[..],
         &both_ways(3, 4, 4),
         &both_ways(0, 5, 6),
         &both_ways(1, 6, 6),
@@ -1079,19 +1096,40 @@ fn no_rival_weighs_more_than_the_credit() {
         &both_ways(3, 8, 4),
         &both_ways(4, 9, 4),
     ];
-    // In each the rivals of the planned cycles' pairs weigh just the credit.
-    for (tables, weight, credit, rivals) in [
-        (tables_of(6, &k8.concat()), 6, 18, 6 + 6 + 6),
-        (tables_of(4, &four.concat()), 10, 20, 10 + 10),
-        (tables_of(10, &ten.concat()), 20, 52, 12 + 12 + 12 + 8 + 8),
-    ] {
-        let plan = tables.plan(&identity).expect("a plan");
+    let k8 = tables_of(6, &k8.concat());
+    // The rivals share no pair, and weigh just the credit.
+    let pools: [(&Tables, &[u16], u64, u64, &[&[usize]]); 4] = [
+        (&k8, &identity, 6, 18, &[&[0, 3], &[1, 4], &[2, 5]]),
+        (
+            &tables_of(4, &four.concat()),
+            &identity,
+            10,
+            20,
+            &[&[0, 2], &[1, 3]],
+        ),
+        (
+            &tables_of(7, &seven.concat()),
+            &[2, 0, 1, 6, 5, 4, 3],
+            12,
+            36,
+            &[&[0, 3, 4], &[1, 5], &[2, 6]],
+        ),
+        (
+            &tables_of(10, &ten.concat()),
+            &identity,
+            20,
+            52,
+            &[&[0, 5], &[1, 6], &[2, 7], &[3, 8], &[4, 9]],
+        ),
+    ];
+    for (tables, shuffle, weight, credit, rivals) in pools {
+        let plan = tables.plan(shuffle).expect("a plan");
         assert_eq!((plan.weight(), plan.credit()), (weight, credit));
-        assert_eq!(plan.credit(), rivals);
-        assert_eq!(plan.credit(), weights_of_pairs(&tables, &plan));
+        let rivals = rivals.iter().map(|rival| exchange(tables, rival));
+        assert_eq!(plan.credit(), rivals.sum());
+        assert_eq!(plan.credit(), weights_of_pairs(tables, &plan));
     }
     // A floor is for rivals too: with 6 nothing of k8 is planned.
-    let k8 = tables_of(6, &k8.concat());
     let credit = |floor| k8.plan_above(floor, &identity).expect("a plan").credit();
     assert_eq!((credit(5), credit(6)), (18, 0));
 }

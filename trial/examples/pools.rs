@@ -1,6 +1,7 @@
 //! Prints document 01's pools k1 to k12, some with a floor, two with rivals that
-//! weigh as much as they can, a pool of 36 and one of 200, with the plans that this planner makes of them, in the words of the
-//! program `try_pools` of the proved library: what the two print is compared.
+//! weigh as much as W-208's bound allows, a pool of 36 and one of 200, with the
+//! plans that this planner makes of them, in the words of the program `try_pools`
+//! of the proved library: what the two print is compared.
 
 use reference::{plan, Room};
 

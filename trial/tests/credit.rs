@@ -31,15 +31,25 @@ fn planned(n: usize, floor: u32, tables: &Tables, shuffle: &[u16]) -> Plan {
     plan
 }
 
-/// With the identity shuffle: the choices, the plan's weight, the sum, and the
-/// weight of the heaviest rival set.
-fn run(n: usize, floor: u32, tables: &Tables) -> (Vec<u32>, u32, u32, u32) {
-    let shuffle: Vec<u16> = (0..n as u16).collect();
-    let plan = planned(n, floor, tables, &shuffle);
+/// The choices, the plan's weight, the sum, and the weight of the heaviest rival
+/// set.
+fn run_shuffled(
+    n: usize,
+    floor: u32,
+    tables: &Tables,
+    shuffle: &[u16],
+) -> (Vec<u32>, u32, u32, u32) {
+    let plan = planned(n, floor, tables, shuffle);
     let (m, w) = (&tables.m, &tables.w);
     let sum = credit(n, m, w, &plan);
     let rival = best_above(n, floor, m, w).weight;
     (plan.choices, plan.weight, sum, rival)
+}
+
+/// The same with the identity shuffle.
+fn run(n: usize, floor: u32, tables: &Tables) -> (Vec<u32>, u32, u32, u32) {
+    let identity: Vec<u16> = (0..n as u16).collect();
+    run_shuffled(n, floor, tables, &identity)
 }
 
 /// Document 01's k8.
@@ -68,6 +78,22 @@ fn tight_for_twos() {
     let tables = Tables::of_edges(4, &edges.concat());
     // Three times the weight is 30.
     assert_eq!(run(4, 0, &tables), (vec![4, 10], 10, 20, 20));
+}
+
+#[test]
+fn tight_beside_rivals_of_both_sizes() {
+    let edges = [
+        round(0, 4),
+        vec![(0, 3, 4), (3, 4, 4), (4, 0, 4)],
+        both_ways(1, 5, 6),
+        both_ways(2, 6, 6),
+    ];
+    let tables = Tables::of_edges(7, &edges.concat());
+    let shuffle = [2, 0, 1, 6, 5, 4, 3];
+    assert_eq!(
+        run_shuffled(7, 0, &tables, &shuffle),
+        (vec![0, 56, 56], 12, 36, 36)
+    );
 }
 
 #[test]

@@ -26,7 +26,7 @@ use Rattle.exchange.specs.Algorithm1 as Algorithm1
 use Rattle.exchange.proofs.Inverse.{Invertible}
 use Rattle.exchange.proofs.Charged.{planned-apart}
 use Rattle.exchange.proofs.Planned.{planned-set, rival-factor, all-count}
-use Rattle.exchange.proofs.Credited.{credits-twos}
+use Rattle.exchange.proofs.Credited.{planned-credits}
 use Rattle.exchange.proofs.Tallied.{tallied}
 use Rattle.exchange.proofs.Shuffled.{same-cycles}
 use Rattle.exchange.proofs.Partners.{algorithm-partners}
@@ -83,7 +83,7 @@ module _ (points : Points) (version : ℕ) (own : ℕ → ℕ) (n : ℕ) (pair :
         number = refl;
         weighs = refl;
         factor = λ cs h. rival-factor noFloor 3 n m v (table n s) seated cs h (all-count noFloor refl m v cs);
-        credit = credits-twos noFloor 3 n m v (table n s) seated (omega arith) (λ i j _ _. compatibility-most pair i j);
+        credit = planned-credits noFloor 3 n m v (table n s) seated (omega arith) (λ i j _ _. compatibility-most pair i j);
         counts = tallied noFloor n m v (table n s);
         partners = partners;
         cycles = same;

@@ -34,7 +34,7 @@ BuiltIsPlanned =
     → LongEnough (request n floor (g .compatibilities) (g .weights) s) t
     → (p : Plan) × (planning (request n floor (g .compatibilities) (g .weights) s) t .answer ≡ finished p)
 
--- ## Demands 2 and 3, for the plan p that is printed of q
+-- ## Demands 2 and 3, and W-208's bound, for the plan p that is printed of q
 
 pub record PlanGuarantee (q : Input) (p : PrintedPlan) : Type 0 where
   -- the planned cycles: "executable, no pair is in two of them"
@@ -67,7 +67,7 @@ pub data AnswerFault (b : List ℕ) : ℕ → ℕ → Type 0 where
 
 pub record AnswersSheet (b out : List ℕ) (o : Outcome ℕ (List ℕ)) : Type 0 where
   pub equal : o ≡ answering b out
-  -- every sheet of at most 40 pairs with none of the listed faults is answered by the text of a plan for which demands 2 and 3 hold
+  -- every sheet of at most 40 pairs with none of the listed faults is answered by the text of a plan for which demands 2 and 3 and W-208's bound hold
   pub plans : FaultlessSheet b → pairsIn b ≤ most → (p : PrintedPlan) × SheetPlanned b p × (o ≡ putting (planText p) out)
   -- any other is answered by the text of a refusal, which names a fault that is there, and none that is looked for before it
   pub refuses :

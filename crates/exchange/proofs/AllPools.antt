@@ -17,18 +17,19 @@ use Rattle.exchange.specs.Subsets.{ascending, subsets, eachFirst, orders
 use Rattle.exchange.specs.Input.{inputOf}
 use Rattle.exchange.specs.Resolution.{resolved, recordOf, pairsOf, recipientBy, donorBy, recipientTable, donorTable, total}
 use Rattle.exchange.specs.Planning.{tableFault, shortToRead, shortToFill, planFault, leftBy, plannedBy, planFrom, filledLent, planning}
-use Rattle.exchange.specs.Pools.{read, tableOf, blank, foundIn, found, boundsBy, boundsOf, k8, k8rival, four, fourRival, ten, tenRival, PoolsComeOut, FloorsComeOut, FirstFaultTold, FourBeforeThirteen, PastUnchanged, CreditsComeOut}
-use Rattle.exchange.specs.Rivals.{planned, Exchange, ExchangeSetOf}
+use Rattle.exchange.specs.Pools.{read, tableOf, blank, foundIn, found, boundsBy, boundsOf, k8, k8rival, four, fourRival, seven, sevenRival, ten, tenRival, square}
+use Rattle.exchange.specs.Pools.{PoolsComeOut, FloorsComeOut, FirstFaultTold, FourBeforeThirteen, PastUnchanged, CreditsComeOut}
+use Rattle.exchange.specs.Rivals.{planned, Exchange, ExchangeSet, ExchangeSetOf}
 use Rattle.exchange.specs.Credit.{credited}
 
 computed : PoolsComeOut × FloorsComeOut × FirstFaultTold × FourBeforeThirteen × PastUnchanged × (boundsOf (k8 0) ≡ 18 ∷ 18 ∷ []) × (boundsOf (k8 5) ≡ 18 ∷ 18 ∷ [])
-    × (boundsOf (k8 6) ≡ 0 ∷ 0 ∷ []) × (boundsOf four ≡ 20 ∷ 30 ∷ []) × (boundsOf ten ≡ 52 ∷ 60 ∷ [])
+    × (boundsOf (k8 6) ≡ 0 ∷ 0 ∷ []) × (boundsOf four ≡ 20 ∷ 30 ∷ []) × (boundsOf seven ≡ 36 ∷ 36 ∷ []) × (boundsOf ten ≡ 52 ∷ 60 ∷ []) × (boundsOf square ≡ 0 ∷ 0 ∷ [])
 unfolding flatMap table either anyBelow countBelow one filled refuse _then_ unless shuffleFault roomFault among meets raise nextRound join
     byHalves choosing clear clearingTally rounds ascending subsets eachFirst orders cycles along edges entry productOf sumOf weigh firstOf
     heaviest pairsAt bestCycle subsetWeight evaluationTally resolved recordOf pairsOf recipientBy donorBy recipientTable donorTable total tableFault
     shortToRead shortToFill planFault leftBy plannedBy planFrom filledLent planning read tableOf blank foundIn found planned credited
     boundsBy boundsOf
-computed = (refl, refl, refl, refl, refl, refl, refl, refl, refl, refl)
+computed = (refl, refl, refl, refl, refl, refl, refl, refl, refl, refl, refl, refl)
 
 pub pools : PoolsComeOut
 pools = computed .0
@@ -64,14 +65,49 @@ k8-set f =
       apart = ((refl, (refl, tt)), ((refl, tt), (tt, tt)));
     }
 
+four-swap : (a b : ℕ) → a < 4 → b < 4 → eqb a b ≡ false → inputOf four .compatible a b ≡ 1 → inputOf four .compatible b a ≡ 1 → Exchange 3 4 (inputOf four .compatible) (a ∷ b ∷ [])
+four-swap = swap 4 (inputOf four .compatible)
+
 four-set : ExchangeSetOf (inputOf four) fourRival
 unfolding table among meets either entry read tableOf
-four-set =
-    let of = swap 4 (inputOf four .compatible) in
+four-set = record {
+  exchanges = (four-swap 0 2 (omega arith) (omega arith) refl refl refl, (four-swap 1 3 (omega arith) (omega arith) refl refl refl, tt));
+  apart = ((refl, tt), (tt, tt));
+}
+
+seven-set : ExchangeSetOf (inputOf seven) sevenRival
+unfolding table among meets either along edges entry read tableOf
+seven-set =
+    let of = swap 7 (inputOf seven .compatible) in
     record {
-      exchanges = (of 0 2 (omega arith) (omega arith) refl refl refl, (of 1 3 (omega arith) (omega arith) refl refl refl, tt));
-      apart = ((refl, tt), (tt, tt));
+      exchanges = (
+        record {
+          least = omega arith;
+          most = omega arith;
+          pool = (omega arith, (omega arith, (omega arith, tt)));
+          different = (refl, (refl, (refl, tt)));
+          executable = (refl, (refl, (refl, tt)));
+        },
+        (of 1 5 (omega arith) (omega arith) refl refl refl, (of 2 6 (omega arith) (omega arith) refl refl refl, tt)),
+      );
+      apart = ((refl, (refl, tt)), ((refl, tt), (tt, tt)));
     }
+
+square-set : ExchangeSet 4 4 (inputOf square .compatible) ((0 ∷ 1 ∷ 2 ∷ 3 ∷ []) ∷ [])
+unfolding table among meets either along edges entry read tableOf
+square-set = record {
+  exchanges = (
+    record {
+      least = omega arith;
+      most = omega arith;
+      pool = (omega arith, (omega arith, (omega arith, (omega arith, tt))));
+      different = (refl, (refl, (refl, (refl, tt))));
+      executable = (refl, (refl, (refl, (refl, tt))));
+    },
+    tt,
+  );
+  apart = (tt, tt);
+}
 
 ten-set : ExchangeSetOf (inputOf ten) tenRival
 unfolding table among meets either entry read tableOf
@@ -97,6 +133,13 @@ credits-come-out = record {
   triple = record { bounds = computed .5; set = k8-set 0; above = (omega arith, (omega arith, (omega arith, tt))); weight = refl };
   floor = record { bounds = computed .6; set = k8-set 5; above = (omega arith, (omega arith, (omega arith, tt))); weight = refl };
   two = record { bounds = computed .8; set = four-set; above = (omega arith, (omega arith, tt)); weight = refl };
-  both = record { bounds = computed .9; set = ten-set; above = (omega arith, (omega arith, (omega arith, (omega arith, (omega arith, tt))))); weight = refl };
-  light = (computed .7, k8-set 6, refl);
+  shuffled = record { bounds = computed .9; set = seven-set; above = (omega arith, (omega arith, (omega arith, tt))); weight = refl };
+  both = record { bounds = computed .10; set = ten-set; above = (omega arith, (omega arith, (omega arith, (omega arith, (omega arith, tt))))); weight = refl };
+  light = (computed .7, k8-set 6, refl, (λ h. absurd (omega (arith, h .0))));
+  sharing = (
+    (four-swap 0 1 (omega arith) (omega arith) refl refl refl, four-set .exchanges),
+    (omega arith, (omega arith, (omega arith, tt))),
+    refl,
+  );
+  larger = (computed .11, square-set, refl);
 }

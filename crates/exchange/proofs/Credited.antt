@@ -17,7 +17,7 @@ use Rattle.exchange.specs.Credit.{credited, twosOf, weightOfPair, sumBel
 use Rattle.exchange.proofs.Inverse.{Invertible}
 use Rattle.exchange.proofs.Charged.{joined, planned-apart}
 use Rattle.exchange.proofs.Sets.{none-among}
-use Rattle.exchange.proofs.Planned.{planned-set, planned-below, rival-credit, heavy-count, all-count}
+use Rattle.exchange.proofs.Planned.{planned-set, planned-heavy, planned-below, rival-credit, heavy-count, all-count}
 
 -- ---- by the sizes
 
@@ -28,17 +28,26 @@ module _ (l n : ℕ) (m w : ℕ → ℕ → ℕ) where
   credited-most (c ∷ cs) h = omega (arith, credited-most cs (h .1), mul-le-mul-left (weigh m w c) (h .0 .most))
 
   -- of two or three pairs: what a two's weight times its number of pairs lacks of three times its weight is its weight
-  credited-twos : l ≤ 3 → (cs : List (List ℕ)) → Each (Exchange l n m) cs → credited m w cs + total m w (twosOf cs) ≡ 3 * total m w cs
+  credited-by-twos : l ≤ 3 → (cs : List (List ℕ)) → Each (Exchange l n m) cs → credited m w cs + total m w (twosOf cs) ≡ 3 * total m w cs
   unfolding credited total twosOf
-  credited-twos small [] h = refl
-  credited-twos small (c ∷ cs) h =
-      let ih = credited-twos small cs (h .1) in
+  credited-by-twos small [] h = refl
+  credited-by-twos small (c ∷ cs) h =
+      let ih = credited-by-twos small cs (h .1) in
       elim (same? (length c) 2) [
         | same e z ↦ rw (eq-eqb (length c) 2 e) (omega (arith, ih, ap (λ (k : ℕ). weigh m w c * k) e))
         | other e z ↦
             let three : length c ≡ 3 = omega (arith, h .0 .least, h .0 .most) in
             rw (ne-eqb (length c) 2 e) (omega (arith, ih, ap (λ (k : ℕ). weigh m w c * k) three))
       ]
+
+-- where every cycle weighs something, twos do
+twos-heavy : (f : ℕ) (m w : ℕ → ℕ → ℕ) (cs : List (List ℕ)) → Each (λ (c : List ℕ). f < weigh m w c) cs → 0 < length (twosOf cs) → 0 < total m w (twosOf cs)
+unfolding total twosOf
+twos-heavy f m w [] h k = absurd (omega arith)
+twos-heavy f m w (c ∷ cs) h k = elim (same? (length c) 2) [
+  | same e z ↦ rw (eq-eqb (length c) 2 e) (omega (arith, h .0))
+  | other e z ↦ rw (ne-eqb (length c) 2 e) (twos-heavy f m w cs (h .1) (rw (ne-eqb (length c) 2 e) at k))
+]
 
 -- ---- pair by pair
 
@@ -75,26 +84,28 @@ module _ (m w : ℕ → ℕ → ℕ) where
         rw (among-times i c, le-leb 1 (times i c) e) (omega (arith, later, ap (λ (k : ℕ). k * weigh m w c) single))
   ]
 
-  credited-pairs : (n : ℕ) (cs : List (List ℕ)) → Each (AllBelow n) cs → NoneTwice (joined cs) → credited m w cs ≡ sumBelow n (weightOfPair m w cs)
+  credited-by-pairs : (n : ℕ) (cs : List (List ℕ)) → Each (AllBelow n) cs → NoneTwice (joined cs) → credited m w cs ≡ sumBelow n (weightOfPair m w cs)
   unfolding credited weightOfPair joined
-  credited-pairs n [] b once = sym (sum-none n)
-  credited-pairs n (c ∷ cs) b once =
-      let ih = credited-pairs n cs (b .1) (λ i. omega (arith, once i, times-append i c (joined cs))) in
+  credited-by-pairs n [] b once = sym (sum-none n)
+  credited-by-pairs n (c ∷ cs) b once =
+      let ih = credited-by-pairs n cs (b .1) (λ i. omega (arith, once i, times-append i c (joined cs))) in
       let split = sum-add n (λ i. times i c * weigh m w c) (weightOfPair m w cs) (weightOfPair m w (c ∷ cs)) (pair-cons c cs once) in
       let own = sum-times n (weigh m w c) c in
       omega (arith, ih, split, own, ap (λ (k : ℕ). k * weigh m w c) (length-total n c (b .0)), mul-comm (length c) (weigh m w c))
 
 -- ---- the plan
 
-pub credits-twos : (f l n : ℕ) (m w : ℕ → ℕ → ℕ) (s : List ℕ) → Invertible n s → l ≤ 3 → ((i j : ℕ) → i < n → j < n → m i j ≤ 1)
+pub planned-credits : (f l n : ℕ) (m w : ℕ → ℕ → ℕ) (s : List ℕ) → Invertible n s → l ≤ 3 → ((i j : ℕ) → i < n → j < n → m i j ≤ 1)
     → CreditsTwos (inputWith f l n m w s) (total m w (plannedBy (inputWith f l n m w s))) (plannedBy (inputWith f l n m w s))
-credits-twos f l n m w s sh small bits =
+planned-credits f l n m w s sh small bits =
     let cs : List (List ℕ) = plannedBy (inputWith f l n m w s) in
     let exchanges = planned-set f l n m w s sh bits .exchanges in
+    let by-twos = credited-by-twos l n m w small cs exchanges in
     record {
       bound = λ rivals h g. rival-credit f l n m w s sh rivals h (heavy-count f m w rivals g);
       bound-all = λ e rivals h. rival-credit f l n m w s sh rivals h (all-count f e m w rivals);
-      twos = credited-twos l n m w small cs exchanges;
+      twos = by-twos;
       most = credited-most l n m w cs exchanges;
-      pairs = credited-pairs m w n cs (planned-below f l n m w s sh) (planned-apart f l n m w s sh);
+      less = λ some. omega (arith, by-twos, twos-heavy f m w cs (planned-heavy f l n m w s sh) some);
+      pairs = credited-by-pairs m w n cs (planned-below f l n m w s sh) (planned-apart f l n m w s sh);
     }

@@ -26,13 +26,13 @@ use Rattle.exchange.specs.Input.{Input, Request, inputWith, inputOf, req
 use Rattle.exchange.specs.Planning.{Lent, Plan, roundCount, lengthsOf, planFault, leftBy, plannedBy, planFrom, filledLent, planning}
 use Rattle.exchange.specs.Algorithm1 as Algorithm1
 use Rattle.exchange.specs.Rivals.{planned, Each, Exchange, ExchangeSet}
-use Rattle.exchange.specs.Credit.{CreditsTwos, TwosCredited}
+use Rattle.exchange.specs.Credit.{CreditsTwos, EveryPlanCreditsTwos}
 use Rattle.exchange.specs.Faultless.{FaultlessInput}
 use Rattle.exchange.specs.Promises.{Guarantee, Guaranteed, PlanningIsRight, SameTally, SameLengths, LengthsStay}
 use Rattle.exchange.proofs.Inverse.{Invertible, invertible}
 use Rattle.exchange.proofs.Charged.{weightsOf, weight-at, family, joined, planned-apart}
 use Rattle.exchange.proofs.Planned.{planned-set, planned-heavy, planned-below, rival-factor, heavy-count, all-count}
-use Rattle.exchange.proofs.Credited.{credits-twos}
+use Rattle.exchange.proofs.Credited.{planned-credits}
 use Rattle.exchange.proofs.Tallied.{tallied}
 use Rattle.exchange.proofs.Shuffled.{same-cycles}
 use Rattle.exchange.proofs.Partners.{consistent, algorithm-partners}
@@ -204,7 +204,7 @@ module _ (n f : ℕ) (M W s : List ℕ) (t : Lent) (k : FaultlessInput (request 
     weight = ap (total m w) (sym planned-is);
     factor = λ rivals h g. rival-factor f 3 n m w s sh rivals h (heavy-count f m w rivals g);
     factor-all = λ e rivals h. rival-factor f 3 n m w s sh rivals h (all-count f e m w rivals);
-    credit = subst (λ (c : List (List ℕ)). CreditsTwos q (planFrom q .weight) c) (sym planned-is) (credits-twos f 3 n m w s sh (omega arith) (k .compatible .zeroOrOne));
+    credit = subst (λ (c : List (List ℕ)). CreditsTwos q (planFrom q .weight) c) (sym planned-is) (planned-credits f 3 n m w s sh (omega arith) (k .compatible .zeroOrOne));
     tally = tallied f n m w s;
     partners = partners;
     cycles = planned-is ∙ cs-chosen;
@@ -226,8 +226,8 @@ guaranteed n f M W s t p e =
     let done = finished-is (planFrom (inputOf a)) (filledLent (inputOf a) t) t (planFault a (lengthsOf t)) p e in
     rw (done .left, ← (done .result)) (guarantee n f M W s t (checked a t (done .faultless)))
 
-pub twos-credited : TwosCredited
-twos-credited n f M W s t p e = guaranteed n f M W s t p e .credit
+pub every-plan-credits-twos : EveryPlanCreditsTwos
+every-plan-credits-twos n f M W s t p e = guaranteed n f M W s t p e .credit
 
 -- the records of a made plan are those of its cycles
 pub planned-by : (n f : ℕ) (M W s : List ℕ) (t : Lent) (p : Plan) → planning (request n f M W s) t .answer ≡ finished p

@@ -1,5 +1,5 @@
 -- "A tighter statement for the buyer's file" (document 02, W-208): a bound that credits the twos. Assumes nothing.
-use Prim.Native.Nat.{ℕ, zero, suc, _+_, _*_, _≤_}
+use Prim.Native.Nat.{ℕ, zero, suc, _+_, _*_, _≤_, _<_}
 use mathlib.Core.Path.{_≡_}
 use mathlib.Core.Bool.{cond}
 use mathlib.Core.List.{List, [], _∷_}
@@ -23,7 +23,7 @@ credited m w (c ∷ cs) = weigh m w c * length c + credited m w cs
 abbrev pub creditIn : Input → List (List ℕ) → ℕ
 creditIn q cs = credited (q .compatible) (q .weight) cs
 
--- ## The same sum a second time
+-- ## The same sum again: by the twos, and by the pairs
 
 -- the twos among some cycles
 unfoldable pub twosOf : List (List ℕ) → List (List ℕ)
@@ -49,14 +49,15 @@ pub record CreditsTwos (q : Input) (weight : ℕ) (cycles : List (List ℕ)) : T
   pub bound-all : q .floor ≡ 0 → (cs : List (List ℕ)) → ExchangeSetOf q cs → weightIn q cs ≤ creditIn q cycles
   -- what it credits: the sum and the weight of the planned twos together are three times the plan's weight, for sizes to three
   pub twos : creditIn q cycles + weightIn q (twosOf cycles) ≡ 3 * weight
-  -- so it is never above what the factor gives
+  -- so it is never above what the factor gives, and below it as soon as a two is planned
   pub most : creditIn q cycles ≤ q .scope .largest * weight
-  -- pair by pair, with no number of pairs: every pair counts with the weight of the cycle that it is in
+  pub less : 0 < length (twosOf cycles) → creditIn q cycles < 3 * weight
+  -- the same sum pair by pair, with no cycle's number of pairs in it: every pair counts with the weight of the cycle that it is in
   pub pairs : creditIn q cycles ≡ sumBelow (q .scope .pairs) (weightOfPair (q .compatible) (q .weight) cycles)
 
 -- "For every accepted pool and made plan": whatever N, floor, M, W, shuffle and lent tables are, of the cycles in the records that planning leaves
-abbrev pub TwosCredited : Type 0
-TwosCredited =
+abbrev pub EveryPlanCreditsTwos : Type 0
+EveryPlanCreditsTwos =
     (n f : ℕ) (M W s : List ℕ) (t : Lent) (p : Plan)
     → planning (request n f M W s) t .answer ≡ finished p
     → CreditsTwos (inputOf (request n f M W s)) (p .weight) (planned n p (planning (request n f M W s) t .lent))

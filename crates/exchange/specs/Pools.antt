@@ -1,4 +1,4 @@
--- "Pools to try": k1 to k12, each with what must come out, what floors make of some, and pools in which W-208's bound is tight. Assumes nothing.
+-- "Pools to try": k1 to k12, each with what must come out, what floors make of some, and pools in which W-208's bound is met. Assumes nothing.
 use Prim.Native.Nat.{ℕ, _*_, _/_, _%_}
 use mathlib.Core.Bool.{false, cond}
 use mathlib.Core.List.{List, [], _∷_, _++_, map}
@@ -12,7 +12,7 @@ use Rattle.greedy.specs.Tally.{Tally, tally}
 use Rattle.exchange.specs.Subsets.{upToThree, subsetCount}
 use Rattle.exchange.specs.Input.{Input, Request, inputOf, request}
 use Rattle.exchange.specs.Planning.{Lent, lent, Plan, plan, roundCount, planning}
-use Rattle.exchange.specs.Rivals.{planned, ExchangeSetOf, AboveFloor, weightIn}
+use Rattle.exchange.specs.Rivals.{planned, Each, Exchange, ExchangeSet, ExchangeSetOf, AboveFloor, weightIn}
 use Rattle.exchange.specs.Credit.{creditIn}
 
 -- "Edges as donor→patient:weight"; `mark` is the edge's M entry
@@ -184,7 +184,7 @@ PastUnchanged =
     ≡ outcome (finished (plan 12 1 (tally 1 6 1)))
     (lent (12 ∷ 99 ∷ []) (0 ∷ 99 ∷ []) (1 ∷ 0 ∷ 99 ∷ []) (1 ∷ 0 ∷ 99 ∷ []) (cycle 0 1 2 ∷ cycle 99 99 99 ∷ []))
 
--- ## Rivals that weigh as much as the sum in which the twos are credited (document 02, W-208)
+-- ## Rivals that weigh as much as W-208's sum allows
 
 -- two bounds on the rivals: the sum over the records that planning leaves, and three times the plan's weight; of a refusal none
 unfoldable pub boundsBy : Input → Answer Plan → Lent → List ℕ
@@ -201,22 +201,31 @@ pub record Tight (r : Request) (sum thrice : ℕ) (rival : List (List ℕ)) : Ty
   pub above : AboveFloor (inputOf r) rival
   pub weight : weightIn (inputOf r) rival ≡ sum
 
--- k8 with any floor, and its rival
+-- k8 with any floor
 abbrev pub k8 : ℕ → Request
 k8 f = asked 6 f k8edges (0 ∷ 1 ∷ 2 ∷ 3 ∷ 4 ∷ 5 ∷ [])
 
 abbrev pub k8rival : List (List ℕ)
 k8rival = (0 ∷ 3 ∷ []) ∷ (1 ∷ 4 ∷ []) ∷ (2 ∷ 5 ∷ []) ∷ []
 
--- 0 and 1, 0 and 2, 1 and 3 both ways at 5: 0 and 1 are planned, and each is in a rival that weighs as much
+-- 0 and 1, 0 and 2, 1 and 3 both ways at 5. Planned: 0 and 1
 abbrev pub four : Request
 four = asked 4 0 (edge 0 1 5 ∷ edge 1 0 5 ∷ edge 0 2 5 ∷ edge 2 0 5 ∷ edge 1 3 5 ∷ edge 3 1 5 ∷ []) (0 ∷ 1 ∷ 2 ∷ 3 ∷ [])
 
 abbrev pub fourRival : List (List ℕ)
 fourRival = (0 ∷ 2 ∷ []) ∷ (1 ∷ 3 ∷ []) ∷ []
 
--- 0→1→2→0 at 4, 3 and 4 both ways at 4; 0 and 5, 1 and 6, 2 and 7 both ways at 6, 3 and 8, 4 and 9 both ways at 4: the first two are planned, and each of
--- their pairs is in a rival that weighs as much
+-- 0→1→2→0 and 0→3→4→0 at 4; 1 and 5, 2 and 6 both ways at 6; the shuffle 2 0 1 6 5 4 3. Planned: 2→0→1→2; the rivals are of both sizes
+abbrev pub seven : Request
+seven =
+    asked 7 0
+    (edge 0 1 4 ∷ edge 1 2 4 ∷ edge 2 0 4 ∷ edge 0 3 4 ∷ edge 3 4 4 ∷ edge 4 0 4 ∷ edge 1 5 6 ∷ edge 5 1 6 ∷ edge 2 6 6 ∷ edge 6 2 6 ∷ [])
+    (2 ∷ 0 ∷ 1 ∷ 6 ∷ 5 ∷ 4 ∷ 3 ∷ [])
+
+abbrev pub sevenRival : List (List ℕ)
+sevenRival = (0 ∷ 3 ∷ 4 ∷ []) ∷ (1 ∷ 5 ∷ []) ∷ (2 ∷ 6 ∷ []) ∷ []
+
+-- 0→1→2→0 at 4, 3 and 4 both ways at 4; 0 and 5, 1 and 6, 2 and 7 both ways at 6; 3 and 8, 4 and 9 both ways at 4. Planned: 0→1→2→0, and 3 and 4
 abbrev pub ten : Request
 ten =
     asked 10 0
@@ -229,12 +238,31 @@ ten =
 abbrev pub tenRival : List (List ℕ)
 tenRival = (0 ∷ 5 ∷ []) ∷ (1 ∷ 6 ∷ []) ∷ (2 ∷ 7 ∷ []) ∷ (3 ∷ 8 ∷ []) ∷ (4 ∷ 9 ∷ []) ∷ []
 
+-- one cycle of four, and nothing smaller
+abbrev pub square : Request
+square = asked 4 0 (edge 0 1 4 ∷ edge 1 2 4 ∷ edge 2 3 4 ∷ edge 3 0 4 ∷ []) (0 ∷ 1 ∷ 2 ∷ 3 ∷ [])
+
 pub record CreditsComeOut : Type 0 where
   -- k8, "weight 6 against a rival 18", with floor 0 and with floor 5: a triple is planned
   pub triple : Tight (k8 0) 18 18 k8rival
   pub floor : Tight (k8 5) 18 18 k8rival
-  -- a two, and a triple and a two
+  -- a two; a triple, beside rivals of both sizes; a triple and a two
   pub two : Tight four 20 30 fourRival
+  pub shuffled : Tight seven 36 36 sevenRival
   pub both : Tight ten 52 60 tenRival
-  -- with floor 6 nothing is planned in k8, and its rival of 18 is none above the floor: against all sets there is no such bound
-  pub light : (boundsOf (k8 6) ≡ 0 ∷ 0 ∷ []) × ExchangeSetOf (inputOf (k8 6)) k8rival × (weightIn (inputOf (k8 6)) k8rival ≡ 18)
+  -- no premise on the rivals can go. Against cycles at the floor: k8 with floor 6, where nothing is planned and its rival is not above the floor
+  pub light :
+      (boundsOf (k8 6) ≡ 0 ∷ 0 ∷ [])
+      × ExchangeSetOf (inputOf (k8 6)) k8rival
+      × (weightIn (inputOf (k8 6)) k8rival ≡ 18)
+      × (AboveFloor (inputOf (k8 6)) k8rival → ⊥)
+  -- against cycles that share a pair: the three swaps of `four` weigh 30, where the sum is 20
+  pub sharing :
+      Each (Exchange 3 4 (inputOf four .compatible)) ((0 ∷ 1 ∷ []) ∷ fourRival)
+      × AboveFloor (inputOf four) ((0 ∷ 1 ∷ []) ∷ fourRival)
+      × (weightIn (inputOf four) ((0 ∷ 1 ∷ []) ∷ fourRival) ≡ 30)
+  -- against cycles of four: that of `square` weighs 16, where nothing is planned
+  pub larger :
+      (boundsOf square ≡ 0 ∷ 0 ∷ [])
+      × ExchangeSet 4 4 (inputOf square .compatible) ((0 ∷ 1 ∷ 2 ∷ 3 ∷ []) ∷ [])
+      × (weightIn (inputOf square) ((0 ∷ 1 ∷ 2 ∷ 3 ∷ []) ∷ []) ≡ 16)

@@ -281,7 +281,8 @@ fn safe_tables(input: &Input) -> Result<vadivuzhen::Tables, String> {
 /// Three times the plan's weight, and the sum of each planned cycle's weight
 /// times its number of pairs, are at least the weight of the best set whose
 /// cycles all weigh more than the floor; with floor 0, of the best set there is.
-/// The safe crate adds up the same sum.
+/// The sum and the planned twos together are three times the weight, and the
+/// safe crate adds up the same sum.
 fn bound(seed: u64, random: &mut Random, cases: &mut Cases) -> Result<(), String> {
     let n = (seed % 9) as usize;
     let mut input = input(random, n, seed / 9)?;
@@ -296,9 +297,13 @@ fn bound(seed: u64, random: &mut Random, cases: &mut Cases) -> Result<(), String
             return Err(format!("floor {floor}: weight {weight} beside {best:?}"));
         }
         let sum = credit(n, &input.m, &input.w, &plan);
-        if sum < best.weight || sum > 3 * weight {
+        if sum < best.weight {
             return Err(format!("floor {floor}: sum {sum} beside {best:?}"));
         }
+        let twos = plan.records.iter().zip(weights(&input, &plan));
+        let twos = twos.filter(|(record, _)| usize::from(record[2]) == n);
+        let twos: u32 = twos.map(|(_, weight)| weight).sum();
+        same("the sum with the twos", sum + twos, 3 * weight)?;
         let safely = tables.plan_above(floor, &input.shuffle);
         let safely = safely.map_err(|refused| refused.to_string())?;
         same("the credit", safely.credit(), sum.into())?;
