@@ -71,7 +71,9 @@ module _ (m w : ℕ → ℕ → ℕ) where
   pair-none : (cs : List (List ℕ)) (i : ℕ) → times i (joined cs) ≡ 0 → weightOfPair m w cs i ≡ 0
   unfolding weightOfPair joined
   pair-none [] i h = refl
-  pair-none (c ∷ cs) i h = rw (none-among i c (omega (arith, h, times-append i c (joined cs)))) (pair-none cs i (omega (arith, h, times-append i c (joined cs))))
+  pair-none (c ∷ cs) i h =
+      let here : times i c ≡ 0 = omega (arith, h, times-append i c (joined cs)) in
+      rw (none-among i c here) (omega (arith, pair-none cs i (omega (arith, h, times-append i c (joined cs)))))
 
   -- a pair is in the first cycle, or has its weight from the others
   pair-cons : (c : List ℕ) (cs : List (List ℕ)) → NoneTwice (joined (c ∷ cs)) → (i : ℕ) → weightOfPair m w (c ∷ cs) i ≡ times i c * weigh m w c + weightOfPair m w cs i
