@@ -13,6 +13,8 @@
 //! N, and a [`Plan`] has all that planning leaves, with the ids to print it by.
 //! [`join()`] makes one sheet of two, such as a sheet and its addendum.
 //! [`Pool::plan_above`] leaves out exchanges that are too light to travel for.
+//! [`Plan::credit`] is a limit: no other set of exchanges, each above the same
+//! floor and with no pair in two of them, weighs more.
 //! A pool of version 2 has its registry's own [`Points`] to weigh by.
 //! A [`LivePool`] is kept from match to match: pairs register and withdraw, its
 //! tables are always those of its pairs, and it knows how many donors suit each
