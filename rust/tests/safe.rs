@@ -941,17 +941,28 @@ fn k3() -> Tables {
     Tables::new(vec![7, 8], vec![0, 1, 1, 0], vec![0, 5, 7, 0]).expect("tables for two")
 }
 
+/// What an exchange weighs by these tables, each pair's donor giving to the next
+/// one's patient; 0 if it can't be carried out.
+fn exchange(tables: &Tables, pairs: &[usize]) -> u32 {
+    let n = tables.pairs();
+    let next = pairs.iter().cycle().skip(1);
+    let edges: Vec<usize> = pairs.iter().zip(next).map(|(a, b)| a * n + b).collect();
+    if edges
+        .iter()
+        .any(|&edge| tables.compatibilities()[edge] != 1)
+    {
+        return 0;
+    }
+    let weights = edges.iter().map(|&edge| u32::from(tables.weights()[edge]));
+    weights.sum()
+}
+
 /// What each planned cycle weighs by these tables, in order of choice.
 fn cycle_weights(tables: &Tables, plan: &Plan) -> Vec<u32> {
-    let n = tables.pairs();
     let weigh = |cycle: &Cycle| {
         let pairs = [cycle.first, cycle.second, cycle.third].map(usize::from);
-        let pairs = &pairs[..if pairs[2] == n { 2 } else { 3 }];
-        let next = pairs.iter().cycle().skip(1);
-        let edges = pairs.iter().zip(next);
-        edges
-            .map(|(from, to)| u32::from(tables.weights()[from * n + to]))
-            .sum()
+        let two = pairs[2] == tables.pairs();
+        exchange(tables, &pairs[..if two { 2 } else { 3 }])
     };
     plan.records().iter().map(weigh).collect()
 }
@@ -1053,22 +1064,6 @@ fn weights_of_pairs(tables: &Tables, plan: &Plan) -> u64 {
     (0..n).map(of_pair).sum()
 }
 
-/// What an exchange weighs, each pair's donor giving to the next one's patient;
-/// 0 if it can't be carried out.
-fn exchange(tables: &Tables, pairs: &[usize]) -> u64 {
-    let n = tables.pairs();
-    let next = pairs.iter().cycle().skip(1);
-    let edges: Vec<usize> = pairs.iter().zip(next).map(|(a, b)| a * n + b).collect();
-    if edges
-        .iter()
-        .any(|&edge| tables.compatibilities()[edge] != 1)
-    {
-        return 0;
-    }
-    let weights = edges.iter().map(|&edge| u64::from(tables.weights()[edge]));
-    weights.sum()
-}
-
 #[test]
 fn no_rival_weighs_more_than_the_credit() {
     let identity: Vec<u16> = (0..10).collect();
@@ -1125,7 +1120,9 @@ fn no_rival_weighs_more_than_the_credit() {
     for (tables, shuffle, weight, credit, rivals) in pools {
         let plan = tables.plan(shuffle).expect("a plan");
         assert_eq!((plan.weight(), plan.credit()), (weight, credit));
-        let rivals = rivals.iter().map(|rival| exchange(tables, rival));
+        let rivals = rivals
+            .iter()
+            .map(|rival| u64::from(exchange(tables, rival)));
         assert_eq!(plan.credit(), rivals.sum());
         assert_eq!(plan.credit(), weights_of_pairs(tables, &plan));
     }

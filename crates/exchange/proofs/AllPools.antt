@@ -65,15 +65,14 @@ k8-set f =
       apart = ((refl, (refl, tt)), ((refl, tt), (tt, tt)));
     }
 
-four-swap : (a b : ℕ) → a < 4 → b < 4 → eqb a b ≡ false → inputOf four .compatible a b ≡ 1 → inputOf four .compatible b a ≡ 1 → Exchange 3 4 (inputOf four .compatible) (a ∷ b ∷ [])
-four-swap = swap 4 (inputOf four .compatible)
-
 four-set : ExchangeSetOf (inputOf four) fourRival
 unfolding table among meets either entry read tableOf
-four-set = record {
-  exchanges = (four-swap 0 2 (omega arith) (omega arith) refl refl refl, (four-swap 1 3 (omega arith) (omega arith) refl refl refl, tt));
-  apart = ((refl, tt), (tt, tt));
-}
+four-set =
+    let of = swap 4 (inputOf four .compatible) in
+    record {
+      exchanges = (of 0 2 (omega arith) (omega arith) refl refl refl, (of 1 3 (omega arith) (omega arith) refl refl refl, tt));
+      apart = ((refl, tt), (tt, tt));
+    }
 
 seven-set : ExchangeSetOf (inputOf seven) sevenRival
 unfolding table among meets either along edges entry read tableOf
@@ -137,7 +136,7 @@ credits-come-out = record {
   both = record { bounds = computed .10; set = ten-set; above = (omega arith, (omega arith, (omega arith, (omega arith, (omega arith, tt))))); weight = refl };
   light = (computed .7, k8-set 6, refl, (λ h. absurd (omega (arith, h .0))));
   sharing = (
-    (four-swap 0 1 (omega arith) (omega arith) refl refl refl, four-set .exchanges),
+    (swap 4 (inputOf four .compatible) 0 1 (omega arith) (omega arith) refl refl refl, four-set .exchanges),
     (omega arith, (omega arith, (omega arith, tt))),
     refl,
   );

@@ -2,7 +2,7 @@
 use Prim.Native.Nat.{ℕ, zero, suc, _+_, _*_, _≤_, _<_}
 use mathlib.Core.List.{List, [], _∷_}
 use mathlib.Core.Logic.{inl, inr}
-use mathlib.Core.Path.{_≡_, refl, sym, ap, _∙_}
+use mathlib.Core.Path.{_≡_, refl, sym, ap}
 use native.Mathlib.Omega.{arith}
 use native.Mathlib.Nat.{eq-zero-or-pos, mul-le-mul-left, mul-comm, add-mul, zero-mul}
 use lib.ListN.{length}
@@ -10,7 +10,7 @@ use borrow.Author.Tests.{eq-eqb, ne-eqb, le-leb}
 use Rattle.greedy.proofs.Counts.{times, total as countsBelow, NoneTwice, AllBelow, same, other, same?, times-append, length-total, among-times}
 use Rattle.exchange.specs.Subsets.{weigh}
 use Rattle.exchange.specs.Resolution.{total}
-use Rattle.exchange.specs.Input.{Input, inputWith}
+use Rattle.exchange.specs.Input.{inputWith}
 use Rattle.exchange.specs.Planning.{plannedBy}
 use Rattle.exchange.specs.Rivals.{Each, Exchange}
 use Rattle.exchange.specs.Credit.{credited, twosOf, weightOfPair, sumBelow, CreditsTwos}
