@@ -23,7 +23,7 @@ use Rattle.weighing.specs.declared.Building.{Building}
 use Rattle.weighing.specs.declared.Building.the-variants.{Refused}
 use Rattle.exchange.specs.Subsets.{entry}
 use Rattle.exchange.specs.Input.{noFloor, input, inputOf, request}
-use Rattle.exchange.specs.Faultless.{Compatibility}
+use Rattle.exchange.specs.Faultless.{Compatibility, WeightyTables}
 use Rattle.answers.specs.Answering.{planBy, printedPlanOf}
 use Rattle.buffers.specs.Preconditions.{FaultlessTables}
 use Rattle.answers.proofs.Seated.{each-once, shuffle-seated}
@@ -79,6 +79,10 @@ module _ (v n : ℕ) (t : Tables) (p : Read v n t) (old : Graph) (room : (1600 �
   unfolding entry
   compatible = let q = w .plannable surely in record { zeroOrOne = q .zeroOrOne; own = q .ownCompatibility }
 
+  weighty : WeightyTables n (new .compatibilities) (new .weights)
+  unfolding entry
+  weighty = w .plannable surely .noneWeightless
+
   pub plannable : (1600 ≤ length (new .compatibilities)) × (1600 ≤ length (new .weights)) → FaultlessTables (request n noFloor (new .compatibilities) (new .weights) (take n (t .shuffle)))
   plannable h =
       let held : n ≤ length (t .shuffle) = p .faultless .hold .shuffle in
@@ -90,6 +94,7 @@ module _ (v n : ℕ) (t : Tables) (p : Read v n t) (old : Graph) (room : (1600 �
         shuffle = omega (arith, length-take-le n (t .shuffle) held);
         eachOnce = rw (taken n (t .shuffle) held) (each-once v _ n _ _ (p .faultless .pool));
         compatible = compatible;
+        weighty = weighty;
       }
 
   -- its plan is the pool's

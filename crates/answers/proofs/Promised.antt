@@ -9,7 +9,7 @@ use Rattle.refusal.specs.Fault.{Fault, none, fault, _then_}
 use Rattle.refusal.specs.Answer.{finished}
 use Rattle.refusal.proofs.Faults.{then-none, none-then, by-then}
 use Rattle.pool.specs.Pool.{Pair}
-use Rattle.pool.specs.Points.{Points}
+use Rattle.pool.specs.Points.{Points, pointsOf}
 use Rattle.pool.specs.Sheet.{versionIn, pairsIn, pointAt, pairAt, shuffleAt}
 use Rattle.pool.specs.Faults.{sheetFault, roomFault}
 use Rattle.pool.specs.Faultless.{Faultless, FaultlessSheet}
@@ -17,15 +17,18 @@ use Rattle.pool.proofs.Reading.{room-none, room-passed, room-fault, sheet-none,
 use Rattle.donation.specs.Compatibility.{compatibility}
 use Rattle.donation.specs.Weight.{weight}
 use Rattle.donation.proofs.Compatible.{compatibility-most}
+use Rattle.donation.proofs.Points.{present-weighs}
 use Rattle.weighing.proofs.Promised.{rightly}
 use Rattle.exchange.specs.Subsets.{cycles, entry, pairsAt}
 use Rattle.exchange.specs.Resolution.{recipientTable, donorTable}
 use Rattle.exchange.specs.Input.{Input, noFloor, request}
 use Rattle.exchange.specs.Planning.{plannedBy, planFrom}
 use Rattle.exchange.specs.Algorithm1 as Algorithm1
+use Rattle.exchange.specs.Promises.{ExecutableWeighs}
 use Rattle.exchange.proofs.Inverse.{Invertible}
 use Rattle.exchange.proofs.Charged.{planned-apart}
-use Rattle.exchange.proofs.Planned.{planned-set, rival-factor, all-count}
+use Rattle.exchange.proofs.Planned.{planned-set, rival-factor}
+use Rattle.exchange.proofs.Weightless.{weighty-weighs}
 use Rattle.exchange.proofs.Credited.{planned-credits}
 use Rattle.exchange.proofs.Tallied.{tallied}
 use Rattle.exchange.proofs.Shuffled.{same-cycles}
@@ -49,11 +52,15 @@ built-is-planned v n floor points f old g s t built left low once long =
       long = long;
       eachOnce = once;
       compatible = record { zeroOrOne = z .zeroOrOne; own = z .ownCompatibility };
+      weighty = z .noneWeightless;
     })
 
 -- ## The printed plan
 
-module _ (points : Points) (version : ℕ) (own : ℕ → ℕ) (n : ℕ) (pair : ℕ → Pair) (s : ℕ → ℕ) (w : Faultless version own n pair s) where
+module _ (version : ℕ) (own : ℕ → ℕ) (n : ℕ) (pair : ℕ → Pair) (s : ℕ → ℕ) (w : Faultless version own n pair s) where
+  abbrev points : Points
+  points = pointsOf version own
+
   abbrev q : Input
   q = poolInput points n pair s
 
@@ -74,6 +81,9 @@ module _ (points : Points) (version : ℕ) (own : ℕ → ℕ) (n : ℕ) (pair :
   partners = rw same
       (algorithm-partners q (rw same at (planned-apart noFloor 3 n m v (table n s) seated)) _ _ (λ i h. getD-table n _ 0 i h) (λ i h. getD-table n _ 0 i h))
 
+  none-weightless : ExecutableWeighs q
+  none-weightless = weighty-weighs q (λ i j _ _ h. present-weighs points pair i j (w .points) h)
+
   plan-guarantee : PlanGuarantee q (printedPlanOf points n pair s)
   unfolding printedPlanOf planBy planFrom
   plan-guarantee =
@@ -82,8 +92,9 @@ module _ (points : Points) (version : ℕ) (own : ℕ → ℕ) (n : ℕ) (pair :
         exchanges = planned-set noFloor 3 n m v (table n s) seated (λ i j _ _. compatibility-most pair i j);
         number = refl;
         weighs = refl;
-        factor = λ cs h. rival-factor noFloor 3 n m v (table n s) seated cs h (all-count noFloor refl m v cs);
-        credit = planned-credits noFloor 3 n m v (table n s) seated (omega arith) (λ i j _ _. compatibility-most pair i j);
+        noneWeightless = none-weightless;
+        factor = λ cs h. rival-factor noFloor 3 n m v (table n s) seated cs h (none-weightless .set refl cs h);
+        credit = planned-credits noFloor 3 n m v (table n s) seated (omega arith) (λ i j _ _. compatibility-most pair i j) none-weightless;
         counts = tallied noFloor n m v (table n s);
         partners = partners;
         cycles = same;
@@ -105,7 +116,7 @@ module _ (b : List ℕ) where
 
   sheet-planned : FaultlessSheet b → SheetPlanned b plan
   unfolding printedPlanOf planBy
-  sheet-planned s = record { pairs = refl; ids = refl; guarantee = plan-guarantee (pointsOn b) (versionIn b) (pointAt b) (pairsIn b) (pairAt b) (shuffleAt b (pairsIn b)) (sheet-pool b s) }
+  sheet-planned s = record { pairs = refl; ids = refl; guarantee = plan-guarantee (versionIn b) (pointAt b) (pairsIn b) (pairAt b) (shuffleAt b (pairsIn b)) (sheet-pool b s) }
 
   answer-fault : (k o : ℕ) → found ≡ fault k o → AnswerFault b k o
   answer-fault k o = by-then (AnswerFault b) (sheetFault b) (roomFault most (pairsIn b))

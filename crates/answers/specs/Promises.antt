@@ -18,12 +18,13 @@ use Rattle.exchange.specs.Algorithm1 as Algorithm1
 use Rattle.exchange.specs.Faultless.{LongEnough}
 use Rattle.exchange.specs.Rivals.{ExchangeSetOf, weightIn}
 use Rattle.exchange.specs.Credit.{CreditsTwos}
-use Rattle.exchange.specs.Promises.{TallyOf}
+use Rattle.exchange.specs.Promises.{TallyOf, ExecutableWeighs}
 use Rattle.printout.specs.Printed.{PrintedPlan, planText, refusalText}
 use Rattle.answers.specs.Most.{most}
 use Rattle.answers.specs.Answering.{poolInput, pointsOn, putting, answering}
 
--- tables that were built, by whatever points, are planned, with any shuffle, any floor up to the greatest and any tables that are long enough: they have no fault 10
+-- tables that were built, by whatever points, are planned, with any shuffle, any floor up to the greatest and any tables that are long enough: they have no
+-- fault 10 and no fault 17
 abbrev pub BuiltIsPlanned : Type 0
 BuiltIsPlanned =
     (v n floor : ℕ) (points : List ℕ) (f : Fields) (old g : Graph) (s : List ℕ) (t : Lent)
@@ -42,6 +43,8 @@ pub record PlanGuarantee (q : Input) (p : PrintedPlan) : Type 0 where
   pub exchanges : ExchangeSetOf q planned
   pub number : p .cycles ≡ length planned
   pub weighs : p .weight ≡ weightIn q planned
+  -- "No weightless edges" (document 02, W-209): no executable cycle is weightless
+  pub noneWeightless : ExecutableWeighs q
   -- "three times the plan's weight is at least the weight of every other set of executable 2- and 3-cycles sharing no pair"
   pub factor : (cs : List (List ℕ)) → ExchangeSetOf q cs → weightIn q cs ≤ q .scope .largest * p .weight
   -- "a bound that credits the twos" (document 02, W-208)

@@ -71,6 +71,7 @@ module _ (n : ℕ) (M W s : List ℕ) (p : FaultlessTables (request n noFloor M 
               };
           eachOnce = p .eachOnce;
           compatible = p .compatible;
+          weighty = p .weighty;
         }
 
     -- a plan is made

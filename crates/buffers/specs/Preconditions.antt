@@ -9,7 +9,7 @@ use Rattle.cycle.specs.declared.Cycle.{Cycle}
 use Rattle.exchange.specs.Input.{Request, inputOf}
 use Rattle.exchange.specs.Resolution.{donorTable, recipientTable}
 use Rattle.exchange.specs.Planning.{Lent, Plan, mostFloor, plannedBy, planFrom}
-use Rattle.exchange.specs.Faultless.{Compatibility, Shuffles}
+use Rattle.exchange.specs.Faultless.{Compatibility, WeightyTables, Shuffles}
 use Rattle.exchange.specs.Promises.{PlansRightly}
 use Rattle.answers.specs.Most.{most}
 
@@ -22,6 +22,7 @@ pub record FaultlessTables (r : Request) : Type 0 where
   pub shuffle : r .scope .pairs ≤ length (r .shuffle)
   pub eachOnce : Shuffles r
   pub compatible : Compatibility (r .scope .pairs) (r .compatibilities)
+  pub weighty : WeightyTables (r .scope .pairs) (r .compatibilities) (r .weights)
 
 -- 20 records of zeros, to be written over
 abbrev pub noRecords : List Cycle

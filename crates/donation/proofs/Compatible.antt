@@ -5,7 +5,7 @@ use Prim.Native.Nat.{ℕ, _≤_}
 use native.Mathlib.Omega.{arith}
 use borrow.Author.Tests.{eq-eqb, ne-eqb, eqb-false, not-true}
 use Rattle.laws.specs.Below.{anyBelow, one}
-use Rattle.laws.proofs.Below.{any-none, none-any, true-false, and-true}
+use Rattle.laws.proofs.Below.{any-none, none-any, true-false, and-true, and-never}
 use Rattle.pool.specs.Pool.{Pair}
 use Rattle.donation.specs.Compatibility.{has, shareBit, compatibility, entries}
 use Rattle.donation.specs.Promises.{OneWhereCompatible}
@@ -29,11 +29,6 @@ unfolding one
 one-true true e = refl
 one-true false e = absurd (omega arith)
 
-never : (s t : Bool) → (s ≡ true → t ≡ true → ⊥) → (s && t) ≡ false
-never true true h = absurd (h refl refl)
-never true false h = refl
-never false t h = refl
-
 pub one-where-compatible : OneWhereCompatible
 unfolding compatibility shareBit one
 one-where-compatible pair i j =
@@ -52,6 +47,6 @@ one-where-compatible pair i j =
           },
       λ c.
           let h : anyBelow entries (λ k. has v k && has w k) ≡ false =
-          none-any entries (λ k. has v k && has w k) (λ k l. never (has v k) (has w k) (c .apart k l)) in
+          none-any entries (λ k. has v k && has w k) (λ k l. and-never (has v k) (has w k) (c .apart k l)) in
           rw (ne-eqb i j (c .different), c .blood, h),
     )

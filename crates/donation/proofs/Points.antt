@@ -1,7 +1,7 @@
 -- The points, for any values that they have. Assumes nothing.
 use mathlib.Core.Path.{_≡_, refl, sym, ap, ap₂, _∙_}
 use mathlib.Core.Bool.{Bool, true, false, _&&_, cond}
-use Prim.Native.Nat.{ℕ, _+_, _≤_, max}
+use Prim.Native.Nat.{ℕ, _+_, _≤_, _<_, max}
 use native.Mathlib.Nat.{le-max-left, le-max-right}
 use native.Mathlib.Omega.{arith}
 use borrow.Author.Tests.{eq-eqb, ne-eqb}
@@ -11,10 +11,11 @@ use Rattle.pool.specs.Pool.{Pair}
 use Rattle.pool.specs.Points.{Points, documentPoints, hasPoints, pointsOf, heaviest}
 use Rattle.pool.specs.Faultless.{SoundPoints}
 use Rattle.pool.proofs.Points.{sound-heaviest}
-use Rattle.donation.specs.Compatibility.{has}
+use Rattle.donation.specs.Compatibility.{has, compatibility}
 use Rattle.donation.specs.Promises.{SameOf, CountsMismatches, EdgeExamples, SharedExamples, PatientsOwnExamples, RegistryExamples, DocumentRange}
 use Rattle.donation.specs.Weight.{young, senior, mismatches, mismatchPoints, agePoints, weight}
 use Rattle.donation.proofs.Mismatched.{one-sided, no-other-count}
+use Rattle.donation.proofs.Compatible.{compatibility-same}
 
 cond-most : (most : ℕ) (t : Bool) (x y : ℕ) → x ≤ most → y ≤ most → cond t x y ≤ most
 cond-most most true x y h k = h
@@ -70,6 +71,10 @@ module _ (points : Points) (pair : ℕ → Pair) (i j : ℕ) where
 
   pub weight-least : (i ≡ j → ⊥) → points .base ≤ weight points pair i j
   weight-least h = rw (weight-other h) (omega arith)
+
+  -- an edge that is present weighs something: no pair is compatible with itself
+  pub present-weighs : SoundPoints points → compatibility pair i j ≡ 1 → 0 < weight points pair i j
+  present-weighs sound h = omega (arith, sound .base, weight-least (λ e. omega (arith, h, compatibility-same pair i j e)))
 
   pub weight-most : (i ≡ j → ⊥) → weight points pair i j ≤ heaviest points
   weight-most h = rw (weight-other h) (sum-most points apart (pair i .donorAge) (pair j .patientAge))

@@ -1,4 +1,4 @@
--- k1 to k12, floors, and pools in which W-208's bound is tight, computed. Assumes nothing.
+-- k1 to k12, floors, weightless edges, and pools in which W-208's bound is tight, computed. Assumes nothing.
 use mathlib.Core.Path.{_≡_, refl}
 use mathlib.Core.List.{[], _∷_, flatMap}
 use mathlib.Core.Bool.{false}
@@ -12,24 +12,27 @@ use Rattle.refusal.specs.Answer.{unless}
 use Rattle.pool.specs.Faults.{shuffleFault, roomFault}
 use Rattle.greedy.specs.Places.{among, meets}
 use Rattle.greedy.specs.Tally.{raise, nextRound}
+use Rattle.greedy.specs.Floorless as Before
 use Rattle.greedy.specs.Rounds.{join, byHalves, choosing, clear, clearingTally, rounds}
 use Rattle.exchange.specs.Subsets.{ascending, subsets, eachFirst, orders, cycles, along, edges, entry, productOf, sumOf, weigh, firstOf, heaviest, pairsAt, bestCycle, subsetWeight, evaluationTally}
 use Rattle.exchange.specs.Input.{inputOf}
 use Rattle.exchange.specs.Resolution.{resolved, recordOf, pairsOf, recipientBy, donorBy, recipientTable, donorTable, total}
-use Rattle.exchange.specs.Planning.{tableFault, shortToRead, shortToFill, planFault, leftBy, plannedBy, planFrom, filledLent, planning}
-use Rattle.exchange.specs.Pools.{read, tableOf, blank, foundIn, found, boundsBy, boundsOf, k8, k8rival, four, fourRival, seven, sevenRival, ten, tenRival, square}
-use Rattle.exchange.specs.Pools.{PoolsComeOut, FloorsComeOut, FirstFaultTold, FourBeforeThirteen, PastUnchanged, CreditsComeOut}
+use Rattle.exchange.specs.Planning.{tableFault, edgeFault, shortToRead, shortToFill, planFault, leftBy, plannedBy, planFrom, filledLent, planning}
+use Rattle.exchange.specs.Floors as Floorless
+use Rattle.exchange.specs.Pools.{read, tableOf, blank, foundIn, found, k5, boundsBy, boundsOf, k8, k8rival, four, fourRival, seven, sevenRival, ten, tenRival, square}
+use Rattle.exchange.specs.Pools.{PoolsComeOut, FloorsComeOut, FirstFaultTold, FourBeforeThirteen, PastUnchanged, WeightlessPlanned, EntryPastUnread, K5Before, WeightlessComeOut, CreditsComeOut}
 use Rattle.exchange.specs.Rivals.{planned, Exchange, ExchangeSet, ExchangeSetOf}
 use Rattle.exchange.specs.Credit.{credited}
 
 computed : PoolsComeOut × FloorsComeOut × FirstFaultTold × FourBeforeThirteen × PastUnchanged × (boundsOf (k8 0) ≡ 18 ∷ 18 ∷ []) × (boundsOf (k8 5) ≡ 18 ∷ 18 ∷ [])
     × (boundsOf (k8 6) ≡ 0 ∷ 0 ∷ []) × (boundsOf four ≡ 20 ∷ 30 ∷ []) × (boundsOf seven ≡ 36 ∷ 36 ∷ []) × (boundsOf ten ≡ 52 ∷ 60 ∷ []) × (boundsOf square ≡ 0 ∷ 0 ∷ [])
+    × WeightlessPlanned × EntryPastUnread × K5Before
 unfolding flatMap table either anyBelow countBelow one filled refuse _then_ unless shuffleFault roomFault among meets raise nextRound join
     byHalves choosing clear clearingTally rounds ascending subsets eachFirst orders cycles along edges entry productOf sumOf weigh firstOf
     heaviest pairsAt bestCycle subsetWeight evaluationTally resolved recordOf pairsOf recipientBy donorBy recipientTable donorTable total tableFault
-    shortToRead shortToFill planFault leftBy plannedBy planFrom filledLent planning read tableOf blank foundIn found planned credited
-    boundsBy boundsOf
-computed = (refl, refl, refl, refl, refl, refl, refl, refl, refl, refl, refl, refl)
+    edgeFault shortToRead shortToFill planFault leftBy plannedBy planFrom filledLent planning read tableOf blank foundIn found planned credited
+    boundsBy boundsOf Before.choosing Before.rounds Floorless.planFault Floorless.leftBy Floorless.planning
+computed = (refl, refl, refl, refl, refl, refl, refl, refl, refl, refl, refl, refl, refl, refl, refl)
 
 pub pools : PoolsComeOut
 pools = computed .0
@@ -46,12 +49,20 @@ four-before-thirteen = computed .3
 pub past-unchanged : PastUnchanged
 past-unchanged = computed .4
 
--- ---- W-208's bound, tight
+-- ---- W-209's edges, and W-208's bound, tight
 
 -- a swap among n pairs
 swap : (n : ℕ) (m : ℕ → ℕ → ℕ) (a b : ℕ) → a < n → b < n → eqb a b ≡ false → m a b ≡ 1 → m b a ≡ 1 → Exchange 3 n m (a ∷ b ∷ [])
 unfolding among either along edges
 swap n m a b h k d e g = record { least = omega arith; most = omega arith; pool = (h, (k, tt)); different = (rw d, (refl, tt)); executable = (e, (g, tt)) }
+
+k5-set : ExchangeSetOf (inputOf k5) ((0 ∷ 1 ∷ []) ∷ [])
+unfolding table entry read tableOf
+k5-set = record { exchanges = (swap 2 (inputOf k5 .compatible) 0 1 (omega arith) (omega arith) refl refl refl, tt); apart = (tt, tt) }
+
+pub weightless-come-out : WeightlessComeOut
+unfolding table along edges entry productOf sumOf weigh total read tableOf
+weightless-come-out = record { come = computed .12; past = computed .13; before = computed .14; rival = (k5-set, refl) }
 
 k8-set : (f : ℕ) → ExchangeSetOf (inputOf (k8 f)) k8rival
 unfolding table among meets either entry read tableOf

@@ -91,12 +91,12 @@ size-most l n i = elim (subset-is l n i) [ inl h ↦ h .most | inr e ↦ rw e (o
 
 -- ---- the theorem
 
--- a rival cycle: two to l pairs of the pool, and a weight of 0 or above the floor
+-- a rival cycle: two to l pairs of the pool, of a weight above the floor
 pub record Rival (f l n : ℕ) (m w : ℕ → ℕ → ℕ) (c : List ℕ) : Type 0 where
   pub least : 2 ≤ length c
   pub most : length c ≤ l
   pub below : AllBelow n c
-  pub above : (weigh m w c ≡ 0) ⊎ (f < weigh m w c)
+  pub above : f < weigh m w c
 
 -- the subset of a cycle of pairs: it has the pairs' places, and weighs at least as much
 module _ (l n : ℕ) (m w : ℕ → ℕ → ℕ) (s : List ℕ) (sh : Invertible n s) where
@@ -138,15 +138,13 @@ module _ (f l n : ℕ) (m w : ℕ → ℕ → ℕ) (s : List ℕ) (sh : Invertib
 
   cycle-bears : (c : List ℕ) → NoneTwice c → Rival f l n m w c → weigh m w c ≤ bears c
   unfolding bears leftBy
-  cycle-bears c o h = go (h .above) (cycle-at l n m w s sh c o (h .below) (h .least) (h .most))
+  cycle-bears c o h = go (cycle-at l n m w s sh c o (h .below) (h .least) (h .most))
     where
-      go : (weigh m w c ≡ 0) ⊎ (f < weigh m w c)
-          → (i : ℕ) × Alike (seats s c) (getD (subsets l n) i []) × (weigh m w c ≤ getD (weightsOf l n m w s) i 0) → weigh m w c ≤ bears c
-      go (inl z) at = omega arith
-      go (inr z) (i, like, k) = omega (
+      go : (i : ℕ) × Alike (seats s c) (getD (subsets l n) i []) × (weigh m w c ≤ getD (weightsOf l n m w s) i 0) → weigh m w c ≤ bears c
+      go (i, like, k) = omega (
         arith,
         charge-alike (subsets l n) (weightsOf l n m w s) (leftBy (inputWith f l n m w s) .choices) (seats s c) (getD (subsets l n) i []) like,
-        subset-charge f n (roundCount n) (subsets l n) (weightsOf l n m w s) (evaluationTally (subsets l n) (tally 0 0 0)) (family l n m w s) (omega arith) i (omega arith),
+        subset-charge f n (roundCount n) (subsets l n) (weightsOf l n m w s) (evaluationTally (subsets l n) (tally 0 0 0)) (family l n m w s) (omega arith) i (omega (arith, h .above)),
       )
 
   total-bears : (cs : List (List ℕ)) → Each (Rival f l n m w) cs → NoneTwice (joined cs) → total m w cs ≤ bears (joined cs)

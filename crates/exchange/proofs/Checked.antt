@@ -1,14 +1,14 @@
 -- What planning has checked, where it does not refuse, and what every answer of it says. Assumes nothing.
 use Prim.Native.Nat.{ℕ, _≤_, _<_}
-use mathlib.Core.Bool.{Bool, false, not}
+use mathlib.Core.Bool.{Bool, false, not, _&&_}
 use mathlib.Core.List.{List}
 use mathlib.Core.Path.{_≡_, refl, ap, _∙_}
 use native.Mathlib.Omega.{arith}
 use lib.Dec.{eqb, ltb}
 use lib.ListN.{length}
-use borrow.Author.Tests.{ltb-true, ltb-false, le-ltb, eqb-true, eq-eqb, not-false}
+use borrow.Author.Tests.{ltb-true, ltb-false, le-ltb, eqb-true, eqb-false, eq-eqb, not-false}
 use Rattle.laws.specs.Below.{either, anyBelow}
-use Rattle.laws.proofs.Below.{true-false, either-false, any-none, none-any}
+use Rattle.laws.proofs.Below.{true-false, and-true, and-never, either-false, any-none, none-any, any-found}
 use Rattle.refusal.specs.Fault.{Fault, none, fault, refuse, _then_}
 use Rattle.refusal.specs.Answer.{Outcome, finished, unless}
 use Rattle.refusal.proofs.Faults.{refuse-none, none-refuse, then-none, none-then, by-refuse, by-then, unless-none, unless-fault, finished-none, refused-fault}
@@ -17,9 +17,9 @@ use Rattle.pool.proofs.Pairs.{shuffle-none, shuffle-passed, shuffle-fault}
 use Rattle.pool.proofs.Reading.{room-none, room-passed, room-fault}
 use Rattle.exchange.specs.Subsets.{entry}
 use Rattle.exchange.specs.Input.{Request}
-use Rattle.exchange.specs.Planning.{Lent, Plan, mostFloor, lengthsOf, tableFault, shortToRead, shortToFill, planFault, planning}
+use Rattle.exchange.specs.Planning.{Lent, Plan, mostFloor, lengthsOf, tableFault, weightless, edgeFault, shortToRead, shortToFill, planFault, planning}
 use Rattle.exchange.specs.Promises.{AnswersRightly}
-use Rattle.exchange.specs.Faultless.{LongEnough, Compatibility, FaultlessInput, PlanFault, tooManyPairs, floorTooHigh, tooShort, notAShuffle, notCompatibility}
+use Rattle.exchange.specs.Faultless.{LongEnough, Compatibility, WeightyTables, FaultlessInput, PlanFault, tooManyPairs, floorTooHigh, tooShort, notAShuffle, notCompatibility, weightlessEdge}
 
 module _ (n : ℕ) (M : List ℕ) where
   -- ## 10
@@ -38,7 +38,7 @@ module _ (n : ℕ) (M : List ℕ) where
   unfolding tableFault row
   table-none h = none-refuse 10 0 _ (no-row h)
 
-  table-passed : tableFault n M ≡ none → Compatibility n M
+  pub table-passed : tableFault n M ≡ none → Compatibility n M
   unfolding tableFault
   table-passed e =
       let rows : (i : ℕ) → i < n → either (anyBelow n (λ j. ltb 1 (entry M n i j))) (not (eqb (entry M n i i) 0)) ≡ false =
@@ -52,12 +52,48 @@ module _ (n : ℕ) (M : List ℕ) where
   unfolding tableFault row
   table-fault P ten = by-refuse P 10 0 _ (λ e. ten (λ h. true-false e (no-row h)))
 
+  -- ## 17
+
+  module _ (W : List ℕ) where
+    pub edge-none : WeightyTables n M W → edgeFault n M W ≡ none
+    unfolding edgeFault
+    edge-none h =
+        none-refuse 17 0 _
+        (none-any n (λ i. anyBelow n (weightless n M W i)) (λ i k. none-any n (weightless n M W i) (λ j q.
+        and-never (eqb (entry M n i j) 1) (eqb (entry W n i j) 0) (λ there e.
+        omega (arith, h i j k q (eqb-true (entry M n i j) 1 there), eqb-true (entry W n i j) 0 e)))))
+
+    edge-passed : edgeFault n M W ≡ none → WeightyTables n M W
+    unfolding edgeFault
+    edge-passed e i j k q there =
+        let none : weightless n M W i j ≡ false = any-none n _ (any-none n _ (refuse-none 17 0 _ e) i k) j q in
+        omega (arith, eqb-false (entry W n i j) 0 (rw (eq-eqb _ 1 there) at none))
+
+    pub edge-fault : (P : ℕ → ℕ → Type 0)
+        → ((i j : ℕ) → i < n → j < n → entry M n i j ≡ 1 → entry W n i j ≡ 0 → P 17 0) → (k o : ℕ) → edgeFault n M W ≡ fault k o → P k o
+    unfolding edgeFault
+    edge-fault P seventeen = by-refuse P 17 0 _ (λ e.
+        let row = any-found n _ e in
+        let at = any-found n _ (row .2) in
+        let both = and-true _ _ (at .2) in
+        seventeen (row .0) (at .0) (row .1) (at .1) (eqb-true _ 1 (both .0)) (eqb-true _ 0 (both .1)))
+
+    pub edge-seventeen : (WeightyTables n M W → ⊥) → edgeFault n M W ≡ fault 17 0
+    edge-seventeen h = go (edgeFault n M W) refl
+      where
+        go : (f : Fault) → edgeFault n M W ≡ f → f ≡ fault 17 0
+        go none e = absurd (h (edge-passed e))
+        go (fault k o) e = edge-fault (λ k o. fault k o ≡ fault 17 0) (λ i j a b there z. refl) k o e
+
 module _ (r : Request) (t : Lent) where
   n : ℕ
   n = r .scope .pairs
 
   M : List ℕ
   M = r .compatibilities
+
+  W : List ℕ
+  W = r .weights
 
   -- ## 9
 
@@ -118,11 +154,11 @@ module _ (r : Request) (t : Lent) where
         (λ _. by-then P _ _ (room-fault P _ _ (λ l. nine (λ h. omega (arith, l, h .recipients))))
         (λ _. room-fault P _ _ (λ l. nine (λ h. omega (arith, l, h .records)))))))
 
-  -- ## All five
+  -- ## All six
 
   -- the fault told is there, and none that is checked before it
   plan-fault : (k o : ℕ) → planFault r (lengthsOf t) ≡ fault k o → (o ≡ 0) × PlanFault r t k
-  unfolding planFault n M toRead toFill
+  unfolding planFault n M W toRead toFill
   plan-fault =
       let P : ℕ → ℕ → Type 0 = λ k o. (o ≡ 0) × PlanFault r t k in
       by-then P (refuse 4 0 (ltb 200 n)) _ (by-refuse P 4 0 _ (λ e. (refl, tooManyPairs (ltb-true _ _ e))))
@@ -133,32 +169,37 @@ module _ (r : Request) (t : Lent) where
       (λ c. by-then P toFill _ (fill-fault P (λ h. (refl, tooShort few low h)))
       (λ d. let long = long-passed c d in
       by-then P (shuffleFault 0 n _) _ (shuffle-fault 0 n _ P (λ h. (refl, notAShuffle few low long h)))
-      (λ g. table-fault n M P (λ h. (refl, notCompatibility few low long (shuffle-passed 0 n _ g) h)))))))
+      (λ g. let once = shuffle-passed 0 n _ g in
+      by-then P (tableFault n M) _ (table-fault n M P (λ h. (refl, notCompatibility few low long once h)))
+      (λ h. edge-fault n M W P (λ i j a b there e. (refl, weightlessEdge few low long once (table-passed n M h) i j a b there e))))))))
 
   none-planned : FaultlessInput r t → planFault r (lengthsOf t) ≡ none
-  unfolding planFault n M toRead toFill
+  unfolding planFault n M W toRead toFill
   none-planned h =
       none-then _ _ (none-refuse 4 0 _ (le-ltb 200 n (h .few)))
       ∙ none-then _ _ (none-refuse 13 0 _ (le-ltb mostFloor (r .floor) (h .low)))
       ∙ none-then _ _ (read-none (h .long))
       ∙ none-then _ _ (fill-none (h .long))
       ∙ none-then _ _ (shuffle-none 0 n _ (h .eachOnce))
-      ∙ table-none n M (h .compatible)
+      ∙ none-then _ _ (table-none n M (h .compatible))
+      ∙ edge-none n M W (h .weighty)
 
   pub checked : planFault r (lengthsOf t) ≡ none → FaultlessInput r t
-  unfolding planFault n M toRead toFill
+  unfolding planFault n M W toRead toFill
   checked e =
       let a = then-none _ _ e in
       let b = then-none _ _ (a .1) in
       let c = then-none _ _ (b .1) in
       let d = then-none _ _ (c .1) in
       let g = then-none _ _ (d .1) in
+      let h = then-none _ _ (g .1) in
       record {
         few = ltb-false _ _ (refuse-none _ _ _ (a .0));
         low = ltb-false _ _ (refuse-none _ _ _ (b .0));
         long = long-passed (c .0) (d .0);
         eachOnce = shuffle-passed 0 n _ (g .0);
-        compatible = table-passed n M (g .1);
+        compatible = table-passed n M (h .0);
+        weighty = edge-passed n M W (h .1);
       }
 
 -- ## Where a call is finished, there is no fault, and what was to be filled is filled

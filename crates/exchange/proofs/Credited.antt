@@ -14,10 +14,11 @@ use Rattle.exchange.specs.Input.{inputWith}
 use Rattle.exchange.specs.Planning.{plannedBy}
 use Rattle.exchange.specs.Rivals.{Each, Exchange}
 use Rattle.exchange.specs.Credit.{credited, twosOf, weightOfPair, sumBelow, CreditsTwos}
+use Rattle.exchange.specs.Promises.{ExecutableWeighs}
 use Rattle.exchange.proofs.Inverse.{Invertible}
 use Rattle.exchange.proofs.Charged.{joined, planned-apart}
 use Rattle.exchange.proofs.Sets.{none-among}
-use Rattle.exchange.proofs.Planned.{planned-set, planned-heavy, planned-below, rival-credit, heavy-count, all-count}
+use Rattle.exchange.proofs.Planned.{planned-set, planned-heavy, planned-below, rival-credit}
 
 -- ---- by the sizes
 
@@ -98,14 +99,15 @@ module _ (m w : ℕ → ℕ → ℕ) where
 -- ---- the plan
 
 pub planned-credits : (f l n : ℕ) (m w : ℕ → ℕ → ℕ) (s : List ℕ) → Invertible n s → l ≤ 3 → ((i j : ℕ) → i < n → j < n → m i j ≤ 1)
+    → ExecutableWeighs (inputWith f l n m w s)
     → CreditsTwos (inputWith f l n m w s) (total m w (plannedBy (inputWith f l n m w s))) (plannedBy (inputWith f l n m w s))
-planned-credits f l n m w s sh small bits =
+planned-credits f l n m w s sh small bits weighs =
     let cs : List (List ℕ) = plannedBy (inputWith f l n m w s) in
     let exchanges = planned-set f l n m w s sh bits .exchanges in
     let by-twos = credited-by-twos l n m w small cs exchanges in
     record {
-      bound = λ rivals h g. rival-credit f l n m w s sh rivals h (heavy-count f m w rivals g);
-      bound-all = λ e rivals h. rival-credit f l n m w s sh rivals h (all-count f e m w rivals);
+      bound = rival-credit f l n m w s sh;
+      bound-all = λ e rivals h. rival-credit f l n m w s sh rivals h (weighs .set e rivals h);
       twos = by-twos;
       most = credited-most l n m w cs exchanges;
       less = λ some. omega (arith, by-twos, twos-heavy f m w cs (planned-heavy f l n m w s sh) some);

@@ -1,22 +1,26 @@
 -- Planning reads the entries of two different pairs of the pool, and no others: not the weight of a pair's donor for its own patient. Assumes nothing.
 use Prim.Native.Nat.{ℕ, _+_, _*_, _≤_, _<_}
-use mathlib.Core.Bool.{Bool, true, false, cond}
+use mathlib.Core.Bool.{Bool, true, false, cond, _&&_}
 use mathlib.Core.List.{List, [], _∷_, _++_, map}
-use mathlib.Core.Path.{_≡_, refl, ap, ap₂, _∙_}
+use mathlib.Core.Path.{_≡_, refl, sym, ap, ap₂, _∙_}
 use native.Mathlib.Omega.{arith}
-use lib.Dec.{ltb}
+use lib.Dec.{eqb, ltb}
 use lib.ListN.{length, getD, length-map}
+use borrow.Author.Tests.{ne-eqb}
+use Rattle.laws.specs.Below.{anyBelow}
 use Rattle.laws.specs.Lent.{filled}
-use Rattle.refusal.specs.Fault.{Fault, none, fault}
+use Rattle.laws.proofs.Below.{any-cong}
+use Rattle.refusal.specs.Fault.{Fault, none, fault, refuse, _then_}
 use Rattle.refusal.specs.Answer.{Outcome, unless}
 use Rattle.greedy.specs.Promises.{firstAt}
 use Rattle.greedy.specs.Tally.{tally}
 use Rattle.greedy.specs.Rounds.{Left, rounds}
-use Rattle.greedy.proofs.Counts.{times, NoneTwice, AllBelow, Alike, one-same, one-eq, times-append, times-cons, alike-length}
+use Rattle.greedy.proofs.Counts.{times, NoneTwice, AllBelow, Alike, one-same, one-eq, same, other, same?, times-append, times-cons, alike-length}
 use Rattle.exchange.specs.Subsets.{Scope, subsets, cycles, Edge, along, edges, entry, productOf, sumOf, weigh, firstOf, heaviest, pairsAt, bestCycle, subsetWeight, evaluationTally}
 use Rattle.exchange.specs.Resolution.{resolved, recordOf, recipientTable, donorTable, total}
 use Rattle.exchange.specs.Input.{Request, inputWith}
-use Rattle.exchange.specs.Planning.{Lent, lent, Plan, plan, roundCount, lengthsOf, planFault, shortToRead, leftBy, plannedBy, planFrom, filledLent, planning}
+use Rattle.exchange.specs.Planning.{Lent, lent, Plan, plan, roundCount, lengthsOf, tableFault, weightless, edgeFault, planFault, shortToRead, leftBy, plannedBy, planFrom, filledLent, planning}
+use Rattle.exchange.specs.Faultless.{Compatibility}
 use Rattle.exchange.specs.Rivals.{Each, Exchange}
 use Rattle.exchange.specs.Promises.{DiagonalUnread}
 use Rattle.exchange.proofs.Ordered.{Subset, subsets-all, each-at, each-mono}
@@ -25,7 +29,7 @@ use Rattle.exchange.proofs.Inverse.{Invertible, invertible, pairs-below
 use Rattle.exchange.proofs.Charged.{bestCycle-alike}
 use Rattle.exchange.proofs.Sets.{Inside, pool-below, below-pool, edges-inside, different-once}
 use Rattle.exchange.proofs.Planned.{planned-set}
-use Rattle.exchange.proofs.Checked.{checked}
+use Rattle.exchange.proofs.Checked.{table-passed, checked}
 
 -- ---- a cycle of two or more different pairs has edges between different pairs
 
@@ -162,9 +166,28 @@ module _ (q : Scope) (f : ℕ) (M W W′ s : List ℕ) (t : Lent) (e : length W 
   abbrev v : ℕ → ℕ → ℕ
   v = entry W′ n
 
+  -- 17 looks at W(i, j) where M(i, j) is 1, which 10 refuses where i is j
+  edge-agree : Compatibility n M → edgeFault n M W ≡ edgeFault n M W′
+  unfolding edgeFault
+  edge-agree h = ap (refuse 17 0) (any-cong n (λ i. anyBelow n (weightless n M W i)) (λ i. anyBelow n (weightless n M W′ i))
+      (λ i a. any-cong n (weightless n M W i) (weightless n M W′ i) (λ j b. elim (same? i j) [
+        | same o _ ↦
+            let absent : eqb (m i j) 1 ≡ false = ne-eqb (m i j) 1 (λ z. omega (arith, z, ap (m i) (sym o) ∙ h .own i a)) in
+            rw absent
+        | other o _ ↦ ap (λ (x : ℕ). eqb (m i j) 1 && eqb x 0) (agree i j a b o)
+      ])))
+
+  tables-agree : (tableFault n M then edgeFault n M W) ≡ (tableFault n M then edgeFault n M W′)
+  unfolding _then_
+  tables-agree = go (tableFault n M) refl
+    where
+      go : (g : Fault) → tableFault n M ≡ g → (g then edgeFault n M W) ≡ (g then edgeFault n M W′)
+      go (fault k o) z = refl
+      go none z = edge-agree (table-passed n M z)
+
   fault-agree : planFault (lends W) (lengthsOf t) ≡ planFault (lends W′) (lengthsOf t)
   unfolding planFault shortToRead
-  fault-agree = rw e
+  fault-agree = rw (e, tables-agree)
 
   -- what planning leaves with cycles cs of weight x, after rounds that left r; or the refusal
   abbrev ends : Fault → ℕ → List (List ℕ) → Left → Outcome Plan Lent

@@ -12,26 +12,32 @@ use Rattle.laws.proofs.Below.{either-true, either-false}
 use Rattle.laws.specs.Lent.{filled}
 use Rattle.refusal.specs.Fault.{Fault, refuse, _then_}
 use Rattle.refusal.specs.Answer.{Outcome, unless}
-use Rattle.refusal.proofs.Faults.{none-then, none-refuse}
+use Rattle.refusal.proofs.Faults.{none-refuse, none-then, then-nothing, fault-then, then-assoc, unless-fault, finished-none, refused-fault}
 use Rattle.greedy.specs.Rounds.{Left}
 use Rattle.greedy.proofs.Floorless.{rounds-zero}
 use Rattle.exchange.specs.Subsets.{subsets, entry, weigh, heaviest, pairsAt, bestCycle, subsetWeight}
 use Rattle.exchange.specs.Resolution.{resolved, recordOf, recipientTable, donorTable, total}
 use Rattle.exchange.specs.Input.{Request, input, inputOf, request}
 use Rattle.exchange.specs.Planning as Planning
-use Rattle.exchange.specs.Planning.{Lent, lent, Plan, plan, mostFloor, lengthsOf, planFrom, filledLent, plannedBy}
+use Rattle.exchange.specs.Planning.{Lent, lent, Plan, plan, mostFloor, lengthsOf, edgeFault, planFrom, filledLent, plannedBy}
 use Rattle.exchange.specs.Algorithm1.{someAbove, without, Loop, loop}
 use Rattle.exchange.specs.Rivals.{Each}
-use Rattle.exchange.specs.Floors.{planFault, leftBy, planning, FloorZeroIsToday, CutOff, FloorCutsOff}
+use Rattle.exchange.specs.Floors.{planFault, leftBy, planning, Today, FloorZeroIsToday, CutOff, FloorCutsOff}
 use Rattle.exchange.proofs.Weighed.{each-heaviest}
 use Rattle.exchange.proofs.Inverse.{Invertible, invertible}
 use Rattle.exchange.proofs.Loop.{each-without, quiet-loop, busy-loop}
 use Rattle.exchange.proofs.Planned.{planned-heavy}
 use Rattle.exchange.proofs.Shuffled.{loop-cycles}
-use Rattle.exchange.proofs.Checked.{checked, finished-is}
+use Rattle.exchange.proofs.Checked.{edge-none, edge-seventeen, checked, finished-is}
 use Rattle.exchange.proofs.Guaranteed.{planned-by}
 
 -- ## Floor 0
+
+-- a fault that is looked for after five others
+then-last : (a b c d e f : Fault) → ((a then b then c then d then e) then f) ≡ (a then b then c then d then e then f)
+then-last a b c d e f =
+    then-assoc a _ f ∙ ap (λ (x : Fault). a then x) (then-assoc b _ f ∙ ap (λ (x : Fault). b then x)
+    (then-assoc c _ f ∙ ap (λ (x : Fault). c then x) (then-assoc d e f)))
 
 module _ (n : ℕ) (M W s : List ℕ) (t : Lent) where
   abbrev m : ℕ → ℕ → ℕ
@@ -40,10 +46,14 @@ module _ (n : ℕ) (M W s : List ℕ) (t : Lent) where
   abbrev w : ℕ → ℕ → ℕ
   w = entry W n
 
-  -- 0 is never above 200,000
-  fault-zero : Planning.planFault (request n 0 M W s) (lengthsOf t) ≡ planFault n M W s (lengthsOf t)
-  unfolding Planning.planFault planFault
-  fault-zero = ap (λ (f : Fault). refuse 4 0 (ltb 200 n) then f) (none-then _ _ (none-refuse 13 0 (ltb mostFloor 0) refl))
+  -- document 01's faults
+  was : Fault
+  was = planFault n M W s (lengthsOf t)
+
+  -- 0 is never above 200,000, and 17 comes last
+  fault-zero : Planning.planFault (request n 0 M W s) (lengthsOf t) ≡ (was then edgeFault n M W)
+  unfolding Planning.planFault planFault was
+  fault-zero = ap (λ (f : Fault). refuse 4 0 (ltb 200 n) then f) (none-then _ _ (none-refuse 13 0 (ltb mostFloor 0) refl)) ∙ sym (then-last _ _ _ _ _ _)
 
   left-zero : Planning.leftBy (input n 0 m w s) ≡ leftBy n m w s
   unfolding Planning.leftBy leftBy
@@ -57,12 +67,29 @@ module _ (n : ℕ) (M W s : List ℕ) (t : Lent) where
       (lent (filled (r .weights) (t .weights)) (filled (r .choices) (t .choices)) (filled (donorTable n cs) (t .donors))
       (filled (recipientTable n cs) (t .recipients)) (filled (map (recordOf n) cs) (t .records))) t
 
-  planning-zero : Planning.planning (request n 0 M W s) t ≡ planning n M W s t
-  unfolding Planning.planning planning planFrom filledLent plannedBy ends
+  planning-zero : Planning.planning (request n 0 M W s) t ≡ ends (was then edgeFault n M W) (leftBy n m w s)
+  unfolding Planning.planning planFrom filledLent plannedBy ends
   planning-zero = ap₂ ends fault-zero left-zero
 
+  -- where 17 adds nothing
+  as-it-was : (was then edgeFault n M W) ≡ was → Planning.planning (request n 0 M W s) t ≡ planning n M W s t
+  unfolding planning ends was
+  as-it-was e = planning-zero ∙ ap (λ (f : Fault). ends f (leftBy n m w s)) e
+
+  today : Today n M W s t
+  unfolding planning ends was
+  today =
+      record {
+        same = λ h. as-it-was (ap (λ (f : Fault). was then f) (edge-none n M W h) ∙ then-nothing was);
+        alike = λ k o e. let f = refused-fault was _ _ _ e in as-it-was (fault-then was _ f ∙ sym f);
+        turned =
+            λ p e h.
+            planning-zero
+            ∙ unless-fault (was then edgeFault n M W) _ _ _ 17 0 (none-then was _ (finished-none was _ _ _ e .0) ∙ edge-seventeen n M W h);
+      }
+
 pub floor-zero-is-today : FloorZeroIsToday
-floor-zero-is-today = planning-zero
+floor-zero-is-today = today
 
 -- ## A higher floor: Algorithm 1's loop ends earlier
 

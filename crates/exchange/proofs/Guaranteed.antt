@@ -28,11 +28,12 @@ use Rattle.exchange.specs.Algorithm1 as Algorithm1
 use Rattle.exchange.specs.Rivals.{planned, Each, Exchange, ExchangeSet}
 use Rattle.exchange.specs.Credit.{CreditsTwos, EveryPlanCreditsTwos}
 use Rattle.exchange.specs.Faultless.{FaultlessInput}
-use Rattle.exchange.specs.Promises.{Guarantee, Guaranteed, PlanningIsRight, SameTally, SameLengths, LengthsStay}
+use Rattle.exchange.specs.Promises.{ExecutableWeighs, Guarantee, Guaranteed, PlanningIsRight, SameTally, SameLengths, LengthsStay}
 use Rattle.exchange.proofs.Inverse.{Invertible, invertible}
 use Rattle.exchange.proofs.Charged.{weightsOf, weight-at, family, joined, planned-apart}
-use Rattle.exchange.proofs.Planned.{planned-set, planned-heavy, planned-below, rival-factor, heavy-count, all-count}
+use Rattle.exchange.proofs.Planned.{planned-set, planned-heavy, planned-below, rival-factor}
 use Rattle.exchange.proofs.Credited.{planned-credits}
+use Rattle.exchange.proofs.Weightless.{weighty-weighs}
 use Rattle.exchange.proofs.Tallied.{tallied}
 use Rattle.exchange.proofs.Shuffled.{same-cycles}
 use Rattle.exchange.proofs.Partners.{consistent, algorithm-partners}
@@ -202,9 +203,10 @@ module _ (n f : ℕ) (M W s : List ℕ) (t : Lent) (k : FaultlessInput (request 
     exchanges = rw planned-is set;
     above = rw planned-is (planned-heavy f 3 n m w s sh);
     weight = ap (total m w) (sym planned-is);
-    factor = λ rivals h g. rival-factor f 3 n m w s sh rivals h (heavy-count f m w rivals g);
-    factor-all = λ e rivals h. rival-factor f 3 n m w s sh rivals h (all-count f e m w rivals);
-    credit = subst (λ (c : List (List ℕ)). CreditsTwos q (planFrom q .weight) c) (sym planned-is) (planned-credits f 3 n m w s sh (omega arith) (k .compatible .zeroOrOne));
+    factor = rival-factor f 3 n m w s sh;
+    noneWeightless = weighs;
+    factor-all = λ e rivals h. rival-factor f 3 n m w s sh rivals h (weighs .set e rivals h);
+    credit = subst (λ (c : List (List ℕ)). CreditsTwos q (planFrom q .weight) c) (sym planned-is) (planned-credits f 3 n m w s sh (omega arith) (k .compatible .zeroOrOne) weighs);
     tally = tallied f n m w s;
     partners = partners;
     cycles = planned-is ∙ cs-chosen;
@@ -213,6 +215,9 @@ module _ (n f : ℕ) (M W s : List ℕ) (t : Lent) (k : FaultlessInput (request 
     left = left;
   }
     where
+      weighs : ExecutableWeighs q
+      weighs = weighty-weighs q (k .weighty)
+
       once : NoneTwice (joined cs)
       once = planned-apart f 3 n m w s sh
 

@@ -1,8 +1,8 @@
 -- The theorems of this crate, from the leaves up. `Ordered` and `Published`: the published order. `Weighed` and `Evaluated`: the weights of
 -- cycles and subsets. `Inverse`: the shuffle and its inverse. `Charged`, `Sets` and `Planned`: the planned cycles against every rival set.
--- `Credited`: the sum that credits the twos. `Counted`: how many twos and triples there are. `Tallied`: the closed form. `Loop` and `Shuffled`:
--- Algorithm 1. `Partners`: donors and recipients. `Checked`: what planning checks. `Guaranteed`: the guarantee for every plan made. `Diagonal`:
--- W(i, i) is not read. `Floors`: floor 0, and a higher floor. `AllPools`: the pools to try.
+-- `Weightless`: an executable cycle weighs something. `Credited`: the sum that credits the twos. `Counted`: how many twos and triples there are.
+-- `Tallied`: the closed form. `Loop` and `Shuffled`: Algorithm 1. `Partners`: donors and recipients. `Checked`: what planning checks. `Guaranteed`: the
+-- guarantee for every plan made. `Diagonal`: W(i, i) is not read. `Floors`: floor 0, and a higher floor. `AllPools`: the pools to try.
 pub mod Ordered
 pub mod Published
 pub mod Weighed
@@ -11,6 +11,7 @@ pub mod Inverse
 pub mod Charged
 pub mod Sets
 pub mod Planned
+pub mod Weightless
 pub mod Credited
 pub mod Counted
 pub mod Tallied

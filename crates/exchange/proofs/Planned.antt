@@ -3,9 +3,8 @@
 use Prim.Native.Nat.{ℕ, _*_, _≤_, _<_}
 use mathlib.Core.List.{List, [], _∷_}
 use mathlib.Core.Logic.{_⊎_, inl, inr}
-use mathlib.Core.Path.{_≡_, sym, subst}
+use mathlib.Core.Path.{_≡_}
 use native.Mathlib.Omega.{arith}
-use native.Mathlib.Nat.{eq-zero-or-pos}
 use native.Mathlib.Decide.{decLt}
 use lib.ListN.{length, getD}
 use borrow.Author.Tests.{lt-ltb, le-ltb}
@@ -27,17 +26,9 @@ each-both : {A : Type 0} (P Q R : A → Type 0) → ((x : A) → P x → Q x →
 each-both P Q R g [] h k = tt
 each-both P Q R g (x ∷ xs) h k = (g x (h .0) (k .0), each-both P Q R g xs (h .1) (k .1))
 
--- what the bound asks of a rival's cycle: it weighs nothing, or more than the floor
-abbrev pub Counts : ℕ → (ℕ → ℕ → ℕ) → (ℕ → ℕ → ℕ) → List ℕ → Type 0
-Counts f m w c = (weigh m w c ≡ 0) ⊎ (f < weigh m w c)
-
 module _ (f l n : ℕ) (m w : ℕ → ℕ → ℕ) (s : List ℕ) (sh : Invertible n s) where
-  -- a planned cycle: two to l pairs of the pool, above the floor
-  abbrev Above : List ℕ → Type 0
-  Above c = Rival f l n m w c × (f < weigh m w c)
-
   resolve-each : (cs : List ℕ) → ((c : ℕ) → 1 ≤ times c cs → (c ≡ length (subsets l n)) ⊎ (f < getD (weightsOf l n m w s) c 0))
-      → Each Above (resolved m w s (subsets l n) cs)
+      → Each (Rival f l n m w) (resolved m w s (subsets l n) cs)
   unfolding resolved times
   resolve-each [] h = tt
   resolve-each (c ∷ cs) h = go (resolve-each cs (λ d k. h d (omega arith)))
@@ -45,53 +36,50 @@ module _ (f l n : ℕ) (m w : ℕ → ℕ → ℕ) (s : List ℕ) (sh : Invertib
       one : (c < length (subsets l n)) → f < weigh m w (pairsAt s (bestCycle m w s (getD (subsets l n) c [])))
       one k = elim (h c (omega (arith, one-same c))) [ inl e ↦ absurd (omega arith) | inr e ↦ omega (arith, planned-weight l n m w s c) ]
 
-      go : Each Above (resolved m w s (subsets l n) cs) → Each Above (resolved m w s (subsets l n) (c ∷ cs))
+      go : Each (Rival f l n m w) (resolved m w s (subsets l n) cs) → Each (Rival f l n m w) (resolved m w s (subsets l n) (c ∷ cs))
       go ih = elim (decLt c (length (subsets l n))) [
         | yes k ↦ rw (lt-ltb c (length (subsets l n)) k) (
-          (
-            record {
-              least = omega (arith, planned-size l n m w s c, family l n m w s .wide c (omega (arith, one k, planned-weight l n m w s c)));
-              most = omega (arith, planned-size l n m w s c, size-most l n c);
-              below = pairs-below n s sh (bestCycle m w s (getD (subsets l n) c [])) (cycle-below l n m w s sh c);
-              above = inr (one k);
-            },
-            one k,
-          ),
+          record {
+            least = omega (arith, planned-size l n m w s c, family l n m w s .wide c (omega (arith, one k, planned-weight l n m w s c)));
+            most = omega (arith, planned-size l n m w s c, size-most l n c);
+            below = pairs-below n s sh (bestCycle m w s (getD (subsets l n) c [])) (cycle-below l n m w s sh c);
+            above = one k;
+          },
           ih,
         )
         | no k ↦ let q : length (subsets l n) ≤ c = omega arith in rw (le-ltb c (length (subsets l n)) q) ih
       ]
 
-  planned-above : Each Above (plannedBy (inputWith f l n m w s))
+  planned-above : Each (Rival f l n m w) (plannedBy (inputWith f l n m w s))
   unfolding plannedBy leftBy
   planned-above = resolve-each (leftBy (inputWith f l n m w s) .choices)
       (chosen-above f n (roundCount n) (subsets l n) (weightsOf l n m w s) (evaluationTally (subsets l n) (tally 0 0 0)) (family l n m w s))
 
   -- every planned cycle weighs more than the floor
   pub planned-heavy : Each (λ (c : List ℕ). f < weigh m w c) (plannedBy (inputWith f l n m w s))
-  planned-heavy = each-mono Above (λ (c : List ℕ). f < weigh m w c) (λ c h. h .1) (plannedBy (inputWith f l n m w s)) planned-above
+  planned-heavy = each-mono (Rival f l n m w) (λ (c : List ℕ). f < weigh m w c) (λ c h. h .above) (plannedBy (inputWith f l n m w s)) planned-above
 
   -- "all planned cycles are executable, no pair is in two of them"
   pub planned-set : ((i j : ℕ) → i < n → j < n → m i j ≤ 1) → ExchangeSet l n m (plannedBy (inputWith f l n m w s))
   planned-set bits = record {
-    exchanges = each-both Above NoneTwice (Exchange l n m)
+    exchanges = each-both (Rival f l n m w) NoneTwice (Exchange l n m)
         (λ c h o. record {
-          least = h .0 .least;
-          most = h .0 .most;
-          pool = below-pool n c (h .0 .below);
+          least = h .least;
+          most = h .most;
+          pool = below-pool n c (h .below);
           different = once-different c o;
-          executable = weigh-executable n m bits w c (below-pool n c (h .0 .below)) (omega arith);
+          executable = weigh-executable n m bits w c (below-pool n c (h .below)) (omega (arith, h .above));
         })
         (plannedBy (inputWith f l n m w s)) planned-above (once-each (plannedBy (inputWith f l n m w s)) (planned-apart f l n m w s sh));
     apart = once-apart (plannedBy (inputWith f l n m w s)) (planned-apart f l n m w s sh);
   }
 
   pub planned-below : Each (AllBelow n) (plannedBy (inputWith f l n m w s))
-  planned-below = each-mono Above (AllBelow n) (λ c h. h .0 .below) (plannedBy (inputWith f l n m w s)) planned-above
+  planned-below = each-mono (Rival f l n m w) (AllBelow n) (λ c h. h .below) (plannedBy (inputWith f l n m w s)) planned-above
 
-  module _ (cs : List (List ℕ)) (set : ExchangeSet l n m cs) (heavy : Each (Counts f m w) cs) where
+  module _ (cs : List (List ℕ)) (set : ExchangeSet l n m cs) (heavy : Each (λ (c : List ℕ). f < weigh m w c) cs) where
     rivals : Each (Rival f l n m w) cs
-    rivals = each-both (Exchange l n m) (Counts f m w) (Rival f l n m w)
+    rivals = each-both (Exchange l n m) (λ (c : List ℕ). f < weigh m w c) (Rival f l n m w)
         (λ c h k. record { least = h .least; most = h .most; below = pool-below n c (h .pool); above = k }) cs (set .exchanges) heavy
 
     once : NoneTwice (joined cs)
@@ -104,11 +92,3 @@ module _ (f l n : ℕ) (m w : ℕ → ℕ → ℕ) (s : List ℕ) (sh : Invertib
     -- and so is l times the plan's weight
     pub rival-factor : total m w cs ≤ l * total m w (plannedBy (inputWith f l n m w s))
     rival-factor = planned-factor f l n m w s sh cs rivals once
-
--- cycles above the floor count, and with floor 0 every one
-pub heavy-count : (f : ℕ) (m w : ℕ → ℕ → ℕ) (cs : List (List ℕ)) → Each (λ (c : List ℕ). f < weigh m w c) cs → Each (Counts f m w) cs
-heavy-count f m w cs h = each-mono (λ (c : List ℕ). f < weigh m w c) (Counts f m w) (λ c k. inr k) cs h
-
-pub all-count : (f : ℕ) → f ≡ 0 → (m w : ℕ → ℕ → ℕ) (cs : List (List ℕ)) → Each (Counts f m w) cs
-all-count f e m w [] = tt
-all-count f e m w (c ∷ cs) = (subst (λ (g : ℕ). (weigh m w c ≡ 0) ⊎ (g < weigh m w c)) (sym e) (eq-zero-or-pos (weigh m w c)), all-count f e m w cs)

@@ -45,7 +45,7 @@ sumBelow (suc n) f = sumBelow n f + f n
 pub record CreditsTwos (q : Input) (weight : ℕ) (cycles : List (List ℕ)) : Type 0 where
   -- "That sum is at least the weight of every rival set of executable 2- and 3-cycles that share no pair and each weigh above the floor"
   pub bound : (cs : List (List ℕ)) → ExchangeSetOf q cs → AboveFloor q cs → weightIn q cs ≤ creditIn q cycles
-  -- with floor 0 of every rival set, as demand 3 has it: a cycle of it may weigh 0
+  -- with floor 0 of every rival set, in demand 3's own words: each is above the floor then, as no edge is weightless (W-209)
   pub bound-all : q .floor ≡ 0 → (cs : List (List ℕ)) → ExchangeSetOf q cs → weightIn q cs ≤ creditIn q cycles
   -- what it credits: the sum and the weight of the planned twos together are three times the plan's weight, for sizes to three
   pub twos : creditIn q cycles + weightIn q (twosOf cycles) ≡ 3 * weight

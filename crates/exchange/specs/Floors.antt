@@ -1,4 +1,5 @@
--- The floor (document 02, W-202), said a second time: what planning was before it, and what a higher floor takes from a plan. Assumes nothing.
+-- The floor (document 02, W-202), said a second time: what planning was before it, what of that W-209 turns back, and what a higher floor takes from a
+-- plan. Assumes nothing.
 use Prim.Native.Nat.{ℕ, _≤_, _<_}
 use mathlib.Core.Path.{_≡_}
 use mathlib.Core.List.{List, _++_, map}
@@ -6,7 +7,7 @@ use lib.Dec.{ltb}
 use lib.ListN.{length, getD}
 use Rattle.laws.specs.Lent.{filled}
 use Rattle.refusal.specs.Fault.{Fault, refuse, _then_}
-use Rattle.refusal.specs.Answer.{finished, Outcome, unless}
+use Rattle.refusal.specs.Answer.{finished, refused, Outcome, outcome, unless}
 use Rattle.pool.specs.Faults.{shuffleFault}
 use Rattle.greedy.specs.Tally.{tally}
 use Rattle.greedy.specs.Rounds.{Left}
@@ -16,9 +17,10 @@ use Rattle.exchange.specs.Input.{request}
 use Rattle.exchange.specs.Resolution.{resolved, recordOf, recipientTable, donorTable, total}
 use Rattle.exchange.specs.Planning as Planning
 use Rattle.exchange.specs.Planning.{Lent, lent, Plan, plan, roundCount, Lengths, lengthsOf, shortToRead, shortToFill, tableFault}
+use Rattle.exchange.specs.Faultless.{WeightyTables}
 use Rattle.exchange.specs.Rivals.{planned, Each}
 
--- ## "Floor 0 gives the plans of today": document 01's planning, which has no floor and no refusal 13
+-- ## "Floor 0 gives the plans of today": document 01's planning, which has no floor and no refusal 13 or 17
 
 -- "planning checks 4, 9, 8, 10"
 unfoldable pub planFault : ℕ → List ℕ → List ℕ → List ℕ → Lengths → Fault
@@ -42,8 +44,17 @@ planning n M W s t =
     (lent (filled (r .weights) (t .weights)) (filled (r .choices) (t .choices)) (filled (donorTable n cs) (t .donors))
     (filled (recipientTable n cs) (t .recipients)) (filled (map (recordOf n) cs) (t .records))) t
 
+-- planning with floor 0, beside it
+pub record Today (n : ℕ) (M W s : List ℕ) (t : Lent) : Type 0 where
+  -- of "the tables that remain" (document 02, W-209) every answer is the same, and so is all that is left
+  pub same : WeightyTables n M W → Planning.planning (request n 0 M W s) t ≡ planning n M W s t
+  -- of the others, those that were refused are refused alike
+  pub alike : (k o : ℕ) → planning n M W s t .answer ≡ refused k o → Planning.planning (request n 0 M W s) t ≡ planning n M W s t
+  -- and "such tables used to be planned": 17, and nothing changes
+  pub turned : (p : Plan) → planning n M W s t .answer ≡ finished p → (WeightyTables n M W → ⊥) → Planning.planning (request n 0 M W s) t ≡ outcome (refused 17 0) t
+
 abbrev pub FloorZeroIsToday : Type 0
-FloorZeroIsToday = (n : ℕ) (M W s : List ℕ) (t : Lent) → Planning.planning (request n 0 M W s) t ≡ planning n M W s t
+FloorZeroIsToday = (n : ℕ) (M W s : List ℕ) (t : Lent) → Today n M W s t
 
 -- ## A higher floor cuts off the end of a plan
 

@@ -1,6 +1,6 @@
 -- The answer of planning, and the later contents of everything lent. Assumes nothing.
 use Prim.Native.Nat.{ℕ, _*_, _/_}
-use mathlib.Core.Bool.{not}
+use mathlib.Core.Bool.{Bool, not, _&&_}
 use mathlib.Core.List.{List, map}
 use lib.Dec.{eqb, ltb}
 use lib.ListN.{length, getD}
@@ -40,7 +40,7 @@ plan w c t = record { weight = w; cycles = c; tally = t }
 abbrev pub roundCount : ℕ → ℕ
 roundCount n = n / 2
 
--- ## Turned back: "planning checks 4, 9, 8, 10", with 13 "after 4" (document 02, W-202), and gives the number; the place is 0
+-- ## Turned back: "planning checks 4, 9, 8, 10", with 13 "after 4" (document 02, W-202) and 17 "after 10" (W-209), and gives the number; the place is 0
 
 -- "Planning takes a floor, 0 to 200,000"
 abbrev pub mostFloor : ℕ
@@ -78,6 +78,14 @@ unfoldable pub tableFault : ℕ → List ℕ → Fault
 tableFault n M =
     refuse 10 0 (anyBelow n (λ i. either (anyBelow n (λ j. ltb 1 (entry M n i j))) (not (eqb (entry M n i i) 0))))
 
+-- "where M(i, j) is 1 and W(i, j) is 0"
+abbrev pub weightless : ℕ → List ℕ → List ℕ → ℕ → ℕ → Bool
+weightless n M W i j = eqb (entry M n i j) 1 && eqb (entry W n i j) 0
+
+-- 17 a present edge that weighs 0
+unfoldable pub edgeFault : ℕ → List ℕ → List ℕ → Fault
+edgeFault n M W = refuse 17 0 (anyBelow n (λ i. anyBelow n (weightless n M W i)))
+
 unfoldable pub planFault : Request → Lengths → Fault
 planFault r z =
     refuse 4 0 (ltb 200 (r .scope .pairs))
@@ -86,6 +94,7 @@ planFault r z =
     then shortToFill (r .scope) z
     then shuffleFault 0 (r .scope .pairs) (λ j. getD (r .shuffle) j 0)
     then tableFault (r .scope .pairs) (r .compatibilities)
+    then edgeFault (r .scope .pairs) (r .compatibilities) (r .weights)
 
 -- ## The plan
 

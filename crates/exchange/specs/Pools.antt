@@ -1,4 +1,5 @@
--- "Pools to try": k1 to k12, each with what must come out, what floors make of some, and pools in which W-208's bound is met. Assumes nothing.
+-- "Pools to try": k1 to k12, each with what must come out, what floors make of some, weightless edges, and pools in which W-208's bound is met.
+-- Assumes nothing.
 use Prim.Native.Nat.{ℕ, _*_, _/_, _%_}
 use mathlib.Core.Bool.{false, cond}
 use mathlib.Core.List.{List, [], _∷_, _++_, map}
@@ -14,6 +15,7 @@ use Rattle.exchange.specs.Input.{Input, Request, inputOf, request}
 use Rattle.exchange.specs.Planning.{Lent, lent, Plan, plan, roundCount, planning}
 use Rattle.exchange.specs.Rivals.{planned, Each, Exchange, ExchangeSet, ExchangeSetOf, AboveFloor, weightIn}
 use Rattle.exchange.specs.Credit.{creditIn}
+use Rattle.exchange.specs.Floors as Floorless
 
 -- "Edges as donor→patient:weight"; `mark` is the edge's M entry
 pub record Arrow : Type 0 where
@@ -22,8 +24,11 @@ pub record Arrow : Type 0 where
   pub mark : ℕ
   pub weight : ℕ
 
+abbrev pub marked : ℕ → ℕ → ℕ → ℕ → Arrow
+marked m i j w = record { donor = i; patient = j; mark = m; weight = w }
+
 abbrev pub edge : ℕ → ℕ → ℕ → Arrow
-edge i j w = record { donor = i; patient = j; mark = 1; weight = w }
+edge i j w = marked 1 i j w
 
 -- what comes out: choices, weights after round R, weight, number of cycles, recipients, donors, records, tally; or the refusal's number and place, and
 -- what is left in the lent tables
@@ -77,6 +82,9 @@ found c =
 abbrev pub k3edges : List Arrow
 k3edges = edge 0 1 5 ∷ edge 1 0 7 ∷ []
 
+abbrev pub k5edges : List Arrow
+k5edges = edge 0 1 0 ∷ edge 1 0 0 ∷ []
+
 abbrev pub k8edges : List Arrow
 k8edges =
     edge 0 1 2 ∷ edge 1 2 2 ∷ edge 2 0 2 ∷ edge 0 3 3 ∷ edge 3 0 3 ∷ edge 1 4 3 ∷ edge 4 1 3 ∷ edge 2 5 3 ∷ edge 5 2 3 ∷ []
@@ -91,8 +99,8 @@ cases =
     ∷ case 2 k3edges (0 ∷ 1 ∷ []) (made (0 ∷ []) (12 ∷ []) 12 1 (1 ∷ 0 ∷ []) (1 ∷ 0 ∷ []) (cycle 0 1 2 ∷ []) (tally 1 6 1))
     -- k4
     ∷ case 2 (edge 0 1 5 ∷ []) (0 ∷ 1 ∷ []) (made (1 ∷ []) (0 ∷ []) 0 0 (2 ∷ 2 ∷ []) (2 ∷ 2 ∷ []) (cycle 99 99 99 ∷ []) (tally 1 6 1))
-    -- k5
-    ∷ case 2 (edge 0 1 0 ∷ edge 1 0 0 ∷ []) (0 ∷ 1 ∷ []) (made (1 ∷ []) (0 ∷ []) 0 0 (2 ∷ 2 ∷ []) (2 ∷ 2 ∷ []) (cycle 99 99 99 ∷ []) (tally 1 6 1))
+    -- k5, which "becomes a refused pool" (document 02, W-209)
+    ∷ case 2 k5edges (0 ∷ 1 ∷ []) (turned 17 0 (blank 2))
     -- k6
     ∷ case 3 (edge 0 1 4 ∷ edge 1 2 4 ∷ edge 2 0 4 ∷ edge 1 0 4 ∷ edge 2 1 4 ∷ edge 0 2 4 ∷ []) (0 ∷ 1 ∷ 2 ∷ [])
     (made (0 ∷ []) (12 ∷ 8 ∷ 8 ∷ 8 ∷ []) 12 1 (1 ∷ 2 ∷ 0 ∷ []) (2 ∷ 0 ∷ 1 ∷ []) (cycle 0 1 2 ∷ []) (tally 5 32 1))
@@ -113,7 +121,7 @@ cases =
     -- k11
     ∷ case 2 k3edges (0 ∷ 0 ∷ []) (turned 8 0 (blank 2))
     -- k12
-    ∷ case 2 (record { donor = 0; patient = 1; mark = 2; weight = 5 } ∷ edge 1 0 7 ∷ []) (0 ∷ 1 ∷ []) (turned 10 0 (blank 2))
+    ∷ case 2 (marked 2 0 1 5 ∷ edge 1 0 7 ∷ []) (0 ∷ 1 ∷ []) (turned 10 0 (blank 2))
     ∷ []
 
 -- ## What is promised of them
@@ -129,6 +137,9 @@ sixAndEight = edge 0 1 3 ∷ edge 1 0 3 ∷ edge 2 3 4 ∷ edge 3 2 4 ∷ []
 
 abbrev pub tenAndTwo : List Arrow
 tenAndTwo = edge 0 1 5 ∷ edge 1 0 5 ∷ edge 0 2 1 ∷ edge 2 0 1 ∷ []
+
+abbrev pub lightest : List Arrow
+lightest = edge 0 1 1 ∷ edge 1 0 1 ∷ []
 
 abbrev pub floors : List Case
 floors =
@@ -146,9 +157,9 @@ floors =
     -- one at or below the floor that shares a place with the choice is cleared like any other
     ∷ floored 4 5 tenAndTwo (0 ∷ 1 ∷ 2 ∷ 3 ∷ [])
     (made (4 ∷ 10 ∷ []) (replicate 10 0) 10 1 (1 ∷ 0 ∷ 4 ∷ 4 ∷ []) (1 ∷ 0 ∷ 4 ∷ 4 ∷ []) (cycle 0 1 4 ∷ cycle 99 99 99 ∷ []) (tally 24 162 2))
-    -- one of weight 1, with floor 0 and with floor 1
-    ∷ floored 2 0 (edge 0 1 1 ∷ edge 1 0 0 ∷ []) (0 ∷ 1 ∷ []) (made (0 ∷ []) (1 ∷ []) 1 1 (1 ∷ 0 ∷ []) (1 ∷ 0 ∷ []) (cycle 0 1 2 ∷ []) (tally 1 6 1))
-    ∷ floored 2 1 (edge 0 1 1 ∷ edge 1 0 0 ∷ []) (0 ∷ 1 ∷ []) (made (1 ∷ []) (1 ∷ []) 0 0 (2 ∷ 2 ∷ []) (2 ∷ 2 ∷ []) (cycle 99 99 99 ∷ []) (tally 1 6 1))
+    -- the lightest that there is, of weight 2, with floor 1 and with floor 2
+    ∷ floored 2 1 lightest (0 ∷ 1 ∷ []) (made (0 ∷ []) (2 ∷ []) 2 1 (1 ∷ 0 ∷ []) (1 ∷ 0 ∷ []) (cycle 0 1 2 ∷ []) (tally 1 6 1))
+    ∷ floored 2 2 lightest (0 ∷ 1 ∷ []) (made (1 ∷ []) (2 ∷ []) 0 0 (2 ∷ 2 ∷ []) (2 ∷ 2 ∷ []) (cycle 99 99 99 ∷ []) (tally 1 6 1))
     -- the greatest floor, and one above it
     ∷ floored 2 200000 k3edges (0 ∷ 1 ∷ []) (made (1 ∷ []) (12 ∷ []) 0 0 (2 ∷ 2 ∷ []) (2 ∷ 2 ∷ []) (cycle 99 99 99 ∷ []) (tally 1 6 1))
     ∷ floored 2 200001 k3edges (0 ∷ 1 ∷ []) (turned 13 0 (blank 2))
@@ -163,7 +174,7 @@ abbrev pub twoFaults : List Case
 twoFaults =
     floored 2 200001 k3edges (0 ∷ []) (turned 13 0 (blank 2))
     ∷ floored 2 200000 k3edges (0 ∷ []) (turned 9 0 (blank 2))
-    ∷ case 2 (record { donor = 0; patient = 1; mark = 2; weight = 5 } ∷ []) (0 ∷ 0 ∷ []) (turned 8 0 (blank 2))
+    ∷ case 2 (marked 2 0 1 5 ∷ []) (0 ∷ 0 ∷ []) (turned 8 0 (blank 2))
     ∷ []
 
 abbrev pub FirstFaultTold : Type 0
@@ -183,6 +194,51 @@ PastUnchanged =
     (lent (99 ∷ 99 ∷ []) (99 ∷ 99 ∷ []) (99 ∷ 99 ∷ 99 ∷ []) (99 ∷ 99 ∷ 99 ∷ []) (cycle 99 99 99 ∷ cycle 99 99 99 ∷ []))
     ≡ outcome (finished (plan 12 1 (tally 1 6 1)))
     (lent (12 ∷ 99 ∷ []) (0 ∷ 99 ∷ []) (1 ∷ 0 ∷ 99 ∷ []) (1 ∷ 0 ∷ 99 ∷ []) (cycle 0 1 2 ∷ cycle 99 99 99 ∷ []))
+
+-- ## "No weightless edges" (document 02, W-209)
+
+abbrev pub weightlessPools : List Case
+weightlessPools =
+    -- one edge, which is in no cycle; one in the last row, beside one that weighs something; with a floor
+    case 2 (edge 0 1 0 ∷ []) (0 ∷ 1 ∷ []) (turned 17 0 (blank 2))
+    ∷ case 2 (edge 0 1 5 ∷ edge 1 0 0 ∷ []) (0 ∷ 1 ∷ []) (turned 17 0 (blank 2))
+    ∷ floored 2 5 k5edges (0 ∷ 1 ∷ []) (turned 17 0 (blank 2))
+    -- it has nothing to do with the floor: edges of weight 1 are accepted, and not planned with floor 5
+    ∷ floored 2 5 lightest (0 ∷ 1 ∷ []) (made (1 ∷ []) (2 ∷ []) 0 0 (2 ∷ 2 ∷ []) (2 ∷ 2 ∷ []) (cycle 99 99 99 ∷ []) (tally 1 6 1))
+    -- k3, with W(i, i) of 7
+    ∷ case 2 (marked 0 0 0 7 ∷ marked 0 1 1 7 ∷ k3edges) (0 ∷ 1 ∷ [])
+    (made (0 ∷ []) (12 ∷ []) 12 1 (1 ∷ 0 ∷ []) (1 ∷ 0 ∷ []) (cycle 0 1 2 ∷ []) (tally 1 6 1))
+    -- "after 10": after all that is checked before
+    ∷ floored 2 200001 k5edges (0 ∷ 1 ∷ []) (turned 13 0 (blank 2))
+    ∷ case 2 k5edges (0 ∷ []) (turned 9 0 (blank 2))
+    ∷ case 2 k5edges (0 ∷ 0 ∷ []) (turned 8 0 (blank 2))
+    ∷ case 2 (edge 0 1 0 ∷ marked 2 1 0 7 ∷ []) (0 ∷ 1 ∷ []) (turned 10 0 (blank 2))
+    ∷ case 2 (edge 1 1 0 ∷ k3edges) (0 ∷ 1 ∷ []) (turned 10 0 (blank 2))
+    ∷ []
+
+abbrev pub WeightlessPlanned : Type 0
+WeightlessPlanned = map found weightlessPools ≡ map (λ (c : Case). c .due) weightlessPools
+
+-- k3, with an entry 1 in M and 0 in W past its two rows
+abbrev pub EntryPastUnread : Type 0
+EntryPastUnread =
+    planning (request 2 0 (0 ∷ 1 ∷ 1 ∷ 0 ∷ 1 ∷ []) (0 ∷ 5 ∷ 7 ∷ 0 ∷ 0 ∷ []) (0 ∷ 1 ∷ [])) (blank 2) ≡ planning (asked 2 0 k3edges (0 ∷ 1 ∷ [])) (blank 2)
+
+abbrev pub k5 : Request
+k5 = asked 2 0 k5edges (0 ∷ 1 ∷ [])
+
+-- "Such tables used to be planned": k5 as document 01 had it, "Choice 1, no cycle"
+abbrev pub K5Before : Type 0
+K5Before =
+    Floorless.planning 2 (k5 .compatibilities) (k5 .weights) (k5 .shuffle) (blank 2)
+    ≡ outcome (finished (plan 0 0 (tally 1 6 1))) (lent (0 ∷ []) (1 ∷ []) (2 ∷ 2 ∷ []) (2 ∷ 2 ∷ []) (cycle 99 99 99 ∷ []))
+
+pub record WeightlessComeOut : Type 0 where
+  pub come : WeightlessPlanned
+  pub past : EntryPastUnread
+  pub before : K5Before
+  -- what `ExecutableWeighs` rules out: k5's cycle is executable, and weighs 0
+  pub rival : ExchangeSetOf (inputOf k5) ((0 ∷ 1 ∷ []) ∷ []) × (weightIn (inputOf k5) ((0 ∷ 1 ∷ []) ∷ []) ≡ 0)
 
 -- ## Rivals that weigh as much as W-208's sum allows
 

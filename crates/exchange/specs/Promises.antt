@@ -12,13 +12,13 @@ use Rattle.refusal.specs.Answer.{finished, refused, Outcome}
 use Rattle.greedy.specs.Places.{among, meets}
 use Rattle.greedy.specs.Tally.{Tally, tally}
 use Rattle.greedy.specs.Promises.{Remains}
-use Rattle.exchange.specs.Subsets.{Scope, order, subsetCount, entry, subsetWeight, pairsAt}
+use Rattle.exchange.specs.Subsets.{Scope, order, subsetCount, entry, weigh, subsetWeight, pairsAt}
 use Rattle.exchange.specs.Input.{Input, Request, inputOf, request}
 use Rattle.exchange.specs.Planning.{Lent, Plan, roundCount, planning}
 use Rattle.exchange.specs.Algorithm1 as Algorithm1
 use Rattle.exchange.specs.Algorithm1.{next}
 use Rattle.exchange.specs.Faultless.{FaultlessInput, PlanFault}
-use Rattle.exchange.specs.Rivals.{planned, Each, ExchangeSetOf, AboveFloor, weightIn}
+use Rattle.exchange.specs.Rivals.{planned, Each, Executable, ExchangeSetOf, AboveFloor, weightIn}
 use Rattle.exchange.specs.Credit.{CreditsTwos}
 
 -- ## The tally's closed form, in the words of demand 3
@@ -73,6 +73,18 @@ pub record Consistent (n : ℕ) (cs : List (List ℕ)) (donors recipients : List
   -- "For each chosen cycle", the partners are those of its order
   pub inOrder : Each (λ (c : List ℕ). GivingOrder c donors recipients) cs
 
+-- ## "No weightless edges" (document 02, W-209): what that buys
+
+pub record ExecutableWeighs (q : Input) : Type 0 where
+  -- an executable cycle of two or more pairs of the pool weighs more than 0
+  pub cycle : (c : List ℕ) → 2 ≤ length c → Each (λ (p : ℕ). p < q .scope .pairs) c → Executable (q .compatible) c → 0 < weigh (q .compatible) (q .weight) c
+  -- so with floor 0 the rival sets above the floor are all rival sets
+  pub set : q .floor ≡ 0 → (cs : List (List ℕ)) → ExchangeSetOf q cs → AboveFloor q cs
+
+-- in every pool that planning accepts
+abbrev pub AcceptedWeighs : Type 0
+AcceptedWeighs = (r : Request) (t : Lent) → FaultlessInput r t → ExecutableWeighs (inputOf r)
+
 -- ## The guarantee, for a plan p that was made from q and what it left in the lent tables
 
 pub record Guarantee (q : Input) (p : Plan) (t : Lent) : Type 0 where
@@ -85,7 +97,9 @@ pub record Guarantee (q : Input) (p : Plan) (t : Lent) : Type 0 where
   -- "three times the plan's weight is at least the weight of every other set of executable 2- and 3-cycles sharing no pair", of "those whose cycles all
   -- weigh more than the floor"
   pub factor : (cs : List (List ℕ)) → ExchangeSetOf q cs → AboveFloor q cs → weightIn q cs ≤ q .scope .largest * p .weight
-  -- with floor 0 of every such set, as demand 3 has it: a cycle of it may weigh 0
+  -- "No weightless edges" (document 02, W-209): no executable cycle is weightless
+  pub noneWeightless : ExecutableWeighs q
+  -- so with floor 0 the factor is against every such set, in demand 3's own words
   pub factor-all : q .floor ≡ 0 → (cs : List (List ℕ)) → ExchangeSetOf q cs → weightIn q cs ≤ q .scope .largest * p .weight
   -- "a bound that credits the twos" (document 02, W-208)
   pub credit : CreditsTwos q (p .weight) (planned (q .scope .pairs) p t)

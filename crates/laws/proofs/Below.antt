@@ -45,6 +45,11 @@ pub and-true : (s t : Bool) → (s && t) ≡ true → (s ≡ true) × (t ≡ tru
 and-true true t e = (refl, e)
 and-true false t e = true-false e refl
 
+pub and-never : (s t : Bool) → (s ≡ true → t ≡ true → ⊥) → (s && t) ≡ false
+and-never true true h = absurd (h refl refl)
+and-never true false h = refl
+and-never false t h = refl
+
 -- ## either
 
 pub either-false : (s t : Bool) → either s t ≡ false → (s ≡ false) × (t ≡ false)

@@ -34,6 +34,8 @@ pub enum Refusal {
     DifferentPoints,
     // The calling program again: no pair of a live pool has the id that is withdrawn.
     UnknownId,
+    // A present edge weighs 0, in tables that are to be planned.
+    WeightlessEdge,
 }
 
 // What a check of one thing finds.
@@ -63,5 +65,6 @@ pub fn number(why: Refusal) -> u8
         Refusal::WrongPoints => 14,
         Refusal::DifferentPoints => 15,
         Refusal::UnknownId => 16,
+        Refusal::WeightlessEdge => 17,
     }
 }

@@ -367,6 +367,43 @@ fn try_floors() {
     try_high();
 }
 
+// Edges that weigh 0, beside other faults, and weights that are not looked at.
+fn try_weightless() {
+    let both = [0u8, 1, 1, 0];
+    let nothing = [0u16; 4];
+    try_two(
+        b"a weightless edge in no cycle:",
+        0,
+        [0, 1, 0, 0],
+        nothing,
+        [0, 1],
+    );
+    try_two(b"weightless, shuffle 0 0:", 0, both, nothing, [0, 0]);
+    try_two(b"weightless, floor 200001:", 200001, both, nothing, [0, 1]);
+    try_two(
+        b"weightless, an entry 2:",
+        0,
+        [0, 1, 2, 0],
+        [0, 0, 7, 0],
+        [0, 1],
+    );
+    try_two(
+        b"an own edge, weightless:",
+        0,
+        [0, 1, 1, 1],
+        [0, 5, 7, 0],
+        [0, 1],
+    );
+    try_two(
+        b"an edge of weight 1, floor 5:",
+        5,
+        both,
+        [0, 1, 1, 0],
+        [0, 1],
+    );
+    try_two(b"own weights of 7:", 0, both, [7, 5, 7, 7], [0, 1]);
+}
+
 // Rivals that weigh the sum of each planned cycle's weight times its number of pairs: beside a two, and beside a triple and a two.
 fn try_rivals() {
     let identity = [0u16, 1, 2, 3, 4, 5, 6, 7, 8, 9];
@@ -510,6 +547,7 @@ fn main() {
     try_k9();
     try_refusals();
     try_floors();
+    try_weightless();
     try_rivals();
     try_36(b"36 pairs:", 0);
     try_36(b"36 pairs, floor 2500:", 2500);

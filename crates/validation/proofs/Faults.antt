@@ -3,7 +3,7 @@ use Prim.Native.Nat.{ℕ, _*_, _≤_, _<_}
 use mathlib.Core.Bool.{Bool, true, false, not}
 use mathlib.Core.List.{List}
 use mathlib.Core.Path.{_≡_, sym, ap, _∙_}
-use borrow.Author.Tests.{lt-ltb, le-ltb, ltb-false}
+use borrow.Author.Tests.{lt-ltb, le-ltb, eq-eqb, ne-eqb, ltb-false}
 use lib.Dec.{eqb, ltb}
 use lib.ListN.{length, getD}
 use Rattle.laws.specs.Below.{either, anyBelow}
@@ -17,7 +17,7 @@ use Rattle.refusal.proofs.Faults.{refuse-none, none-refuse, fault-refuse, then-
 use Rattle.pool.specs.Faults.{shuffleFault, roomFault}
 use Rattle.exchange.specs.Subsets.{entry}
 use Rattle.exchange.specs.Input.{Request}
-use Rattle.exchange.specs.Planning.{Lengths, mostFloor, shortToRead, shortToFill, tableFault, planFault}
+use Rattle.exchange.specs.Planning.{Lengths, mostFloor, shortToRead, shortToFill, tableFault, weightless, edgeFault, planFault}
 
 -- ## 4, 13 and 9
 
@@ -63,7 +63,31 @@ module _ (n : ℕ) (M : List ℕ) where
   unfolding tableFault
   clean i h e = sym (none-refuse 10 0 _ (ap (λ (k : ℕ). anyBelow k bad) (sym h) ∙ e))
 
--- a test and another
+-- ## 17, edge by edge and row by row
+
+module _ (n : ℕ) (M W : List ℕ) where
+  -- x is M(i, j)
+  module _ (i j x : ℕ) (ex : x ≡ entry M n i j) where
+    pub absent : (x ≡ 1 → ⊥) → false ≡ weightless n M W i j
+    absent h = rw (ne-eqb (entry M n i j) 1 (λ e. h (ex ∙ e)))
+
+    pub present : x ≡ 1 → (y : ℕ) → y ≡ entry W n i j → eqb y 0 ≡ weightless n M W i j
+    present h y ey = rw (eq-eqb (entry M n i j) 1 (sym ex ∙ h), ey)
+
+  -- row i has a weightless edge
+  abbrev pub light : ℕ → Bool
+  light i = anyBelow n (weightless n M W i)
+
+  pub light-hit : (i : ℕ) → i < n → light i ≡ true → fault 17 0 ≡ edgeFault n M W
+  unfolding edgeFault
+  light-hit i h e = sym (fault-refuse 17 0 _ (any-hit n light i h e))
+
+  pub light-clean : (i : ℕ) → i ≡ n → anyBelow i light ≡ false → none ≡ edgeFault n M W
+  unfolding edgeFault
+  light-clean i h e = sym (none-refuse 17 0 _ (ap (λ (k : ℕ). anyBelow k light) (sym h) ∙ e))
+
+-- ## A test and another
+
 pub either-first : (a b : Bool) → a ≡ true → either a b ≡ true
 unfolding either
 either-first a b e = rw e
@@ -92,9 +116,10 @@ module _ (n f m w s : ℕ) (a : Verdict) (ea : faultAt 0 a ≡ (refuse 4 0 (ltb 
   unfolding roomFault
   room space due e = ltb-false space due (refuse-none 9 0 _ e)
 
-  pub read-compatibility : n * n ≤ m
+  -- M and W are there
+  pub read-tables : (n ≤ 200) × (n * n ≤ m) × (n * n ≤ w)
   unfolding shortToRead
-  read-compatibility = room _ _ (then-none _ _ lengths .0)
+  read-tables = (read-few, room _ _ (then-none _ _ lengths .0), room _ _ (then-none _ _ (then-none _ _ lengths .1) .0))
 
   pub read-shuffle : n ≤ s
   unfolding shortToRead
@@ -109,7 +134,10 @@ toRead r =
 
 module _ (r : Request) (z : Lengths) (a : Verdict) (ea : faultAt 0 a ≡ toRead r) where
   abbrev later : Fault
-  later = shuffleFault 0 (r .scope .pairs) (λ j. getD (r .shuffle) j 0) then tableFault (r .scope .pairs) (r .compatibilities)
+  later =
+      shuffleFault 0 (r .scope .pairs) (λ j. getD (r .shuffle) j 0)
+      then tableFault (r .scope .pairs) (r .compatibilities)
+      then edgeFault (r .scope .pairs) (r .compatibilities) (r .weights)
 
   in-two : planFault r z ≡ (toRead r then shortToFill (r .scope) z then later)
   unfolding planFault
@@ -135,5 +163,13 @@ module _ (r : Request) (z : Lengths) (a : Verdict) (ea : faultAt 0 a ≡ toRead 
       unfolding faultAt
       judge-shuffle why g = sym (after-fill ∙ fault-then _ _ (faulty-fault 0 c ec why g))
 
-      pub judge-table : c ≡ Sound → (d : Verdict) → faultAt 0 d ≡ tableFault (r .scope .pairs) (r .compatibilities) → faultAt 0 d ≡ planFault r z
-      judge-table gc d ed = ed ∙ sym (after-fill ∙ none-then _ _ (sound-none 0 c ec gc))
+      module _ (gc : c ≡ Sound) (d : Verdict) (ed : faultAt 0 d ≡ tableFault (r .scope .pairs) (r .compatibilities)) where
+        after-shuffle : planFault r z ≡ (tableFault (r .scope .pairs) (r .compatibilities) then edgeFault (r .scope .pairs) (r .compatibilities) (r .weights))
+        after-shuffle = after-fill ∙ none-then _ _ (sound-none 0 c ec gc)
+
+        pub judge-table : (why : Refusal) → d ≡ Faulty why → faultAt 0 (Faulty why) ≡ planFault r z
+        unfolding faultAt
+        judge-table why g = sym (after-shuffle ∙ fault-then _ _ (faulty-fault 0 d ed why g))
+
+        pub judge-edges : d ≡ Sound → (e : Verdict) → faultAt 0 e ≡ edgeFault (r .scope .pairs) (r .compatibilities) (r .weights) → faultAt 0 e ≡ planFault r z
+        judge-edges gd e ee = ee ∙ sym (after-shuffle ∙ none-then _ _ (sound-none 0 d ed gd))

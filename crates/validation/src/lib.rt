@@ -1,4 +1,4 @@
-// What planning checks of its input before anything is filled: 4, 13, 9, 8, 10.
+// What planning checks of its input before anything is filled: 4, 13, 9, 8, 10, 17.
 use refusal::Refusal;
 use refusal::Verdict;
 ghost use mathlib.Core.Path.{_≡_};
@@ -10,7 +10,7 @@ ghost use Rattle.refusal.specs.Fault.{refuse, _then_};
 ghost use Rattle.refusal.specs.Number.{faultAt};
 ghost use Rattle.exchange.specs.Subsets.{upToThree, entry};
 ghost use Rattle.exchange.specs.Input.{request};
-ghost use Rattle.exchange.specs.Planning.{lengths, mostFloor, shortToRead, shortToFill, tableFault, planFault};
+ghost use Rattle.exchange.specs.Planning.{lengths, mostFloor, shortToRead, shortToFill, tableFault, weightless, edgeFault, planFault};
 
 // "Planning takes a floor, 0 to 200,000."
 const MOST_FLOOR: u32 = 200000;
@@ -100,7 +100,48 @@ fn compatibility(n: usize, m: &[u8]) -> Verdict
     Verdict::Sound
 }
 
-// "Planning checks 4, 9, 8, 10", with 13 "after 4".
+// Is M(i, j) 1 and W(i, j) 0? W is read where M is 1, and nowhere else.
+fn weightless_edge(n: usize, m: &[u8], w: &[u16], i: usize, j: usize) -> bool
+    requires { ⌜ (i < n) × (j < n) × (n ≤ 200) × (n * n ≤ length (now m)) × (n * n ≤ length (now w)) ⌝ }
+    ensures { λ r. ⌜ r ≡ weightless n (now (m .entry)) (now (w .entry)) i j ⌝ }
+{
+    if entries::compatible(m, n, i, j) != 1 {
+        return false;
+    }
+    entries::points(w, n, i, j) == 0
+}
+
+// Has row i a weightless edge?
+fn weightless_row(n: usize, m: &[u8], w: &[u16], i: usize) -> bool
+    requires { ⌜ (i < n) × (n ≤ 200) × (n * n ≤ length (now m)) × (n * n ≤ length (now w)) ⌝ }
+    ensures { λ r. ⌜ r ≡ anyBelow n (weightless n (now (m .entry)) (now (w .entry)) i) ⌝ }
+{
+    let mut j: usize = 0;
+    while j < n {
+        if weightless_edge(n, m, w, i, j) {
+            return true;
+        }
+        j += 1;
+    }
+    false
+}
+
+// 17: a present edge weighs 0.
+fn edges(n: usize, m: &[u8], w: &[u16]) -> Verdict
+    requires { ⌜ (n ≤ 200) × (n * n ≤ length (now m)) × (n * n ≤ length (now w)) ⌝ }
+    ensures { λ r. ⌜ faultAt 0 r ≡ edgeFault n (now (m .entry)) (now (w .entry)) ⌝ }
+{
+    let mut i: usize = 0;
+    while i < n {
+        if weightless_row(n, m, w, i) {
+            return Verdict::Faulty(Refusal::WeightlessEdge);
+        }
+        i += 1;
+    }
+    Verdict::Sound
+}
+
+// "Planning checks 4, 9, 8, 10", with 13 "after 4" and 17 "after 10".
 pub fn judge(
     n: usize,
     floor: u32,
@@ -135,5 +176,11 @@ pub fn judge(
         }
         Verdict::Sound => {}
     }
-    compatibility(n, m)
+    match compatibility(n, m) {
+        Verdict::Faulty(why) => {
+            return Verdict::Faulty(why);
+        }
+        Verdict::Sound => {}
+    }
+    edges(n, m, w)
 }

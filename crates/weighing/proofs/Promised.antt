@@ -23,7 +23,7 @@ use Rattle.graph.specs.Preconditions.{Buildable}
 use Rattle.weighing.specs.declared.Building.the-variants.{Built, Refused}
 use Rattle.weighing.specs.Promises.{FaultlessFields, Fit, entryAt, Entries, DonorsSide, Plannable, BuildsRightly}
 use Rattle.donation.proofs.Compatible.{compatibility-most, compatibility-same}
-use Rattle.donation.proofs.Points.{weight-same, weight-least, weight-most, weight-alike, weight-counted}
+use Rattle.donation.proofs.Points.{weight-same, weight-least, weight-most, present-weighs, weight-alike, weight-counted}
 use Rattle.graph.proofs.Rows.{rows-entry}
 use Rattle.weighing.proofs.Faults.{build-none, build-passed, build-fault, first-weighed, first-fault}
 
@@ -48,18 +48,14 @@ module _ (q : Points) (n : ℕ) (f : Fields) where
       let p = pairIn f in
       let M = e .compatibilities in
       let W = e .weights in
-      let least : (i j : ℕ) → i < n → j < n → (i ≡ j → ⊥) → q .base ≤ entryAt (g .weights) n i j =
-      λ i j l m h. rw (W i j l m) (weight-least q p i j h) in
       record {
         zeroOrOne = λ i j l m. rw (M i j l m) (compatibility-most p i j);
         ownCompatibility = λ i l. M i i l l ∙ compatibility-same p i i refl;
         ownWeight = λ i l. W i i l l ∙ weight-same q p i i refl;
-        least = least;
+        least = λ i j l m h. rw (W i j l m) (weight-least q p i j h);
         most = λ i j l m h. rw (W i j l m) (weight-most q p i j h);
         fits = sound-heaviest q sound;
-        noneWeightless =
-            λ i j l m h.
-            omega (arith, sound .base, least i j l m (λ e. omega (arith, sym (M i j l m) ∙ h, compatibility-same p i j e)));
+        noneWeightless = λ i j l m h. rw (W i j l m) (present-weighs q p i j sound (sym (M i j l m) ∙ h));
       }
 
 -- ## The promise

@@ -1,6 +1,6 @@
 -- `validation::judge` meets its contract. Assumes nothing.
 use Prim.Native.Nat.{ℕ}
-use Rattle.validation.proofs.Faults.{judge-read, read-few, read-compatibility, read-shuffle, judge-fill, judge-shuffle, judge-table}
+use Rattle.validation.proofs.Faults.{judge-read, read-few, read-tables, read-shuffle, judge-fill, judge-shuffle, judge-table, judge-edges}
 use borrow.Author.Needs.{needs}
 use Rattle.validation.proofs.judge.Statement.{statement}
 use Rattle.validation.proofs.judge.Tie as tie
@@ -47,24 +47,44 @@ returns-3 c =
 
 compatibility-requires : tie.Need-compatibility-requires
 compatibility-requires c κs =
-    let after-enum-told2 = c .before .before .before in (
-      read-few _ (floor (after-readable after-enum-told2)) _ _ _ (after-readable after-enum-told2 .readable .result) (after-readable after-enum-told2 .readable .ensures)
-          (after-enum-told after-enum-told2 .enum-told .given .1),
-      read-compatibility _ (floor (after-readable after-enum-told2)) _ _ _ (after-readable after-enum-told2 .readable .result)
-          (after-readable after-enum-told2 .readable .ensures) (after-enum-told after-enum-told2 .enum-told .given .1),
-    )
+    let after-enum-told2 = c .before .before .before in
+    let readable = after-readable after-enum-told2 in
+    let h = read-tables _ (floor readable) _ _ _ (readable .readable .result) (readable .readable .ensures)
+    (after-enum-told after-enum-told2 .enum-told .given .1) in
+    (h .0, h .1)
 
 returns-4 : tie.Need-returns-4
 returns-4 c =
-    let after-shuffle = c .before .before .before in
+    let after-compatibility = c .before .before .before in
+    let after-shuffle = after-compatibility .before .before .before in
     let after-fillable = after-shuffle .before .before .before in
     judge-table _ _ (after-readable (after-shuffle .before) .readable .result) (after-readable (after-shuffle .before) .readable .ensures)
     (after-fillable .before .enum-told .given .1) (after-fillable .fillable .result) (after-fillable .fillable .ensures)
     (after-shuffle .before .enum-told2 .given .1) (after-shuffle .shuffle .result) (after-shuffle .shuffle .ensures 0)
-    (c .before .enum-told3 .given .1) (c .compatibility .result) (c .compatibility .ensures)
+    (after-compatibility .before .enum-told3 .given .1) (after-compatibility .compatibility .result) (after-compatibility .compatibility .ensures) _
+    (c .before .why4 .given .1)
+
+edges-requires : tie.Need-edges-requires
+edges-requires c κs =
+    let after-enum-told2 = c .before .before .before .before .before .before in
+    let readable = after-readable after-enum-told2 in
+    read-tables _ (floor readable) _ _ _ (readable .readable .result) (readable .readable .ensures)
+    (after-enum-told after-enum-told2 .enum-told .given .1)
+
+returns-5 : tie.Need-returns-5
+returns-5 c =
+    let after-compatibility = c .before .before .before in
+    let after-shuffle = after-compatibility .before .before .before in
+    let after-fillable = after-shuffle .before .before .before in
+    judge-edges _ _ (after-readable (after-shuffle .before) .readable .result) (after-readable (after-shuffle .before) .readable .ensures)
+    (after-fillable .before .enum-told .given .1) (after-fillable .fillable .result) (after-fillable .fillable .ensures)
+    (after-shuffle .before .enum-told2 .given .1) (after-shuffle .shuffle .result) (after-shuffle .shuffle .ensures 0)
+    (after-compatibility .before .enum-told3 .given .1) (after-compatibility .compatibility .result) (after-compatibility .compatibility .ensures)
+    (c .before .enum-told4 .given .1) (c .edges .result) (c .edges .ensures)
 
 pub judge-spec : {M : Type 1} → statement M
 judge-spec =
     tie.close
     (tie.spec (λ c κs. search needs) (λ c. search needs) returns (λ c. search needs) fillable-requires (λ c. search needs) returns-2
-    (λ c. search needs) shuffle-requires (λ c. search needs) returns-3 (λ c. search needs) compatibility-requires returns-4)
+    (λ c. search needs) shuffle-requires (λ c. search needs) returns-3 (λ c. search needs) compatibility-requires (λ c. search needs) returns-4
+    (λ c. search needs) edges-requires returns-5)
