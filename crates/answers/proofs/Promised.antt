@@ -37,23 +37,26 @@ use Rattle.exchange.proofs.Checked.{answers-rightly}
 use Rattle.printout.specs.Printed.{PrintedPlan, planText, refusalText}
 use Rattle.answers.specs.Most.{most}
 use Rattle.answers.specs.Answering.{planBy, poolInput, printedPlanOf, pointsOn, orRefusal, answerText, putting, answering}
-use Rattle.answers.specs.Promises.{BuiltIsPlanned, PlanGuarantee, SheetPlanned, AnswerFault, sheet, tooMany, AnsweringIsRight}
+use Rattle.answers.specs.Promises.{PlannableIsPlanned, BuiltIsPlanned, PlanGuarantee, SheetPlanned, AnswerFault, sheet, tooMany, AnsweringIsRight}
 use Rattle.answers.proofs.Seated.{shuffle-seated}
 
-pub built-is-planned : BuiltIsPlanned
+pub plannable-is-planned : PlannableIsPlanned
 unfolding entry
-built-is-planned v n floor points f old g s t built left low once long =
-    let w = rightly v n points f old (finished tt) g (λ i. record { answer = sym built i; lent = left i }) in
-    let z = w .plannable refl in
+plannable-is-planned q n floor g s t few z low once long =
     answers-rightly (request n floor _ _ s) t .accepts
     (record {
-      few = w .accepted refl .0 .few;
+      few = few;
       low = low;
       long = long;
       eachOnce = once;
       compatible = record { zeroOrOne = z .zeroOrOne; own = z .ownCompatibility };
       weighty = z .noneWeightless;
     })
+
+pub built-is-planned : BuiltIsPlanned
+built-is-planned v n floor points f old g s t built left low once long =
+    let w = rightly v n points f old (finished tt) g (λ i. record { answer = sym built i; lent = left i }) in
+    plannable-is-planned _ n floor g s t (w .accepted refl .0 .few) (w .plannable refl) low once long
 
 -- ## The printed plan
 

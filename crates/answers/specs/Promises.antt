@@ -5,11 +5,13 @@ use mathlib.Core.List.{List, map}
 use lib.ListN.{length, getD}
 use Rattle.laws.specs.Below.{table}
 use Rattle.refusal.specs.Answer.{finished, Outcome}
+use Rattle.pool.specs.Points.{Points}
 use Rattle.pool.specs.Sheet.{pairsIn, pairAt, shuffleAt}
 use Rattle.pool.specs.Tables.{Fields}
 use Rattle.pool.specs.Faultless.{EachOnce, FaultlessSheet, SheetFault}
 use Rattle.graph.specs.Graph.{Graph}
 use Rattle.weighing.specs.Building.{building}
+use Rattle.weighing.specs.Promises.{Plannable}
 use Rattle.greedy.specs.Tally.{tally}
 use Rattle.exchange.specs.Subsets.{pairsAt}
 use Rattle.exchange.specs.Input.{Input, request}
@@ -23,8 +25,19 @@ use Rattle.printout.specs.Printed.{PrintedPlan, planText, refusalText}
 use Rattle.answers.specs.Most.{most}
 use Rattle.answers.specs.Answering.{poolInput, pointsOn, putting, answering}
 
--- tables that were built, by whatever points, are planned, with any shuffle, any floor up to the greatest and any tables that are long enough: they have no
--- fault 10 and no fault 17
+-- tables as building gives them (`Plannable`), which a live pool has too, are planned with any shuffle, any floor up to the greatest and any tables that
+-- are long enough: they have no fault 10, and no fault 17
+abbrev pub PlannableIsPlanned : Type 0
+PlannableIsPlanned =
+    (q : Points) (n floor : ℕ) (g : Graph) (s : List ℕ) (t : Lent)
+    → n ≤ 200
+    → Plannable q n g
+    → floor ≤ mostFloor
+    → EachOnce n (λ j. getD s j 0)
+    → LongEnough (request n floor (g .compatibilities) (g .weights) s) t
+    → (p : Plan) × (planning (request n floor (g .compatibilities) (g .weights) s) t .answer ≡ finished p)
+
+-- so those that were built are, by whatever points 14 lets pass
 abbrev pub BuiltIsPlanned : Type 0
 BuiltIsPlanned =
     (v n floor : ℕ) (points : List ℕ) (f : Fields) (old g : Graph) (s : List ℕ) (t : Lent)

@@ -106,7 +106,7 @@ planned-credits f l n m w s sh small bits weighs =
     let exchanges = planned-set f l n m w s sh bits .exchanges in
     let by-twos = credited-by-twos l n m w small cs exchanges in
     record {
-      bound = rival-credit f l n m w s sh;
+      bound = λ rivals h above. rival-credit f l n m w s sh rivals h above;
       bound-all = λ e rivals h. rival-credit f l n m w s sh rivals h (weighs .set e rivals h);
       twos = by-twos;
       most = credited-most l n m w cs exchanges;

@@ -203,7 +203,7 @@ module _ (n f : ℕ) (M W s : List ℕ) (t : Lent) (k : FaultlessInput (request 
     exchanges = rw planned-is set;
     above = rw planned-is (planned-heavy f 3 n m w s sh);
     weight = ap (total m w) (sym planned-is);
-    factor = rival-factor f 3 n m w s sh;
+    factor = λ rivals h above. rival-factor f 3 n m w s sh rivals h above;
     noneWeightless = weighs;
     factor-all = λ e rivals h. rival-factor f 3 n m w s sh rivals h (weighs .set e rivals h);
     credit = subst (λ (c : List (List ℕ)). CreditsTwos q (planFrom q .weight) c) (sym planned-is) (planned-credits f 3 n m w s sh (omega arith) (k .compatible .zeroOrOne) weighs);
