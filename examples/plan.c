@@ -11,7 +11,7 @@
 
 #define PAIRS VADIVUZHEN_MOST_PAIRS
 
-/* The floor that the program `plan` uses: any exchange may be planned that weighs something. */
+/* The floor that the program `plan` uses: any exchange may be planned that can be carried out. */
 #define FLOOR 0
 
 /* One byte more than the longest sheet, so that a longer one is seen to be too long. */

@@ -72,7 +72,8 @@ enum vadivuzhen_refusal {
     VADIVUZHEN_NOT_COMPATIBILITY = 10, /* a compatibility entry is above 1, or a pair's own is not 0 (planning); or a stored number is not the ones in its
                                         * column of M (registering, withdrawing) */
     VADIVUZHEN_FLOOR_TOO_HIGH = 13,    /* the floor is above 200,000 */
-    VADIVUZHEN_UNKNOWN_ID = 16         /* the id is not in the live pool */
+    VADIVUZHEN_UNKNOWN_ID = 16,        /* the id is not in the live pool */
+    VADIVUZHEN_WEIGHTLESS_EDGE = 17    /* a present edge weighs 0: its compatibility entry is 1, and its weight entry is 0 */
 };
 
 /* ---- Lengths that suffice, in elements, for n pairs; n is 0 to 200, and may be a constant expression. It is evaluated more than once ---- */
@@ -199,9 +200,10 @@ struct vadivuzhen_build_answer {
  * Fills VADIVUZHEN_ENTRIES(n) entries of each.
  * Refuses 3, where the version is neither 1 nor 2; 4; 9, where a table of the fields has fewer than n entries or, for version 2, the points have fewer than
  * VADIVUZHEN_POINTS; 14, for version 2; 6 and 7, pair by pair; 9, where M or W is shorter than n rows of n.
- * Proved, for both versions: the fields are accepted if and only if they have none of these faults. M is then the published one, 0 or 1, and 0 for a pair's
- * own, as vadivuzhen_plan asks. Every entry of W is that of the six points of the pool, for any six points that 14 lets pass: but for a pair's own, which is
- * 0, it is at least the base, so no present edge is weightless, and at most 65,535. For version 1 the outcome is the same with any points table. */
+ * Proved, for both versions: the fields are accepted if and only if they have none of these faults. M is then the published one, 0 or 1, and 0 for a
+ * pair's own. Every entry of W is that of the six points of the pool, for any six points that 14 lets pass: but for a pair's own, which is 0, it is
+ * at least the base, so no present edge is weightless, and at most 65,535. So vadivuzhen_plan never refuses 10 or 17 of built tables. For version 1
+ * the outcome is the same with any points table. */
 VADIVUZHEN_ANSWERS struct vadivuzhen_build_answer vadivuzhen_build(
     uint16_t version, size_t n,
     const uint16_t *points, size_t points_length,
@@ -238,7 +240,7 @@ VADIVUZHEN_ANSWERS struct vadivuzhen_build_answer vadivuzhen_build(
  * ones in column j of M, and so the number of pairs of the pool whose donor suits patient j. Written as a sheet of version 2, with any shuffle, and read
  * again, the pool has the same pairs and points, and vadivuzhen_build gives the same M and W. A registration finishes if and only if the pair is in range, no
  * pair of the pool has its id, there are fewer than 200 and one more fits; a withdrawal, if and only if the id is in the pool. So an id that was withdrawn
- * may register again, and neither call ever refuses 10. */
+ * may register again, neither call ever refuses 10, and vadivuzhen_plan never refuses 10 or 17 of these M and W. */
 
 /* The six points, in the order of the sheet. */
 struct vadivuzhen_points {
@@ -348,23 +350,26 @@ struct vadivuzhen_plan_answer {
     uint64_t rounds;
 };
 
-/* Plans the pool of n pairs whose tables are m and w, built by vadivuzhen_build or the caller's own, with the shuffle. W of a pair's own is not read, and
- * a present edge may weigh 0. An exchange is planned only if its weight is above the floor, which is 0 to VADIVUZHEN_MOST_FLOOR; with floor 0 any may be that
- * weighs something.
+/* Plans the pool of n pairs whose tables are m and w, built by vadivuzhen_build or the caller's own, with the shuffle. W of a pair's own is not read.
+ * An exchange is planned only if its weight is above the floor, which is 0 to VADIVUZHEN_MOST_FLOOR; with floor 0 any may be that can be carried out.
  * Fills VADIVUZHEN_SUBSETS(n) weights, those left after the last round; VADIVUZHEN_ROUNDS(n) choices, each a subset's number, or the number of all subsets
  * for none; n donors, who gives to patient i, and n recipients, whom donor i gives to, with n for nobody; and of the records as many as there are cycles,
  * in order of choice. A weight at or below the floor is not set to 0 for that: it is 0 afterwards where the subset shares a place with an earlier choice,
  * like any other.
- * Refuses 4; 13, where the floor is above VADIVUZHEN_MOST_FLOOR; 9, where m or w is shorter than n rows of n, the shuffle than n, weights, choices, donors
- * or recipients than what is filled, or the records than VADIVUZHEN_RECORDS(n); 8; 10.
- * Proved: a plan is made if and only if there are none of these faults. Of every plan made: its donors and recipients are those of Algorithm 1 of arXiv
- * 2302.13880, with the floor for the 0 of its line 7; all its cycles can be carried out; each of them weighs more than the floor; no pair is in two of
- * them; no other set of exchanges of two or three pairs that can all be carried out and each weigh more than the floor, with no pair in two of them, weighs
- * more than three times as much, and with floor 0 neither does one of which some weigh 0; none of these sets weighs more than the sum over the planned
- * exchanges, the first `cycles` records, of each one's weight times its number of pairs, two where the third is n and else three: that sum and the weight of
- * the planned exchanges of two together are three times the plan's weight, so that as soon as one of two pairs is planned the sum is the smaller of the two
- * limits; and the tally depends on n alone, at every floor: with T triples and P twos among n pairs and R = n / 2 rounds, rounds are R, comparisons
- * T + R (T + P), and products 2P + 7T + R (5 (T + P) - 1) + (R - 1) (2P + 3T), or 0 where R is 0. */
+ * Refuses 4; 13, where the floor is above VADIVUZHEN_MOST_FLOOR; 9, where m or w is shorter than n rows of n, the shuffle than n, weights, choices,
+ * donors or recipients than what is filled, or the records than VADIVUZHEN_RECORDS(n); 8; 10; and last 17, where donor i may give to patient j and
+ * that weighs nothing: the entry of m at i * n + j is 1, and that of w is 0. Where m has 0, w may have 0 too. 17 is the same at every floor, and
+ * entries past n rows of n are not looked at. Each number is looked for in all that is lent before the next is: a weightless edge beside an entry of
+ * m above 1 is 10.
+ * Proved: a plan is made if and only if there are none of these faults. In every pool that is planned an exchange that can be carried out weighs more
+ * than 0. Of every plan made: its donors and recipients are those of Algorithm 1 of arXiv 2302.13880, with the floor for the 0 of its line 7; all its
+ * cycles can be carried out; each of them weighs more than the floor; no pair is in two of them; no other set of exchanges of two or three pairs that
+ * can all be carried out and each weigh more than the floor, with no pair in two of them, weighs more than three times as much, and with floor 0
+ * these are all the sets that can be carried out, with no pair in two exchanges; none of these sets weighs more than the sum over the planned
+ * exchanges, the first `cycles` records, of each one's weight times its number of pairs, two where the third is n and else three: that sum and the
+ * weight of the planned exchanges of two together are three times the plan's weight, so that as soon as one of two pairs is planned the sum is the
+ * smaller of the two limits; and the tally depends on n alone, at every floor: with T triples and P twos among n pairs and R = n / 2 rounds, rounds
+ * are R, comparisons T + R (T + P), and products 2P + 7T + R (5 (T + P) - 1) + (R - 1) (2P + 3T), or 0 where R is 0. */
 VADIVUZHEN_ANSWERS struct vadivuzhen_plan_answer vadivuzhen_plan(
     size_t n, uint32_t floor,
     const uint8_t *m, size_t m_length,
