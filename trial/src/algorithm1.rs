@@ -132,10 +132,19 @@ mod tests {
 
     #[test]
     fn nothing_is_chosen_where_nothing_weighs() {
-        let weightless = Tables::of_edges(2, &[(0, 1, 0), (1, 0, 0)]);
-        let none = (vec![2, 2], vec![2, 2]);
-        let (m, w) = (&weightless.m, &weightless.w);
-        assert_eq!(algorithm1(2, 0, m, w, &[1, 0]), none);
+        // No edge; one, with no way back; a way round but for its last edge.
+        for edges in [&[][..], &[(0, 1, 5)], &[(0, 1, 5), (1, 2, 7)]] {
+            let none = (vec![3; 3], vec![3; 3]);
+            let mut tables = Tables::of_edges(3, edges);
+            assert_eq!(algorithm1(3, 0, &tables.m, &tables.w, &[1, 0, 2]), none);
+            // What W has where there is no edge is no weight.
+            for (&m, w) in tables.m.iter().zip(&mut tables.w) {
+                if m == 0 {
+                    *w = 9;
+                }
+            }
+            assert_eq!(algorithm1(3, 0, &tables.m, &tables.w, &[1, 0, 2]), none);
+        }
     }
 
     #[test]

@@ -27,6 +27,7 @@
 //! | [`sheet`]      | W-205: sheet version 2                             |
 //! | [`live`]       | W-206: a pool that lives between matches           |
 //! | [`live`]       | W-207: how many donors suit each patient           |
+//! | [`planner`]    | W-209: no weightless edges                         |
 //!
 //! Beside the planner by rounds stand four others:
 //!

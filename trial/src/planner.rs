@@ -79,7 +79,7 @@ impl Plan {
 /// Plans a pool of `n` pairs from lent tables, with room for the outcome. "A
 /// subset is chosen only if its weight is above the floor" (W-202).
 ///
-/// Checks 4; 13; 9 for any table too short; 8; 10.
+/// Checks 4; 13; 9 for any table too short; 8; 10; 17.
 pub fn plan(
     n: usize,
     floor: u32,
@@ -133,6 +133,11 @@ pub fn check(
     }
     if (0..n * n).any(|entry| m[entry] > 1 || (entry % (n + 1) == 0 && m[entry] != 0)) {
         return Err(Reason::Entry);
+    }
+    // "Where M(i, j) is 1 and W(i, j) is 0" (W-209), after all of M has passed:
+    // W is read where there is an edge and nowhere else, so W(i, i) is not read.
+    if (0..n * n).any(|entry| m[entry] == 1 && w[entry] == 0) {
+        return Err(Reason::WeightlessEdge);
     }
     Ok(())
 }
@@ -329,7 +334,8 @@ mod tests {
 
         // Every table alone too short, all else being wrong as well.
         let short = Some(Reason::TooShort);
-        let mut bad = good.clone();
+        let weightless = Tables::of_edges(n, &[(0, 1, 0)]);
+        let mut bad = weightless.clone();
         bad.m[8] = 1;
         let twice = [0, 0, 1];
         let due = Room::due(n);
@@ -356,20 +362,34 @@ mod tests {
         assert_eq!(reason(n, &bad, &twice, due), Some(Reason::Shuffle));
         assert_eq!(reason(n, &bad, &[0, 1, 3], due), Some(Reason::Shuffle));
         assert_eq!(reason(n, &bad, &shuffle, due), Some(Reason::Entry));
+        let last = Some(Reason::WeightlessEdge);
+        assert_eq!(reason(n, &weightless, &shuffle, due), last);
     }
 
     #[test]
-    fn every_entry_of_m_is_checked_and_no_other() {
+    fn every_entry_is_checked_and_none_past_them() {
         let n = 4;
         for entry in 0..n * n {
             let diagonal = entry / n == entry % n;
-            for value in [0, 1, 2, 255] {
+            for (value, weight) in [0, 1, 2, 255].into_iter().flat_map(|value| {
+                let weights = [0, 1, 256, u16::MAX].into_iter();
+                weights.map(move |weight| (value, weight))
+            }) {
                 let mut tables = Tables::empty(n);
                 tables.m[entry] = value;
-                tables.m.push(9);
-                let wrong = value > 1 || diagonal && value > 0;
+                tables.w[entry] = weight;
+                // Past the rows, a wrong entry and a weightless edge.
+                tables.m.extend([9, 1]);
+                tables.w.extend([0, 0]);
+                let due = if value > 1 || diagonal && value > 0 {
+                    Some(Reason::Entry)
+                } else if value == 1 && weight == 0 {
+                    Some(Reason::WeightlessEdge)
+                } else {
+                    None
+                };
                 let answer = plan(n, 0, &tables.m, &tables.w, &[0, 1, 2, 3], Room::due(n));
-                assert_eq!(answer.err(), wrong.then_some(Reason::Entry));
+                assert_eq!(answer.err(), due, "entry {entry}: {value}, {weight}");
             }
         }
     }
@@ -381,8 +401,8 @@ mod tests {
         let mut tables = Tables::of_edges(n, &edges);
         let mut shuffle = vec![1, 2, 0];
         let exact = plan(n, 0, &tables.m, &tables.w, &shuffle, Room::due(n));
-        tables.m.extend([7; 5]);
-        tables.w.extend([7; 2]);
+        tables.m.extend([1, 7, 7, 7, 7]);
+        tables.w.extend([0, 7]);
         shuffle.extend([0, 500]);
         let longer = plan(n, 0, &tables.m, &tables.w, &shuffle, Room::due(9));
         assert_eq!(longer, exact);

@@ -99,7 +99,9 @@ pub enum TableKind {
     Empty,
     /// Many edges, of three weights only.
     Ties,
-    /// Many edges, most of which weigh 0.
+    /// Many edges, or a few, of which most weigh 1; but one of them, at any
+    /// place, or most, weigh 0. Planning refuses these by 17 (W-209), and plans
+    /// what [`mended`] makes of them.
     Weightless,
     /// The heaviest edges there can be, and some that are nearly so.
     Heavy,
@@ -122,41 +124,107 @@ impl TableKind {
 }
 
 /// Tables of `n` pairs as a caller might lend them. W(i, i) is not read, so
-/// it holds anything; so does W where there is no edge.
+/// it holds anything; so does W where there is no edge. Both are often 0, so
+/// that one who looks for weightless edges there finds some.
+///
+/// Every edge weighs at least 1, but in tables of kind
+/// [`Weightless`](TableKind::Weightless), which have a weightless one wherever
+/// there are two pairs. So 17 is one answer of several, at every size: were any
+/// edge weightless by chance, few large tables would be planned.
 pub fn tables(random: &mut Random, n: usize, kind: TableKind) -> Tables {
-    if kind == TableKind::Traps {
-        return traps(random, n);
+    match kind {
+        TableKind::Dense => laid(random, n, |random| {
+            (random.chance(9, 10), any_weight(random))
+        }),
+        TableKind::Sparse => laid(random, n, |random| {
+            (random.chance(3, n), any_weight(random))
+        }),
+        TableKind::Empty => laid(random, n, |random| (false, any_weight(random))),
+        TableKind::Ties => laid(random, n, |random| {
+            (random.chance(2, 3), random.between(1, 3) as u16)
+        }),
+        TableKind::Weightless => weightless(random, n),
+        TableKind::Heavy => laid(random, n, |random| {
+            let weight = u16::MAX - random.below(2) as u16;
+            (random.chance(2, 3), weight)
+        }),
+        TableKind::Traps => traps(random, n),
     }
+}
+
+/// Any weight that an edge may have.
+fn any_weight(random: &mut Random) -> u16 {
+    random.between(1, usize::from(u16::MAX)) as u16
+}
+
+/// Tables of `n` pairs, by whether each edge is there and what it weighs then.
+fn laid(random: &mut Random, n: usize, edge: impl Fn(&mut Random) -> (bool, u16)) -> Tables {
     let mut tables = Tables::empty(n);
     for entry in 0..n * n {
-        let (present, weight) = match kind {
-            TableKind::Dense => (random.chance(9, 10), random.bits() as u16),
-            TableKind::Sparse => (random.chance(3, n), random.bits() as u16),
-            TableKind::Empty => (false, random.bits() as u16),
-            TableKind::Ties => (random.chance(2, 3), random.between(1, 3) as u16),
-            TableKind::Weightless => {
-                let weight = if random.chance(1, 8) {
-                    random.below(4)
-                } else {
-                    0
-                };
-                (random.chance(4, 5), weight as u16)
-            }
-            TableKind::Heavy => {
-                let weight = u16::MAX - random.below(2) as u16;
-                (random.chance(2, 3), weight)
-            }
-            TableKind::Traps => unreachable!("traps are laid by themselves"),
-        };
+        let (present, weight) = edge(random);
         let diagonal = entry / n == entry % n;
-        tables.m[entry] = u8::from(present && !diagonal);
-        tables.w[entry] = if diagonal {
-            random.bits() as u16
+        if present && !diagonal {
+            tables.m[entry] = 1;
+            tables.w[entry] = weight;
         } else {
-            weight
-        };
+            let any = any_weight(random);
+            tables.w[entry] = random.one_of(&[0, weight, any]);
+        }
     }
     tables
+}
+
+/// Tables of light edges, of which one weighs 0, which is laid if it was not
+/// there; and half of the time most others do so too.
+fn weightless(random: &mut Random, n: usize) -> Tables {
+    let (times, of) = random.one_of(&[(4, 5), (1, 4)]);
+    let mut tables = laid(random, n, |random| {
+        let weight = random.one_of(&[1, 1, 1, 1, 1, 1, 2, 3]);
+        (random.chance(times, of), weight)
+    });
+    if random.chance(1, 2) {
+        for (&m, w) in tables.m.iter().zip(&mut tables.w) {
+            if m == 1 && random.chance(7, 8) {
+                *w = 0;
+            }
+        }
+    }
+    if n >= 2 {
+        let (donor, patient) = place_of_edge(random, n);
+        tables.m[donor * n + patient] = 1;
+        tables.w[donor * n + patient] = 0;
+    }
+    tables
+}
+
+/// Where an edge of `n` pairs may stand: the numbers of a donor and a patient,
+/// not of one pair, often the last. There must be two pairs.
+pub fn place_of_edge(random: &mut Random, n: usize) -> (usize, usize) {
+    loop {
+        let mut pair = || match random.below(4) {
+            0 => n - 1,
+            _ => random.below(n),
+        };
+        let (donor, patient) = (pair(), pair());
+        if donor != patient {
+            return (donor, patient);
+        }
+    }
+}
+
+/// W of `n` pairs with 1 for every weightless edge. `None` if there is none:
+/// then 17 lets the tables pass as they are.
+pub fn mended(n: usize, m: &[u8], w: &[u16]) -> Option<Vec<u16>> {
+    let mut mended = w.to_vec();
+    for donor in 0..n {
+        for patient in 0..n {
+            let entry = donor * n + patient;
+            if m[entry] == 1 && w[entry] == 0 {
+                mended[entry] = 1;
+            }
+        }
+    }
+    (mended != w).then_some(mended)
 }
 
 /// k8 over any six pairs, or three twos in a row over any four, of which the
@@ -652,6 +720,7 @@ impl Drop for Witness<'_> {
 mod tests {
     use super::*;
     use crate::pool::is_shuffle;
+    use crate::refusal::Reason;
     use crate::tables::build_pool;
 
     #[test]
@@ -667,8 +736,8 @@ mod tests {
     }
 
     #[test]
-    fn pools_and_tables_have_no_fault() {
-        trials("faultless", 1, 500, |random| {
+    fn pools_and_tables_have_no_fault_but_weightless_edges() {
+        trials("faultless", 1, 1_000, |random| {
             let n = random.below(30);
             let kind = random.one_of(&PoolKind::ALL);
             let pool = pool(random, n, kind);
@@ -676,11 +745,71 @@ mod tests {
             build_pool(&pool).expect("no fault in the fields");
             let kind = random.one_of(&TableKind::ALL);
             let tables = tables(random, n, kind);
-            let room = crate::Room::due(n);
             let floor = floor(random, n, &tables);
-            crate::planner::check(n, floor, &tables.m, &tables.w, &pool.shuffle, room)
-                .expect("no fault in the tables");
+            let Tables { m, w } = tables;
+            let weightless = kind == TableKind::Weightless && n >= 2;
+            let (shuffle, room) = (&pool.shuffle, crate::Room::due(n));
+            let check = |w: &[u16]| crate::planner::check(n, floor, &m, w, shuffle, room);
+            let due = if weightless {
+                Err(Reason::WeightlessEdge)
+            } else {
+                Ok(())
+            };
+            assert_eq!(check(&w), due, "{kind:?}");
+            let mended = mended(n, &m, &w);
+            assert_eq!(mended.is_some(), weightless, "{kind:?}");
+            assert_eq!(check(&mended.unwrap_or(w)), Ok(()), "{kind:?}");
         });
+    }
+
+    #[test]
+    fn one_table_of_several_is_weightless() {
+        let n = 6;
+        let mut random = Random::new(209);
+        let all: Vec<Tables> = (0..5_000)
+            .map(|_| {
+                let kind = random.one_of(&TableKind::ALL);
+                tables(&mut random, n, kind)
+            })
+            .collect();
+        let at = |tables: &Tables, entry: usize| (tables.m[entry], tables.w[entry]);
+        let edges = |tables: &Tables| (0..n * n).filter(|&e| at(tables, e) == (1, 0)).count();
+        let counts: Vec<usize> = all.iter().map(edges).collect();
+        let weightless = counts.iter().filter(|&&count| count > 0).count();
+        assert!((500..1_000).contains(&weightless), "{weightless} of 5,000");
+        // Just one, and many.
+        let ones = counts.iter().filter(|&&count| count == 1).count();
+        assert!((250..500).contains(&ones), "{ones} with just one");
+        let many = counts.iter().filter(|&&count| count > n * n / 2).count();
+        assert!(many > 100, "{many} with many");
+        for entry in 0..n * n {
+            // That one is everywhere but on the diagonal.
+            let alone =
+                |(tables, &count): &(&Tables, &usize)| count == 1 && at(tables, entry) == (1, 0);
+            let diagonal = entry % (n + 1) == 0;
+            let there = all.iter().zip(&counts).filter(alone).count();
+            assert_eq!(there == 0, diagonal, "entry {entry}");
+            // Elsewhere W is often 0 where there is no edge, and often 1 where
+            // there is one.
+            let often = |what| {
+                all.iter()
+                    .filter(|tables| at(tables, entry) == what)
+                    .count()
+            };
+            assert!(often((0, 0)) > 500, "entry {entry}");
+            assert!(diagonal || often((1, 1)) > 200, "entry {entry}");
+        }
+    }
+
+    #[test]
+    fn mending_is_of_edges_alone() {
+        let m = [0, 1, 1, 0, 0, 1, 1, 2, 0, 1];
+        let w = [0, 0, 5, 0, 0, 0, 7, 0, 0, 0];
+        let mended_w = [0, 1, 5, 0, 0, 1, 7, 0, 0, 0];
+        assert_eq!(mended(3, &m, &w).as_deref(), Some(&mended_w[..]));
+        assert_eq!(mended(3, &m, &mended_w), None);
+        assert_eq!(mended(0, &m, &w), None);
+        assert_eq!(mended(1, &m, &w), None);
     }
 
     #[test]

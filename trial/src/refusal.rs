@@ -42,11 +42,13 @@ pub enum Reason {
     DifferentPoints = 15,
     /// 16: the id to be withdrawn is not in the pool.
     UnknownId = 16,
+    /// 17: a present edge weighs 0: M(i, j) is 1 and W(i, j) is 0.
+    WeightlessEdge = 17,
 }
 
 impl Reason {
     /// All reasons, by number.
-    pub const ALL: [Reason; 16] = [
+    pub const ALL: [Reason; 17] = [
         Reason::CutOff,
         Reason::NotDue,
         Reason::Version,
@@ -63,6 +65,7 @@ impl Reason {
         Reason::WrongPoints,
         Reason::DifferentPoints,
         Reason::UnknownId,
+        Reason::WeightlessEdge,
     ];
 
     /// Document 01's number.

@@ -5,8 +5,8 @@
 //! random pools beside the heaviest set there is.
 
 use reference::best::planned_cycles;
-use reference::random::{floor, pool, tables, trials, PoolKind, Random, TableKind};
-use reference::{best, best_above, build_pool, credit, plan, Plan, Room, Tables};
+use reference::random::{floor, mended, pool, tables, trials, PoolKind, Random, TableKind};
+use reference::{best, best_above, build_pool, credit, plan, Plan, Reason, Room, Tables};
 
 /// Edges, as donor, patient, weight.
 type Edges = Vec<(usize, usize, u16)>;
@@ -134,6 +134,7 @@ fn pair_by_pair(n: usize, tables: &Tables, plan: &Plan) -> u32 {
 }
 
 /// Tables of up to 8 pairs of any kind; or of up to 10 pairs with few cycles.
+/// Those with weightless edges, which planning refuses by 17, are mended.
 fn any_tables(random: &mut Random) -> (usize, Tables) {
     let n = random.between(0, 8);
     match random.below(4) {
@@ -148,7 +149,14 @@ fn any_tables(random: &mut Random) -> (usize, Tables) {
         }
         _ => {
             let kind = random.one_of(&TableKind::ALL);
-            (n, tables(random, n, kind))
+            let mut tables = tables(random, n, kind);
+            if let Some(mended) = mended(n, &tables.m, &tables.w) {
+                let (m, w, shuffle) = (&tables.m, &tables.w, random.shuffle(n));
+                let answer = plan(n, 0, m, w, &shuffle, Room::due(n));
+                assert_eq!(answer, Err(Reason::WeightlessEdge));
+                tables.w = mended;
+            }
+            (n, tables)
         }
     }
 }
@@ -166,7 +174,8 @@ fn the_sum_is_at_least_the_best_above_the_floor() {
             let sum = credit(n, m, w, &plan);
             let rival = best_above(n, floor, m, w);
             assert!(sum >= rival.weight, "floor {floor}: {sum}, {rival:?}");
-            // With floor 0 every set is a rival, with weightless cycles too.
+            // With floor 0 every set is a rival, as every executable cycle
+            // weighs more than 0.
             assert!(floor > 0 || sum >= every, "{sum} beside {every}");
             below += u32::from(sum < every);
 

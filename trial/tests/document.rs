@@ -81,9 +81,14 @@ fn k4() {
 
 #[test]
 fn k5() {
-    let (plan, _) = planned_edges(2, &[(0, 1, 0), (1, 0, 0)]);
-    assert_eq!(plan.choices, [1]);
-    assert_eq!(plan.cycles(), 0);
+    // "Pool k5 becomes a refused pool" (W-209).
+    let Tables { m, w } = Tables::of_edges(2, &[(0, 1, 0), (1, 0, 0)]);
+    let (shuffle, room) = ([0, 1], Room::due(2));
+    let refused = Reason::WeightlessEdge;
+    assert_eq!(refused.number(), 17);
+    assert_eq!(plan(2, 0, &m, &w, &shuffle, room), Err(refused));
+    assert_eq!(gates::plan(2, 0, &m, &w, &shuffle, room), Err(refused));
+    assert_eq!(straight::plan(2, 0, &m, &w, &shuffle, room), Err(refused));
 }
 
 #[test]

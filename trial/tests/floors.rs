@@ -4,7 +4,7 @@
 
 use reference::best::cycle_weight;
 use reference::random::{
-    floor, plain_pool, pool, tables, trials, PoolKind, Random, TableKind, GREATEST_WEIGHT,
+    floor, mended, plain_pool, pool, tables, trials, PoolKind, Random, TableKind, GREATEST_WEIGHT,
 };
 use reference::{
     algorithm1, best, best_above, build_pool, gates, plan, printed, printout, read, straight, Plan,
@@ -250,11 +250,19 @@ fn thirteen_before_all_but_four_whatever_is_wrong() {
 
 // ---- What holds at any floor
 
-/// Tables of any kind, a caller's own or built from fields.
+/// Tables of any kind, a caller's own or built from fields, that planning
+/// accepts. Those with weightless edges are refused at any floor, and mended.
 fn any_tables(random: &mut Random, n: usize) -> Tables {
     if random.chance(2, 3) {
         let kind = random.one_of(&TableKind::ALL);
-        tables(random, n, kind)
+        let mut tables = tables(random, n, kind);
+        if let Some(mended) = mended(n, &tables.m, &tables.w) {
+            let floor = floor(random, n, &tables);
+            let why = refused(n, floor, &tables, &random.shuffle(n), Room::due(n));
+            assert_eq!(why, Some(Reason::WeightlessEdge), "floor {floor}");
+            tables.w = mended;
+        }
+        tables
     } else {
         let kind = random.one_of(&PoolKind::ALL);
         let pool = pool(random, n, kind);
@@ -411,10 +419,11 @@ fn three_times_the_plan_is_at_least_the_best_above_the_floor() {
         // Against sets with cycles below the floor there is no such bound.
         more_below += u32::from(3 * weight < every.weight);
 
-        // With floor 0 every set is a rival, with weightless cycles too.
+        // With floor 0 every set is a rival, as every executable cycle weighs
+        // more than 0.
         let weight = planned(n, 0, &tables, &shuffle).weight;
         assert!(3 * weight >= every.weight, "{every:?}");
-        assert_eq!(best_above(n, 0, m, w).weight, every.weight);
+        assert_eq!(best_above(n, 0, m, w), every);
     });
     assert!(thirds > 10, "only {thirds} plans were a third of the best");
     assert!(more_below > 10, "only {more_below} plans were less of all");

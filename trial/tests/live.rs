@@ -3,9 +3,10 @@
 //! holds.
 
 use reference::live::{after, held, pool_of, register, start, suitable, withdraw};
+use reference::planner::check;
 use reference::random::{plain_pool, points, trials, wrong_points, PoolKind, Random};
 use reference::sheet::LONGEST;
-use reference::{build, build_pool, read, write_pool, Call, Live, Pair, Points, Reason};
+use reference::{build, build_pool, read, write_pool, Call, Live, Pair, Points, Reason, Room};
 use std::collections::BTreeSet;
 
 /// The pairs of document 01's sheet, and a third: O to O, with a senior donor
@@ -732,9 +733,16 @@ fn tables(live: &Live) -> (&[u8], &[u16]) {
     (&live.m[..square], &live.w[..square])
 }
 
+/// What planning refuses the tables of a live pool by, as they stand, with
+/// this shuffle.
+fn unplanned(live: &Live, shuffle: &[u16]) -> Option<Reason> {
+    let (n, m, w) = (live.count, &live.m, &live.w);
+    check(n, 0, m, w, shuffle, Room::due(n)).err()
+}
+
 /// The tables are those of a sheet with these pairs and points: written, read
-/// and built, and built from the pool's own tables. The numbers are those of the
-/// donors that suit.
+/// and built, and built from the pool's own tables. So planning accepts them,
+/// whatever lies past them. The numbers are those of the donors that suit.
 fn is_of_a_sheet(random: &mut Random, live: &Live) {
     let mut pool = pool_of(Points::of(&live.points), &live.pairs());
     pool.shuffle = random.shuffle(live.count);
@@ -754,7 +762,23 @@ fn is_of_a_sheet(random: &mut Random, live: &Live) {
     let square = live.count * live.count;
     let again = build(2, live.count, &live.points, fields, square, square);
     assert_eq!(again, Ok(built));
+    assert_eq!(unplanned(live, &pool.shuffle), None);
     assert_eq!(numbers(live), suitable(&live.pairs()));
+}
+
+#[test]
+fn a_weightless_edge_of_the_callers_is_for_planning_alone() {
+    let mut live = holding(4, &[ELEVEN, TWELVE, THIRTEEN]);
+    assert_eq!(unplanned(&live, &[2, 0, 1]), None);
+    live.w.fill(0);
+    let weightless = Some(Reason::WeightlessEdge);
+    assert_eq!(unplanned(&live, &[2, 0, 1]), weightless);
+    // A withdrawal takes out what stands there, and a registration weighs anew.
+    let left = withdraw(&live, 13).expect("an id that is held");
+    assert_eq!(left.w[..4], [0; 4]);
+    assert_eq!(unplanned(&left, &[1, 0]), weightless);
+    let again = register(&left, THIRTEEN).expect("a pair that is not held");
+    assert_eq!(unplanned(&again, &[2, 0, 1]), None);
 }
 
 /// A call with an id of a few, at times with a pair out of range.

@@ -2,19 +2,45 @@
 //! the best there is, and with the tally that demand 3 fixes.
 
 use reference::best::cycle_weight;
-use reference::random::{pool, tables, trials, PoolKind, Random, TableKind};
-use reference::{algorithm1, best, build_pool, gates, plan, straight, Plan, Room, Tables, Tally};
+use reference::random::{mended, pool, tables, trials, PoolKind, Random, TableKind};
+use reference::{
+    algorithm1, best, build_pool, gates, plan, straight, Plan, Reason, Room, Tables, Tally,
+};
 
-/// Tables of any kind, a caller's own or built from fields.
+/// Tables of any kind, a caller's own or built from fields, that planning
+/// accepts.
 fn any_tables(random: &mut Random, n: usize) -> Tables {
     if random.chance(2, 3) {
         let kind = random.one_of(&TableKind::ALL);
-        tables(random, n, kind)
+        accepted(n, tables(random, n, kind))
     } else {
         let kind = random.one_of(&PoolKind::ALL);
         let pool = pool(random, n, kind);
         build_pool(&pool).unwrap()
     }
+}
+
+/// These tables, and if they have weightless edges, which every planner refuses
+/// by 17, then mended.
+fn accepted(n: usize, mut tables: Tables) -> Tables {
+    let Some(mended) = mended(n, &tables.m, &tables.w) else {
+        return tables;
+    };
+    let refused = Some(Reason::WeightlessEdge);
+    assert_eq!(answers(n, &tables).map(Result::err), [refused; 3]);
+    tables.w = mended;
+    tables
+}
+
+/// What the three planners answer, with the identity shuffle.
+fn answers(n: usize, tables: &Tables) -> [Result<Plan, Reason>; 3] {
+    let shuffle: Vec<u16> = (0..n as u16).collect();
+    let (m, w, room) = (&tables.m, &tables.w, Room::due(n));
+    [
+        plan(n, 0, m, w, &shuffle, room).map(|(plan, _)| plan),
+        gates::plan(n, 0, m, w, &shuffle, room).map(|(plan, _)| plan),
+        straight::plan(n, 0, m, w, &shuffle, room),
+    ]
 }
 
 /// Plans with every planner and checks all that holds of every plan.
@@ -88,7 +114,7 @@ fn every_kind_at_every_size_up_to_thirty() {
     let mut random = Random::new(30);
     for n in 0..=30 {
         for kind in TableKind::ALL {
-            let tables = tables(&mut random, n, kind);
+            let tables = accepted(n, tables(&mut random, n, kind));
             let shuffle = random.shuffle(n);
             let plan = planned(n, &tables, &shuffle);
             let both = algorithm1(n, 0, &tables.m, &tables.w, &shuffle);
@@ -115,6 +141,67 @@ fn three_times_the_plan_is_at_least_the_best() {
     // The bound is met, and not by plans that are all the best anyway.
     assert!(less > 100, "only {less} plans were less than the best");
     assert!(thirds > 10, "only {thirds} plans were a third of the best");
+}
+
+/// All cycles of two or three of `n` pairs, each from its lowest pair.
+fn cycles(n: usize) -> Vec<Vec<usize>> {
+    let mut cycles = Vec::new();
+    for a in 0..n {
+        for b in a + 1..n {
+            cycles.push(vec![a, b]);
+            for c in b + 1..n {
+                cycles.extend([vec![a, b, c], vec![a, c, b]]);
+            }
+        }
+    }
+    cycles
+}
+
+#[test]
+fn an_executable_cycle_of_accepted_tables_weighs_more_than_nothing() {
+    let (mut lightest, mut weightless) = (0, 0);
+    trials("cycles weigh", 7_000_000, 2_000, |random| {
+        let n = random.between(0, 12);
+        let executable = |Tables { m, w }: &Tables| -> Vec<(usize, u32)> {
+            let weigh = |cycle: Vec<usize>| Some((cycle.len(), cycle_weight(&cycle, n, m, w)?));
+            cycles(n).into_iter().filter_map(weigh).collect()
+        };
+        let sound = any_tables(random, n);
+        assert!(answers(n, &sound).iter().all(Result::is_ok));
+        for (length, weight) in executable(&sound) {
+            assert!(weight as usize >= length, "{weight} for {length} edges");
+            lightest += u32::from(weight as usize == length);
+        }
+        // It is not so of the tables that are refused.
+        let refused = tables(random, n, TableKind::Weightless);
+        let none = |&(_, weight): &(usize, u32)| weight == 0;
+        weightless += executable(&refused)
+            .iter()
+            .filter(|cycle| none(cycle))
+            .count();
+    });
+    assert!(lightest > 1_000, "only {lightest} cycles weighed 1 an edge");
+    assert!(weightless > 1_000, "only {weightless} cycles weighed 0");
+}
+
+#[test]
+fn a_pairs_own_weight_is_not_read() {
+    let (mut made, mut refused) = (0, 0);
+    trials("own weights", 8_000_000, 1_000, |random| {
+        let n = random.between(1, 10);
+        let kind = random.one_of(&TableKind::ALL);
+        let mut tables = tables(random, n, kind);
+        let due = answers(n, &tables);
+        for own in [0, 1, 7, u16::MAX] {
+            for pair in 0..n {
+                tables.w[pair * n + pair] = own;
+            }
+            assert_eq!(answers(n, &tables), due, "{own}");
+        }
+        made += u32::from(due[0].is_ok());
+        refused += u32::from(due[0] == Err(Reason::WeightlessEdge));
+    });
+    assert!(made > 500 && refused > 50, "{made} made, {refused} refused");
 }
 
 #[test]

@@ -2,9 +2,13 @@
 //! version 2 with their numbers, by the program and by the calls.
 
 use reference::printout::program;
-use reference::random::{plain_pool, points, trials, wrong_points, PoolKind, Random};
+use reference::random::{
+    floor, plain_pool, points, trials, wrong_points, PoolKind, Random, EXTREME_POINTS,
+};
 use reference::sheet::{self, length, points_field, EXAMPLE, LONGEST};
-use reference::{build, build_pool, read, write, write_pool, Fields, Points, Pool, Reason};
+use reference::{
+    build, build_pool, plan, read, write, write_pool, Fields, Points, Pool, Reason, Room,
+};
 
 /// What document 01's sheet prints.
 const PRINTED: &str = "PLAN 2 1 2900\n11 12 12\n12 11 11\nCOUNTS 1 6 1\n";
@@ -219,6 +223,33 @@ fn no_present_edge_is_weightless_and_none_is_too_heavy() {
             }
         }
     });
+}
+
+#[test]
+fn built_tables_are_planned_whatever_the_points() {
+    // Points with which all edges weigh 1, the least that 14 lets pass.
+    assert!(EXTREME_POINTS.contains(&[1, 0, 0, 0, 0, 0]));
+    let mut lightest = 0;
+    trials("built tables are planned", 1_100_000, 500, |random| {
+        let n = random.between(0, 12);
+        let kind = random.one_of(&PoolKind::ALL);
+        let one = plain_pool(random, n, kind);
+        let extreme = EXTREME_POINTS.map(|table| Points::of(&table));
+        let registries = extreme.into_iter().chain([points(random)]);
+        let twos = registries.map(|points| one.clone().with_points(points));
+        for pool in [one.clone()].into_iter().chain(twos) {
+            let tables = build_pool(&pool).expect("a sound pool");
+            let sheet = write_pool(&pool, LONGEST).expect("a sound pool");
+            let of_sheet = build_pool(&read(&sheet).expect("a sound sheet"));
+            assert_eq!(of_sheet.as_ref(), Ok(&tables));
+            let floor = floor(random, n, &tables);
+            let (m, w) = (&tables.m, &tables.w);
+            let answer = plan(n, floor, m, w, &pool.shuffle, Room::due(n));
+            assert_eq!(answer.err(), None, "{:?}", pool.points);
+            lightest += m.iter().zip(w).filter(|&edge| edge == (&1, &1)).count();
+        }
+    });
+    assert!(lightest > 10_000, "only {lightest} edges weighed 1");
 }
 
 #[test]

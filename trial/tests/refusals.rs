@@ -1,9 +1,15 @@
 //! Reading and writing refuse each fault by its number and place, the
-//! earliest first. The refusals of building and planning stand with them.
+//! earliest first; planning refuses a weightless edge, as request W-209 has it,
+//! after all else. The other refusals of building and planning stand with them.
 
-use reference::random::{damage, damaged, plain_pool, pool, trials, Damage, PoolKind, Random};
+use reference::planner::check;
+use reference::random::{
+    damage, damaged, mended, plain_pool, pool, tables, trials, Damage, PoolKind, Random, TableKind,
+};
 use reference::sheet::{self, length, offset_of_pair, offset_of_shuffle, offsets, EXAMPLE, START};
-use reference::{printout, read, write, Points, Pool, Reason, Refusal};
+use reference::{
+    gates, plan, printout, read, straight, write, Plan, Points, Pool, Reason, Refusal, Room, Tables,
+};
 use std::collections::BTreeSet;
 
 /// The example with one byte changed.
@@ -358,4 +364,228 @@ fn a_damaged_sheet_is_refused_at_a_field_or_is_a_sheet_after_all() {
     let own = Reason::ALL[..8].iter().chain([&Reason::WrongPoints]);
     assert_eq!(reasons, own.copied().collect());
     assert!(accepted > 1_000);
+}
+
+// ---- Weightless edges
+
+/// What all planners answer.
+fn planned(n: usize, floor: u32, tables: &Tables, shuffle: &[u16]) -> Result<Plan, Reason> {
+    let (m, w, room) = (&tables.m, &tables.w, Room::due(n));
+    let answer = plan(n, floor, m, w, shuffle, room);
+    assert_eq!(gates::plan(n, floor, m, w, shuffle, room), answer);
+    let answer = answer.map(|(plan, _)| plan);
+    assert_eq!(straight::plan(n, floor, m, w, shuffle, room), answer);
+    answer
+}
+
+/// Why two pairs are not planned, with floor 0 and the identity shuffle.
+fn unplanned(tables: &Tables) -> Option<Reason> {
+    planned(2, 0, tables, &[0, 1]).err()
+}
+
+/// Document 01's k3.
+fn k3() -> Tables {
+    Tables::of_edges(2, &[(0, 1, 5), (1, 0, 7)])
+}
+
+/// Document 01's k5.
+fn k5() -> Tables {
+    Tables::of_edges(2, &[(0, 1, 0), (1, 0, 0)])
+}
+
+/// Tables of `n` pairs with all edges there are, which weigh 1.
+fn complete(n: usize) -> Tables {
+    let mut tables = Tables {
+        m: vec![1; n * n],
+        w: vec![1; n * n],
+    };
+    for pair in 0..n {
+        tables.m[pair * n + pair] = 0;
+    }
+    tables
+}
+
+const WEIGHTLESS: Option<Reason> = Some(Reason::WeightlessEdge);
+
+#[test]
+fn seventeen_for_k5_but_for_what_comes_first() {
+    assert_eq!(Reason::WeightlessEdge.at(0).pair(), (17, 0));
+    assert_eq!(unplanned(&k5()), WEIGHTLESS);
+    let wrong = |floor, shuffle| planned(2, floor, &k5(), shuffle).err();
+    assert_eq!(wrong(0, &[0, 0]), Some(Reason::Shuffle));
+    assert_eq!(wrong(200_001, &[0, 1]), Some(Reason::FloorTooHigh));
+    assert_eq!(wrong(200_000, &[1, 0]), WEIGHTLESS);
+    let many = planned(201, 0, &k5(), &[0, 1]).err();
+    assert_eq!(many, Some(Reason::TooManyPairs));
+    let short = planned(3, 0, &k5(), &[0, 1, 2]).err();
+    assert_eq!(short, Some(Reason::TooShort));
+
+    // Any table that is lent, one too short.
+    let Tables { m, w } = k5();
+    let due = Room::due(2);
+    let refused = |m, w, shuffle, room| plan(2, 0, m, w, shuffle, room).err();
+    assert_eq!(refused(&m, &w, &[0, 1], due), WEIGHTLESS);
+    let short = Some(Reason::TooShort);
+    assert_eq!(refused(&m[..3], &w, &[0, 1], due), short);
+    assert_eq!(refused(&m, &w[..3], &[0, 1], due), short);
+    assert_eq!(refused(&m, &w, &[0], due), short);
+    let (weights, choices, donors, recipients, records) = (0, 0, 1, 1, 0);
+    for room in [
+        Room { weights, ..due },
+        Room { choices, ..due },
+        Room { donors, ..due },
+        Room { recipients, ..due },
+        Room { records, ..due },
+    ] {
+        assert_eq!(refused(&m, &w, &[0, 1], room), short);
+    }
+}
+
+#[test]
+fn all_of_ten_comes_before_seventeen() {
+    // M(0, 1) is 1 and W(0, 1) is 0, and a later entry of M is 2.
+    let mut tables = Tables::of_edges(2, &[(0, 1, 0), (1, 0, 7)]);
+    tables.m[2] = 2;
+    assert_eq!(unplanned(&tables), Some(Reason::Entry));
+    // A pair's own edge, which weighs nothing.
+    let mut tables = k3();
+    tables.m[3] = 1;
+    assert_eq!(tables.w[3], 0);
+    assert_eq!(unplanned(&tables), Some(Reason::Entry));
+
+    // The one at every place, with the other at every place.
+    let n = 4;
+    for (donor, patient) in places(n) {
+        for entry in 0..n * n {
+            for wrong in [1, 2, 255] {
+                let mut tables = complete(n);
+                tables.w[donor * n + patient] = 0;
+                tables.m[entry] = wrong;
+                let own = entry % (n + 1) == 0;
+                let due = if wrong > 1 || own {
+                    Reason::Entry
+                } else {
+                    Reason::WeightlessEdge
+                };
+                let answer = planned(n, 0, &tables, &[0, 1, 2, 3]);
+                assert_eq!(answer, Err(due), "({donor}, {patient}), {entry}");
+            }
+        }
+    }
+}
+
+/// The places of a table of `n` rows off its diagonal.
+fn places(n: usize) -> Vec<(usize, usize)> {
+    let all = (0..n).flat_map(|donor| (0..n).map(move |patient| (donor, patient)));
+    all.filter(|(donor, patient)| donor != patient).collect()
+}
+
+#[test]
+fn seventeen_at_every_place_and_only_where_there_is_an_edge() {
+    for n in 2..=6 {
+        let mut random = Random::new(n as u64);
+        for (donor, patient) in places(n) {
+            let entry = donor * n + patient;
+            // The only light edge of all, and the only edge; in pair numbers,
+            // wherever the shuffle puts them.
+            let mut tables = complete(n);
+            tables.w[entry] = 0;
+            let mut alone = Tables::of_edges(n, &[(donor, patient, 0)]);
+            for _ in 0..4 {
+                let shuffle = random.shuffle(n);
+                let refused = planned(n, 0, &tables, &shuffle).err();
+                assert_eq!(refused, WEIGHTLESS, "({donor}, {patient})");
+                // It is in no cycle, so no plan would have it.
+                let refused = planned(n, 0, &alone, &shuffle).err();
+                assert_eq!(refused, WEIGHTLESS, "({donor}, {patient})");
+            }
+
+            // No edge, whatever W holds; or one of weight 1, whatever the floor.
+            let shuffle = random.shuffle(n);
+            tables.m[entry] = 0;
+            assert!(planned(n, 0, &tables, &shuffle).is_ok());
+            alone.m[entry] = 0;
+            assert!(planned(n, 0, &alone, &shuffle).is_ok());
+            (tables.m[entry], tables.w[entry]) = (1, 1);
+            for floor in [0, 1, 5, 200_000] {
+                assert!(planned(n, floor, &tables, &shuffle).is_ok());
+            }
+            alone = Tables::of_edges(n, &[(donor, patient, 1)]);
+            assert!(planned(n, 5, &alone, &shuffle).is_ok());
+        }
+    }
+}
+
+#[test]
+fn what_is_no_weightless_edge_is_planned() {
+    // k4: W(1, 0) is 0, and there is no edge.
+    let k4 = Tables::of_edges(2, &[(0, 1, 5)]);
+    assert_eq!(k4.w, [0, 5, 0, 0]);
+    let plan = planned(2, 0, &k4, &[0, 1]).unwrap();
+    assert_eq!((plan.choices, plan.recipients), (vec![1], vec![2, 2]));
+
+    // A pair's own weight is not read.
+    let due = planned(2, 0, &k3(), &[0, 1]).unwrap();
+    assert_eq!((due.weight, &due.choices[..]), (12, &[0][..]));
+    for own in [0, 7, u16::MAX] {
+        let mut tables = k3();
+        (tables.w[0], tables.w[3]) = (own, own);
+        assert_eq!(planned(2, 0, &tables, &[0, 1]), Ok(due.clone()), "{own}");
+    }
+
+    // A fifth entry is past two rows of two.
+    let mut longer = k3();
+    longer.m.push(1);
+    longer.w.push(0);
+    assert_eq!(planned(2, 0, &longer, &[0, 1]), Ok(due));
+
+    // The floor has nothing to do with it.
+    let light = Tables::of_edges(2, &[(0, 1, 1), (1, 0, 1)]);
+    for (floor, choice) in [(0, 0), (1, 0), (2, 1), (5, 1), (200_000, 1)] {
+        let plan = planned(2, floor, &light, &[0, 1]).unwrap();
+        assert_eq!((plan.choices, plan.weights), (vec![choice], vec![2]));
+    }
+}
+
+#[test]
+fn seventeen_among_two_hundred_pairs() {
+    let n = 200;
+    let identity: Vec<u16> = (0..n as u16).collect();
+    let mut tables = complete(n);
+    let checked =
+        |tables: &Tables| check(n, 0, &tables.m, &tables.w, &identity, Room::due(n)).err();
+    assert_eq!(checked(&tables), None);
+    for (donor, patient) in [(199, 198), (198, 199), (199, 0), (0, 199), (0, 1), (1, 0)] {
+        tables.w[donor * n + patient] = 0;
+        assert_eq!(checked(&tables), WEIGHTLESS, "({donor}, {patient})");
+        let refused = planned(n, 0, &tables, &identity).err();
+        assert_eq!(refused, WEIGHTLESS, "({donor}, {patient})");
+        tables.w[donor * n + patient] = 1;
+        assert_eq!(checked(&tables), None);
+    }
+}
+
+#[test]
+fn seventeen_is_one_answer_of_several() {
+    let (mut refused, mut made) = (0, 0);
+    trials("weightless edges", 9_000_000, 2_000, |random| {
+        let n = random.between(0, 10);
+        let kind = random.one_of(&TableKind::ALL);
+        let tables = tables(random, n, kind);
+        let shuffle = random.shuffle(n);
+        let edges = places(n).into_iter().filter(|&(donor, patient)| {
+            let entry = donor * n + patient;
+            tables.m[entry] == 1 && tables.w[entry] == 0
+        });
+        if edges.count() > 0 {
+            refused += 1;
+            let answer = planned(n, 0, &tables, &shuffle);
+            assert_eq!(answer.err(), WEIGHTLESS);
+        }
+        let w = mended(n, &tables.m, &tables.w).unwrap_or(tables.w);
+        let mended = Tables { w, ..tables };
+        made += planned(n, 0, &mended, &shuffle).expect("no fault").cycles();
+    });
+    assert!((100..400).contains(&refused), "{refused} of 2,000 refused");
+    assert!(made > 1_000, "only {made} cycles were planned");
 }
