@@ -1,7 +1,8 @@
-//! Prints document 01's pools k1 to k12, some with a floor, two with rivals that
-//! weigh as much as W-208's bound allows, a pool of 36 and one of 200, with the
-//! plans that this planner makes of them, in the words of the program `try_pools`
-//! of the proved library: what the two print is compared.
+//! Prints document 01's pools k1 to k12, some with a floor, some for W-209 with
+//! weightless edges and what is none, two with rivals that weigh as much as
+//! W-208's bound allows, a pool of 36 and one of 200, with the plans that this
+//! planner makes of them, in the words of the program `try_pools` of the proved
+//! library: what the two print is compared.
 
 use reference::{plan, Room};
 
@@ -217,6 +218,20 @@ fn main() {
         shuffle: &[],
     };
     println!("4 and 13: {}", planned(&lent, SMALL, FLAT).answer);
+
+    let (m, w) = pool(2, &[(0, 1, 0)]);
+    small("a weightless edge in no cycle", 2, 0, &m, &w, &[0, 1]);
+    let (m, w) = pool(2, &[(0, 1, 0), (1, 0, 0)]);
+    small("weightless, shuffle 0 0", 2, 0, &m, &w, &[0, 0]);
+    small("weightless, floor 200001", 2, 200_001, &m, &w, &[0, 1]);
+    let (m, w) = (&[0, 1, 2, 0], &[0, 0, 7, 0]);
+    small("weightless, an entry 2", 2, 0, m, w, &[0, 1]);
+    let (m, w) = (&[0, 1, 1, 1], &[0, 5, 7, 0]);
+    small("an own edge, weightless", 2, 0, m, w, &[0, 1]);
+    let light = at(&[(0, 1), (1, 0)], 1);
+    with_floors("an edge of weight 1", 2, &light, &[5]);
+    let (m, w) = (&[0, 1, 1, 0], &[7, 5, 7, 7]);
+    small("own weights of 7", 2, 0, m, w, &[0, 1]);
 
     let both_ways = |pairs: &[(usize, usize)], weight: u16| -> Vec<(usize, usize, u16)> {
         let ways = |&(a, b): &(usize, usize)| [(a, b, weight), (b, a, weight)];
