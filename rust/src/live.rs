@@ -248,7 +248,8 @@ impl LivePool {
     /// # Errors
     ///
     /// Refused is, as [`NotAShuffle`](Refusal::NotAShuffle), a shuffle that has
-    /// not each pair's number once and no more.
+    /// not each pair's number once and no more. The compatibilities and weights
+    /// are always those of the pairs, and never refused.
     pub fn plan(&self, shuffle: &[u16]) -> Result<Plan, Refused> {
         self.plan_above(0, shuffle)
     }

@@ -25,9 +25,9 @@ pub struct Tally {
 /// Its cycles are executable, each weighs more than the floor that was planned
 /// with, and no pair is in two of them; and no other such set of cycles weighs
 /// more than three times as much, nor more than [`credit`](Plan::credit), which
-/// is less as soon as an exchange of two is planned. With floor 0 both hold of
-/// every set of executable cycles with no pair in two of them, weightless ones
-/// included.
+/// is less as soon as an exchange of two is planned. In every pool that is
+/// planned an executable cycle weighs more than 0, so with floor 0 both hold of
+/// every set of executable cycles with no pair in two of them.
 ///
 /// Pairs go by their numbers, from 0 to N − 1; their ids are for the printout,
 /// which `Display` shows as well. A plan holds a weight for each of
@@ -103,7 +103,8 @@ impl Plan {
     /// The sum of each planned cycle's weight times its number of pairs, by the
     /// tables that were planned. No other set of executable cycles of two or
     /// three pairs that each weigh more than the floor, with no pair in two of
-    /// them, weighs more than that.
+    /// them, weighs more than that. With floor 0 every executable cycle weighs
+    /// more than the floor.
     ///
     /// With the weight of the planned twos added it is three times the plan's
     /// weight. So it is the tighter of the two bounds, and the same where no two

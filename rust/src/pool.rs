@@ -349,7 +349,8 @@ impl Pool {
     ///
     /// Weights are by the pool's [`Points`], in version 1 by document 01's.
     /// Mismatches are antigens of the donor that the patient does not have.
-    /// What only the patient has does not count.
+    /// What only the patient has does not count. But for a pair's own, which is
+    /// 0, a weight is at least the base, so no edge weighs 0.
     pub fn tables(&self) -> Tables {
         Tables::build(self)
     }

@@ -496,6 +496,10 @@ pub fn withdraw(pool: LentLive<'_>, id: u32) -> LiveAnswer {
 /// Plans a pool of `n` pairs from M, W and the shuffle into the lent tables.
 /// An exchange is planned only if its weight is above the floor. The floor may
 /// be any number; one above [`MOST_FLOOR`](crate::MOST_FLOOR) is refused.
+///
+/// M and W are `n` rows of `n`, and what they have past them is not looked at.
+/// Refused is, after all else, an entry of W that is 0 where that of M is 1. W of
+/// a pair's own is not read.
 pub fn plan(
     n: usize,
     floor: u32,

@@ -48,6 +48,8 @@ pub enum Refusal {
     DifferentPoints = 15,
     /// 16: the id is not in the live pool.
     UnknownId = 16,
+    /// 17: a present edge weighs 0: its compatibility is 1, and its weight is 0.
+    WeightlessEdge = 17,
 }
 
 impl Refusal {
@@ -69,6 +71,7 @@ impl Refusal {
         Refusal::WrongPoints,
         Refusal::DifferentPoints,
         Refusal::UnknownId,
+        Refusal::WeightlessEdge,
     ];
 
     /// Document 01's number. It is not 0, which in an answer means that the
@@ -198,6 +201,10 @@ impl fmt::Display for Refused {
             Refusal::UnknownId => write!(
                 f,
                 "the id isn't in the pool; withdraw a pair by the id that it has there"
+            ),
+            Refusal::WeightlessEdge => write!(
+                f,
+                "a compatibility is 1 where the weight is 0, and no edge may weigh 0; give it its weight, or make the compatibility 0"
             ),
         }
     }

@@ -24,7 +24,9 @@ impl Tables {
     /// In the other two, entry j of row i stands at i × N + j.
     ///
     /// The compatibility is 1 where donor i may give to patient j, else 0; a
-    /// pair's own is 0. [`Tables::plan`] refuses others.
+    /// pair's own is 0. Where it is 1 the weight is not 0. [`Tables::plan`]
+    /// refuses others. Where it is 0 the weight, so also a pair's own, may be
+    /// any number, and plays no part.
     ///
     /// # Errors
     ///
@@ -95,9 +97,30 @@ impl Tables {
     ///
     /// # Errors
     ///
-    /// Refused are a shuffle of fewer than N numbers, one that has not each
-    /// pair's number once, and a table of compatibilities with an entry above
-    /// 1 or a pair's own not 0.
+    /// Refused are a shuffle of fewer than N numbers; then one that has not each
+    /// pair's number once; then a table of compatibilities with an entry above
+    /// 1 or a pair's own not 0; then, as
+    /// [`WeightlessEdge`](Refusal::WeightlessEdge), a weight that is 0 where the
+    /// compatibility is 1. The tables of a [`Pool`] or a
+    /// [`LivePool`](crate::LivePool) are never refused for their entries.
+    ///
+    /// # Example
+    ///
+    /// ```
+    /// use vadivuzhen::{Refusal, Tables};
+    ///
+    /// // The donor of each may give to the other's patient; one way weighs 0.
+    /// let m = vec![0, 1, 1, 0];
+    /// let tables = Tables::new(vec![11, 12], m, vec![0, 5, 0, 0])?;
+    /// let refused = tables.plan(&[0, 1]).expect_err("an edge that weighs 0");
+    /// assert_eq!(refused.why, Refusal::WeightlessEdge);
+    ///
+    /// // Where there is no edge, the weight may be 0.
+    /// let m = vec![0, 1, 0, 0];
+    /// let tables = Tables::new(vec![11, 12], m, vec![0, 5, 0, 0])?;
+    /// assert_eq!(tables.plan(&[0, 1])?.cycles(), 0);
+    /// # Ok::<(), vadivuzhen::Refused>(())
+    /// ```
     pub fn plan(&self, shuffle: &[u16]) -> Result<Plan, Refused> {
         self.plan_above(0, shuffle)
     }
