@@ -369,11 +369,11 @@ static struct lent k3(void)
     return lent;
 }
 
-/* Plans n pairs with that floor; m, w and the shuffle are lent whole, or as tables of length 0. */
-static struct vadivuzhen_plan_answer plan_of(struct lent *lent, size_t n, uint32_t floor, int whole)
+/* Plans n pairs with that floor; m and w are lent with that many entries, and the shuffle whole, or, where they have none, with none either. */
+static struct vadivuzhen_plan_answer plan_of(struct lent *lent, size_t n, uint32_t floor, size_t entries)
 {
     return vadivuzhen_plan(
-        n, floor, lent->m + 1, whole ? 4 : 0, lent->w + 1, whole ? 4 : 0, lent->order + 1, whole ? 2 : 0,
+        n, floor, lent->m + 1, entries, lent->w + 1, entries, lent->order + 1, entries == 0 ? 0 : 2,
         lent->weights + 1, 1, lent->choices + 1, 1, lent->donors + 1, 2, lent->recipients + 1, 2, lent->records + 1, 1);
 }
 
@@ -387,44 +387,140 @@ static int alike(const struct lent *one, const struct lent *other)
         && memcmp(one->records, other->records, sizeof one->records) == 0;
 }
 
-/* Is n pairs with that floor refused by that number, with all memory as it was? */
-static int plan_refused(size_t n, uint32_t floor, int whole, uint32_t number)
+/* Are n pairs of these tables with that floor refused by that number, with all memory as it was? */
+static int plan_refused(struct lent lent, size_t n, uint32_t floor, size_t entries, uint32_t number)
 {
-    struct lent lent = k3(), before = k3();
-    struct vadivuzhen_plan_answer plan = plan_of(&lent, n, floor, whole);
+    const struct lent before = lent;
+    struct vadivuzhen_plan_answer plan = plan_of(&lent, n, floor, entries);
     return plan.refusal == number && plan.cycles == 0 && plan.weight == 0 && plan.comparisons == 0 && plan.products == 0 && plan.rounds == 0
         && alike(&lent, &before);
 }
 
-/* Is k3 with that floor planned, with a choice, a weight and partners, and nothing changed beside them? Its tally is always the same. */
-static int k3_planned(uint32_t floor, size_t cycles, uint64_t weight, uint32_t choice, uint16_t first, uint16_t second)
+/* Are the two pairs of these tables planned with that floor, with a choice and partners, and nothing changed beside them? Their one subset has that weight,
+ * which is the plan's where it is chosen. The tally is always the same. */
+static int two_planned(struct lent lent, uint32_t floor, size_t entries, uint32_t weight, uint32_t choice)
 {
-    struct lent lent = k3(), due = k3();
-    struct vadivuzhen_plan_answer plan = plan_of(&lent, 2, floor, 1);
-    due.weights[1] = 12;
+    struct lent due = lent;
+    struct vadivuzhen_plan_answer plan = plan_of(&lent, 2, floor, entries);
+    const int chosen = choice == 0;
+    due.weights[1] = weight;
     due.choices[1] = choice;
-    due.donors[1] = due.recipients[1] = first;
-    due.donors[2] = due.recipients[2] = second;
-    if (cycles == 1)
+    due.donors[1] = due.recipients[1] = chosen ? 1 : 2;
+    due.donors[2] = due.recipients[2] = chosen ? 0 : 2;
+    if (chosen)
         due.records[1] = (struct vadivuzhen_cycle){0, 1, 2};
-    return plan.refusal == VADIVUZHEN_FINISHED && plan.cycles == cycles && plan.weight == weight
+    return plan.refusal == VADIVUZHEN_FINISHED && plan.cycles == (chosen ? 1 : 0) && plan.weight == (chosen ? weight : 0)
         && plan.comparisons == 1 && plan.products == 6 && plan.rounds == 1 && alike(&lent, &due);
 }
 
 /* Planning with a floor: what is chosen is above it, and a floor too high is refused after too many pairs and before all else. */
 static void floors(void)
 {
-    check(k3_planned(0, 1, 12, 0, 1, 0), "k3 with floor 0 is planned");
-    check(k3_planned(11, 1, 12, 0, 1, 0), "and with floor 11");
-    check(k3_planned(12, 0, 0, 1, 2, 2), "with floor 12 nothing is chosen, and the weight stays");
-    check(k3_planned(VADIVUZHEN_MOST_FLOOR, 0, 0, 1, 2, 2), "and with floor 200,000");
+    check(two_planned(k3(), 0, 4, 12, 0), "k3 with floor 0 is planned");
+    check(two_planned(k3(), 11, 4, 12, 0), "and with floor 11");
+    check(two_planned(k3(), 12, 4, 12, 1), "with floor 12 nothing is chosen, and the weight stays");
+    check(two_planned(k3(), VADIVUZHEN_MOST_FLOOR, 4, 12, 1), "and with floor 200,000");
 
-    check(plan_refused(2, 200001, 1, VADIVUZHEN_FLOOR_TOO_HIGH), "floor 200,001 is refused, and all memory as it was");
-    check(plan_refused(2, UINT32_MAX, 1, VADIVUZHEN_FLOOR_TOO_HIGH), "and floor 4,294,967,295");
-    check(plan_refused(0, 200001, 1, VADIVUZHEN_FLOOR_TOO_HIGH), "and for no pairs");
-    check(plan_refused(2, 200001, 0, VADIVUZHEN_FLOOR_TOO_HIGH), "before tables too short");
-    check(plan_refused(2, 200000, 0, VADIVUZHEN_TOO_SHORT), "which are refused at 200,000");
-    check(plan_refused(201, 200001, 0, VADIVUZHEN_TOO_MANY_PAIRS), "and after too many pairs");
+    check(plan_refused(k3(), 2, 200001, 4, VADIVUZHEN_FLOOR_TOO_HIGH), "floor 200,001 is refused, and all memory as it was");
+    check(plan_refused(k3(), 2, UINT32_MAX, 4, VADIVUZHEN_FLOOR_TOO_HIGH), "and floor 4,294,967,295");
+    check(plan_refused(k3(), 0, 200001, 4, VADIVUZHEN_FLOOR_TOO_HIGH), "and for no pairs");
+    check(plan_refused(k3(), 2, 200001, 0, VADIVUZHEN_FLOOR_TOO_HIGH), "before tables too short");
+    check(plan_refused(k3(), 2, 200000, 0, VADIVUZHEN_TOO_SHORT), "which are refused at 200,000");
+    check(plan_refused(k3(), 201, 200001, 0, VADIVUZHEN_TOO_MANY_PAIRS), "and after too many pairs");
+}
+
+/* k3 with these entries of M and W in place of its own. */
+static struct lent two_of(const uint8_t *m, const uint16_t *w)
+{
+    struct lent lent = k3();
+    memcpy(lent.m + 1, m, 4 * sizeof *m);
+    memcpy(lent.w + 1, w, 4 * sizeof *w);
+    return lent;
+}
+
+/* An edge that weighs 0 is refused, after all else. */
+static void weightless(void)
+{
+    static const uint8_t both[4] = {0, 1, 1, 0}, there[4] = {0, 1, 0, 0}, back[4] = {0, 0, 1, 0}, above[4] = {0, 1, 2, 0}, own[4] = {0, 1, 1, 1},
+                         alone[4] = {0, 0, 0, 1};
+    static const uint16_t none[4] = {0}, first[4] = {0, 5, 0, 0}, second[4] = {0, 0, 7, 0}, each[4] = {0, 5, 7, 0}, one[4] = {0, 1, 1, 0};
+    struct lent k5 = two_of(both, none), same = k5;
+    check(plan_refused(k5, 2, 0, 4, VADIVUZHEN_WEIGHTLESS_EDGE), "k5, of which both edges weigh 0, is refused, and all memory as it was");
+    check(plan_refused(two_of(both, first), 2, 0, 4, VADIVUZHEN_WEIGHTLESS_EDGE) && plan_refused(two_of(both, second), 2, 0, 4, VADIVUZHEN_WEIGHTLESS_EDGE),
+          "and one such edge is");
+    check(plan_refused(two_of(there, second), 2, 0, 4, VADIVUZHEN_WEIGHTLESS_EDGE) && plan_refused(two_of(back, first), 2, 0, 4, VADIVUZHEN_WEIGHTLESS_EDGE),
+          "also alone, in no exchange");
+    check(plan_refused(k5, 2, 5, 4, VADIVUZHEN_WEIGHTLESS_EDGE) && plan_refused(k5, 2, 200000, 4, VADIVUZHEN_WEIGHTLESS_EDGE), "at every floor");
+
+    check(plan_refused(k5, 201, 200001, 0, VADIVUZHEN_TOO_MANY_PAIRS), "after too many pairs");
+    check(plan_refused(k5, 2, 200001, 4, VADIVUZHEN_FLOOR_TOO_HIGH), "and a floor too high");
+    check(plan_refused(k5, 2, 0, 0, VADIVUZHEN_TOO_SHORT) && plan_refused(k5, 2, 0, 3, VADIVUZHEN_TOO_SHORT), "and tables too short");
+    same.order[2] = 0;
+    check(plan_refused(same, 2, 0, 4, VADIVUZHEN_NOT_A_SHUFFLE), "and 0 0 for a shuffle");
+    check(plan_refused(two_of(above, second), 2, 0, 4, VADIVUZHEN_NOT_COMPATIBILITY), "and an entry of 2 that follows it");
+    check(plan_refused(two_of(own, none), 2, 0, 4, VADIVUZHEN_NOT_COMPATIBILITY), "and a pair's own edge that follows it");
+    check(plan_refused(two_of(alone, none), 2, 0, 4, VADIVUZHEN_NOT_COMPATIBILITY), "which is no weightless one, whatever it weighs");
+
+    check(two_planned(two_of(there, first), 0, 4, 0, 1), "k4, with a weight of 0 where there is no edge, is planned, and nothing chosen");
+    check(two_planned(two_of(both, one), 0, 4, 2, 0), "edges that weigh 1 are planned");
+    check(two_planned(two_of(both, one), 5, 4, 2, 1), "and with floor 5, which is above them");
+    struct lent past = k3();
+    past.m[5] = 1;
+    past.w[5] = 0;
+    check(two_planned(past, 0, 5, 12, 0), "a fifth entry of M and W, past the two rows, is not looked at");
+    for (size_t i = 0; i < 4; i++) {
+        static const uint16_t weights[4] = {0, 1, 7, UINT16_MAX};
+        struct lent lent = two_of(both, each), light = two_of(both, first), wrong = two_of(own, each);
+        lent.w[1] = light.w[1] = wrong.w[1] = lent.w[4] = light.w[4] = wrong.w[4] = weights[i];
+        check(two_planned(lent, 0, 4, 12, 0) && plan_refused(light, 2, 0, 4, VADIVUZHEN_WEIGHTLESS_EDGE)
+                  && plan_refused(wrong, 2, 0, 4, VADIVUZHEN_NOT_COMPATIBILITY), "a pair's own weight plays no part in a plan or a refusal");
+    }
+}
+
+/* The lightest points that 14 lets pass make edges of weight 1, which are planned. */
+static void lightest(void)
+{
+    static const uint16_t least[VADIVUZHEN_POINTS] = {1};
+    check(build_with(2, 2, least, VADIVUZHEN_POINTS) == VADIVUZHEN_FINISHED && built(1), "with a base of 1 and no steps edges weigh 1");
+    check(two_planned(two_of(table_m + 1, table_w + 1), 0, 4, 2, 0), "and are planned");
+}
+
+/* 200 pairs, with all edges, and with an entry on either side of each table; the middle is lent. */
+enum { ALL = VADIVUZHEN_MOST_PAIRS };
+
+struct full {
+    uint8_t m[1 + VADIVUZHEN_ENTRIES(ALL) + 1];
+    uint16_t w[1 + VADIVUZHEN_ENTRIES(ALL) + 1], order[1 + ALL + 1];
+    uint32_t weights[1 + VADIVUZHEN_SUBSETS(ALL) + 1], choices[1 + VADIVUZHEN_ROUNDS(ALL) + 1];
+    uint16_t donors[1 + ALL + 1], recipients[1 + ALL + 1];
+    struct vadivuzhen_cycle records[1 + VADIVUZHEN_RECORDS(ALL) + 1];
+};
+
+static struct full full, full_before;
+
+/* Are 200 pairs refused by 17 where the edge from one to the other weighs 0, and all others 1, with all memory as it was? */
+static int full_refused(size_t from, size_t to)
+{
+    memset(&full, 99, sizeof full);
+    for (size_t i = 0; i < ALL; i++) {
+        full.order[1 + i] = (uint16_t)(ALL - 1 - i);
+        for (size_t j = 0; j < ALL; j++)
+            full.m[1 + i * ALL + j] = i != j, full.w[1 + i * ALL + j] = i != from || j != to;
+    }
+    memcpy(&full_before, &full, sizeof full);
+    struct vadivuzhen_plan_answer plan = vadivuzhen_plan(
+        ALL, 0, full.m + 1, VADIVUZHEN_ENTRIES(ALL), full.w + 1, VADIVUZHEN_ENTRIES(ALL), full.order + 1, ALL, full.weights + 1, VADIVUZHEN_SUBSETS(ALL),
+        full.choices + 1, VADIVUZHEN_ROUNDS(ALL), full.donors + 1, ALL, full.recipients + 1, ALL, full.records + 1, VADIVUZHEN_RECORDS(ALL));
+    return plan.refusal == VADIVUZHEN_WEIGHTLESS_EDGE && plan.cycles == 0 && plan.weight == 0 && plan.comparisons == 0 && plan.products == 0
+        && plan.rounds == 0 && memcmp(&full, &full_before, sizeof full) == 0;
+}
+
+static void weightless_of_many(void)
+{
+    check(full_refused(199, 198), "the last edge of 200 pairs, if it weighs 0, is refused");
+    check(full_refused(0, 1), "and the first");
+    check(full_refused(0, 199) && full_refused(199, 0), "and the last of the first row, and the first of the last");
+    check(full_refused(100, 99), "and one in the middle");
 }
 
 /* A pool of at most ten pairs, and what planning leaves of it. */
@@ -993,7 +1089,7 @@ static void numbers(void)
               && VADIVUZHEN_LEFT_OVER == 5 && VADIVUZHEN_OUT_OF_RANGE == 6 && VADIVUZHEN_REPEATED_ID == 7 && VADIVUZHEN_NOT_A_SHUFFLE == 8
               && VADIVUZHEN_TOO_SHORT == 9 && VADIVUZHEN_NOT_COMPATIBILITY == 10 && VADIVUZHEN_SHARED_ID == 11
               && VADIVUZHEN_TOO_MANY_TOGETHER == 12 && VADIVUZHEN_FLOOR_TOO_HIGH == 13 && VADIVUZHEN_WRONG_POINTS == 14
-              && VADIVUZHEN_DIFFERENT_POINTS == 15 && VADIVUZHEN_UNKNOWN_ID == 16,
+              && VADIVUZHEN_DIFFERENT_POINTS == 15 && VADIVUZHEN_UNKNOWN_ID == 16 && VADIVUZHEN_WEIGHTLESS_EDGE == 17,
           "the refusals' numbers");
     check(VADIVUZHEN_MOST_PAIRS == 200 && VADIVUZHEN_MOST_FLOOR == 200000 && VADIVUZHEN_POINTS == 6, "the limits");
     check(sizeof(struct vadivuzhen_cycle) == 6, "a record is three numbers of 16 bits");
@@ -1009,6 +1105,9 @@ int main(void)
     joins_by_points();
     a_record();
     floors();
+    weightless();
+    lightest();
+    weightless_of_many();
     credits();
     starts();
     lives();
