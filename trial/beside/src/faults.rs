@@ -526,18 +526,48 @@ pub fn of_planning(sound: &Input) -> Faults<Input> {
                 }
             });
         }
-        faults.add(format!("M({i}, {i}) is 1"), move |input| {
-            put(&mut input.m, i * n + i, 1)
-        });
         for j in some_of(n) {
             for entry in [2, 255] {
                 faults.add(format!("M({i}, {j}) is {entry}"), move |input| {
                     put(&mut input.m, i * n + j, entry)
                 });
             }
+            // Each of these is 17 beside the other, or where the other stands
+            // already; on the diagonal the first is 10, and the second none.
+            faults.add(format!("M({i}, {j}) is 1"), move |input| {
+                put(&mut input.m, i * n + j, 1)
+            });
+            faults.add(format!("W({i}, {j}) is 0"), move |input| {
+                put(&mut input.w, i * n + j, 0)
+            });
         }
     }
+    // A weightless edge at every place, in the last row and column too.
+    for (i, j) in (0..n).flat_map(|i| (0..n).map(move |j| (i, j))) {
+        if i != j {
+            faults.add(format!("({i}, {j}) is weightless"), move |input| {
+                make_weightless(input, i * n + j)
+            });
+        }
+    }
+    // No faults, and they must hide none: entries past the rows that would be a
+    // weightless edge, and weights of 0 where no edge is.
+    faults.add("past the rows a weightless edge".to_string(), |input| {
+        input.m.push(1);
+        input.w.push(0);
+    });
+    faults.add("0 for W where no edge is".to_string(), |input| {
+        for (w, _) in input.w.iter_mut().zip(&input.m).filter(|(_, &m)| m == 0) {
+            *w = 0;
+        }
+    });
     faults
+}
+
+/// Lays an edge that weighs nothing at that entry, if the tables reach so far.
+pub fn make_weightless(input: &mut Input, entry: usize) {
+    put(&mut input.m, entry, 1);
+    put(&mut input.w, entry, 0);
 }
 
 /// A live pool that is to be started, and with what.

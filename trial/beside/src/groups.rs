@@ -3,9 +3,9 @@
 //! through all of them.
 
 use crate::faults::{
-    of_fields, of_joining, of_planning, of_reading, of_registering, of_starting, of_withdrawing,
-    Fields, Joining, Reading, Registering, Starting, Withdrawing, LAST_POINTS, TOO_HIGH,
-    WRONG_POINTS,
+    make_weightless, of_fields, of_joining, of_planning, of_reading, of_registering, of_starting,
+    of_withdrawing, Fields, Joining, Reading, Registering, Starting, Withdrawing, LAST_POINTS,
+    TOO_HIGH, WRONG_POINTS,
 };
 use crate::lent::{same, Answered, Outcome};
 use crate::lists::listed;
@@ -20,8 +20,8 @@ use reference::points::COUNT;
 use reference::pool::MOST_PAIRS;
 use reference::printout::{self, Printed};
 use reference::random::{
-    damaged, floor, plain_pool, points, pool, pools_apart, registry, tables, wrong_points,
-    PoolKind, Random, TableKind,
+    damaged, floor, mended, place_of_edge, plain_pool, points, pool, pools_apart, registry, tables,
+    wrong_points, PoolKind, Random, TableKind,
 };
 use reference::sheet::{self, length};
 use reference::{
@@ -46,11 +46,10 @@ pub const ALL: [Group; 22] = [
     Group {
         name: "plans",
         trials: SIZES * KINDS * 3,
-        due: &[0, 13],
+        due: &[0, 13, 17],
         run: |seed, random, cases| {
             let (n, kind) = ((seed % SIZES) as usize, seed / SIZES);
-            plan(random, n, kind)?;
-            cases.add(0);
+            plan(random, n, kind, cases)?;
             if random.chance(1, 4) {
                 cases.add(too_high(random, n, kind)?);
             }
@@ -60,39 +59,35 @@ pub const ALL: [Group; 22] = [
     Group {
         name: "plans-of-100",
         trials: KINDS,
-        due: &[0],
-        run: |seed, random, cases| {
-            large_plan(random, 100, seed)?;
-            cases.add(0);
-            Ok(())
-        },
+        due: &[0, 17],
+        run: |seed, random, cases| large_plan(random, 100, seed, cases),
     },
     Group {
         name: "plans-of-200",
         trials: 3,
-        due: &[0],
+        due: &[0, 4, 17],
         run: |seed, random, cases| {
-            large_plan(random, 200, seed)?;
-            cases.add(0);
+            large_plan(random, 200, seed, cases)?;
+            cases.add(one_too_many(random)?);
             Ok(())
         },
     },
     Group {
         name: "bound",
         trials: 20_000,
-        due: &[0],
+        due: &[0, 17],
         run: bound,
     },
     Group {
         name: "floors",
         trials: FLOOR_SIZES * KINDS * 10,
-        due: &[0, 13],
+        due: &[0, 13, 17],
         run: floors,
     },
     Group {
         name: "tallies",
         trials: SIZES * 3,
-        due: &[0],
+        due: &[0, 17],
         run: tallies,
     },
     Group {
@@ -152,7 +147,7 @@ pub const ALL: [Group; 22] = [
     Group {
         name: "faults-of-planning",
         trials: 14,
-        due: &[0, 4, 8, 9, 10, 13],
+        due: &[0, 4, 8, 9, 10, 13, 17],
         run: faults_of_planning,
     },
     Group {
@@ -188,7 +183,7 @@ pub const ALL: [Group; 22] = [
     Group {
         name: "safe-crate",
         trials: 2_000,
-        due: &[0, 1, 2, 3, 4, 5, 6, 7, 8, 11, 12, 13, 14, 15, 16],
+        due: &[0, 1, 2, 3, 4, 5, 6, 7, 8, 11, 12, 13, 14, 15, 16, 17],
         run: safe_crate,
     },
 ];
@@ -202,7 +197,8 @@ const FLOOR_SIZES: u64 = 17;
 /// Kinds of tables: a caller's own, and built ones.
 const KINDS: u64 = (TableKind::ALL.len() + PoolKind::ALL.len()) as u64;
 
-/// Tables of that kind. Those of a pool are built by both first.
+/// Tables of that kind. Those of a pool are built by both first, and have no
+/// weightless edge.
 fn tables_of(random: &mut Random, n: usize, kind: u64) -> Result<Tables, String> {
     let kind = (kind % KINDS) as usize;
     if let Some(&own) = TableKind::ALL.get(kind) {
@@ -212,18 +208,24 @@ fn tables_of(random: &mut Random, n: usize, kind: u64) -> Result<Tables, String>
     let (m, w) = (n * n + more(random), n * n + more(random));
     let lent = lend(random, &pool);
     builds(random, n, &lent, m, w)?;
-    build_pool(&pool).map_err(|reason| format!("{reason:?} in a sound pool"))
+    let built = build_pool(&pool).map_err(|reason| format!("{reason:?} in a sound pool"))?;
+    match mended(n, &built.m, &built.w) {
+        Some(_) => Err(format!("a weightless edge of points {:?}", pool.points)),
+        None => Ok(built),
+    }
 }
 
 /// Tables of that kind and a shuffle, in tables that are often longer than
-/// they need be; and a floor, 0 or any that is not too high.
+/// they need be; and a floor, 0 or any that is not too high. Of the entries past
+/// N rows of N many are such as would be a weightless edge.
 fn input(random: &mut Random, n: usize, kind: u64) -> Result<Input, String> {
     let tables = tables_of(random, n, kind)?;
     let floor = floor(random, n, &tables);
     let Tables { mut m, mut w } = tables;
     let mut shuffle = random.shuffle(n);
-    m.extend((0..more(random)).map(|_| random.byte()));
-    w.extend((0..more(random)).map(|_| random.bits() as u16));
+    let (any_m, any_w) = (random.byte(), random.bits() as u16);
+    m.extend((0..more(random)).map(|_| random.one_of(&[1, 1, any_m])));
+    w.extend((0..more(random)).map(|_| random.one_of(&[0, 0, any_w])));
     shuffle.extend((0..more(random)).map(|_| random.bits() as u16));
     let due = Room::due(n);
     let room = Room {
@@ -243,21 +245,74 @@ fn input(random: &mut Random, n: usize, kind: u64) -> Result<Input, String> {
     })
 }
 
-fn plan(random: &mut Random, n: usize, kind: u64) -> Result<(), String> {
-    let input = input(random, n, kind)?;
+/// An input of that kind that is planned. If it has weightless edges, it is tried
+/// as it is first, and then has 1 for their weight.
+fn accepted(random: &mut Random, n: usize, kind: u64, cases: &mut Cases) -> Result<Input, String> {
+    let mut input = input(random, n, kind)?;
+    if let Some(w) = mended(n, &input.m, &input.w) {
+        cases.add(weightless(random, &input)?);
+        input.w = w;
+    }
+    Ok(input)
+}
+
+/// Tables that are sound but for weightless edges, by the safe crate too.
+fn weightless(random: &mut Random, input: &Input) -> Answered {
+    let number = Reason::WeightlessEdge.number();
+    match plans(random, input)? {
+        Err(Reason::WeightlessEdge) => (),
+        other => return Err(format!("a weightless edge: {other:?}")),
+    }
+    let safely = safe_tables(input)?.plan_above(input.floor, &input.shuffle);
+    let why = safely.map_err(|refused| (refused.why.number(), refused.place));
+    same("a weightless edge, safely", why, Err((number.into(), 0)))?;
+    Ok(number)
+}
+
+fn plan(random: &mut Random, n: usize, kind: u64, cases: &mut Cases) -> Result<(), String> {
+    let input = accepted(random, n, kind, cases)?;
     made(random, &input)?;
+    cases.add(0);
     Ok(())
 }
 
 /// One of few large plans. Of any three seeds in a row at least one has floor 0,
-/// and of the seeds of one kind every other has.
-fn large_plan(random: &mut Random, n: usize, seed: u64) -> Result<(), String> {
-    let mut input = input(random, n, seed)?;
+/// and of the seeds of one kind every other has. Then the same with one weightless
+/// edge: at the last places, (199, 198) among 200, at the first and at any.
+fn large_plan(random: &mut Random, n: usize, seed: u64, cases: &mut Cases) -> Result<(), String> {
+    let mut input = accepted(random, n, seed, cases)?;
     if (seed % 2 + seed / KINDS % 2) % 2 == 0 {
         input.floor = 0;
     }
     made(random, &input)?;
+    cases.add(0);
+    let any = place_of_edge(random, n);
+    for (donor, patient) in [(n - 1, n - 2), (n - 2, n - 1), (0, 1), any] {
+        let mut input = input.clone();
+        make_weightless(&mut input, donor * n + patient);
+        let number = weightless(random, &input);
+        cases.add(number.map_err(|what| format!("({donor}, {patient}): {what}"))?);
+    }
     Ok(())
+}
+
+/// One pair more than may be, in tables that would hold them, with weightless
+/// edges.
+fn one_too_many(random: &mut Random) -> Answered {
+    let n = MOST_PAIRS + 1;
+    let Tables { m, w } = tables(random, n, TableKind::Weightless);
+    let input = Input {
+        n,
+        floor: 0,
+        m,
+        w,
+        shuffle: random.shuffle(n),
+        room: Room::due(n),
+    };
+    match plans(random, &input)? {
+        Err(Reason::TooManyPairs) => Ok(Reason::TooManyPairs.number()),
+        other => Err(format!("{n} pairs: {other:?}")),
+    }
 }
 
 /// Sound tables with a floor that is too high.
@@ -285,7 +340,7 @@ fn safe_tables(input: &Input) -> Result<vadivuzhen::Tables, String> {
 /// safe crate adds up the same sum.
 fn bound(seed: u64, random: &mut Random, cases: &mut Cases) -> Result<(), String> {
     let n = (seed % 9) as usize;
-    let mut input = input(random, n, seed / 9)?;
+    let mut input = accepted(random, n, seed / 9, cases)?;
     let tables = safe_tables(&input)?;
     let rival = best_above(n, input.floor, &input.m, &input.w);
     let every = best(n, &input.m, &input.w);
@@ -328,7 +383,7 @@ fn telling_floors(weights: &[u32]) -> Vec<u32> {
 /// safe crate's plans are those too, by the library's own answers alone.
 fn floors(seed: u64, random: &mut Random, cases: &mut Cases) -> Result<(), String> {
     let n = (seed % FLOOR_SIZES) as usize;
-    let mut input = input(random, n, seed / FLOOR_SIZES)?;
+    let mut input = accepted(random, n, seed / FLOOR_SIZES, cases)?;
     input.floor = 0;
     let (whole, tally) = made(random, &input)?;
     let weights = weights(&input, &whole);
@@ -388,7 +443,7 @@ fn tallies(seed: u64, random: &mut Random, cases: &mut Cases) -> Result<(), Stri
     let n = (seed % SIZES) as usize;
     let kinds = [random.bits(), random.bits()];
     let [one, other] = kinds.map(|kind| -> Result<Tally, String> {
-        let input = input(random, n, kind)?;
+        let input = accepted(random, n, kind, cases)?;
         Ok(made(random, &input)?.1)
     });
     let (one, other) = (one?, other?);
@@ -760,6 +815,7 @@ fn faults_of_planning(seed: u64, random: &mut Random, cases: &mut Cases) -> Resu
     let tables = tables_of(random, n, kind)?;
     let floor = floor(random, n, &tables);
     let Tables { m, w } = tables;
+    let w = mended(n, &m, &w).unwrap_or(w);
     let sound = Input {
         n,
         floor,
@@ -897,9 +953,9 @@ const MANY: usize = 1 << 62;
 
 /// The refusals that there are, and other numbers.
 fn printed_refusals(seed: u64, random: &mut Random, cases: &mut Cases) -> Result<(), String> {
-    let number = match seed % 19 {
-        number @ 0..=16 => number as u32,
-        17 => u32::MAX,
+    let number = match seed % 20 {
+        number @ 0..=17 => number as u32,
+        18 => u32::MAX,
         _ => any_number(random) as u32,
     };
     let place = match random.below(4) {
@@ -949,6 +1005,30 @@ fn safely_above(random: &mut Random, pool: &vadivuzhen::Pool) -> Answered {
         Err(refused) => refused.print(),
     };
     same(&format!("the printout with floor {floor}"), safely, text)?;
+    Ok(number)
+}
+
+/// A caller's own tables planned by the safe crate, from M and W to the printout;
+/// at times with weightless edges.
+fn safely_own(random: &mut Random) -> Answered {
+    let n = random.between(0, 8);
+    let kind = random.one_of(&TableKind::ALL);
+    let tables = tables(random, n, kind);
+    let (floor, shuffle) = (floor(random, n, &tables), random.shuffle(n));
+    let ids: Vec<u32> = (0..n).map(|_| random.bits() as u32).collect();
+    let Tables { m, w } = tables;
+    let plan = reference::plan(n, floor, &m, &w, &shuffle, Room::due(n));
+    let number = plan.as_ref().err().map_or(0, |reason| reason.number());
+    let text = match plan {
+        Ok((plan, tally)) => printout::printed(&ids, &plan, tally),
+        Err(reason) => printout::refused(reason.at(0)),
+    };
+    let tables = vadivuzhen::Tables::new(ids, m, w).map_err(|refused| refused.to_string())?;
+    let safely = match tables.plan_above(floor, &shuffle) {
+        Ok(plan) => plan.print(),
+        Err(refused) => refused.print(),
+    };
+    same("the printout of own tables", safely, text)?;
     Ok(number)
 }
 
@@ -1008,10 +1088,12 @@ fn safely_answered(answer: Result<(), vadivuzhen::Refused>, due: Option<&Reason>
     Ok(due.map_or(0, |reason| reason.number()))
 }
 
-/// Sheets through the safe crate, from the bytes to the printout.
+/// Sheets through the safe crate, from the bytes to the printout; live pools; and
+/// own tables.
 fn safe_crate(_: u64, random: &mut Random, cases: &mut Cases) -> Result<(), String> {
     safely_joined(random, cases)?;
     safely_lived(random, cases)?;
+    cases.add(safely_own(random)?);
     let (_, sheet) = any_sheet(random);
     let (number, text) = match reference::read(&sheet) {
         Ok(pool) if pool.len() > 40 => return Ok(()),

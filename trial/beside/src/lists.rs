@@ -210,8 +210,8 @@ impl List {
     }
 
     /// The pool has the pairs of the plain list, which are those of the account
-    /// of its calls, the tables of a sheet with these and its points, and for
-    /// each patient the number of their donors that suit.
+    /// of its calls, the tables of a sheet with these and its points, which are
+    /// planned, and for each patient the number of their donors that suit.
     fn agrees(&self, random: &mut Random) -> Outcome {
         let state = self.kept.state();
         same("the pairs, by a list", &state.pairs(), &self.pairs)?;
@@ -223,6 +223,10 @@ impl List {
         self.kept.is_built()?;
         if random.chance(1, 10) {
             self.kept.is_of_a_sheet(random)?;
+            // Of many pairs there would be too many plans to make.
+            if state.count <= 20 {
+                self.kept.is_planned(random)?;
+            }
         }
         Ok(())
     }

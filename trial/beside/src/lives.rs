@@ -1,12 +1,13 @@
 //! Live pools beside the reference.
 
 use crate::lent::{same, Answered, Entry, Lent, Outcome};
+use crate::plans::{made, Input};
 use crate::sheets::built_of_sheet;
 use reference::live;
 use reference::points::COUNT;
 use reference::pool::MOST_PAIRS;
 use reference::random::Random;
-use reference::{sheet, Call, Live, Pair, Points, Reason};
+use reference::{sheet, Call, Live, Pair, Points, Reason, Room};
 use vadivuzhen::raw::{self, BuildAnswer, LiveAnswer, Six, WriteAnswer};
 
 /// How many tables of a live pool have an entry for each pair: eight of the
@@ -267,6 +268,22 @@ impl Kept {
         same("the answer of writing", answer, written)?;
         let (m, w) = built_of_sheet(random, &bytes, n)?;
         self.has("as built of a sheet", &m, &w)
+    }
+
+    /// M and W are planned as they stand, with any shuffle: nothing in them is
+    /// refused, and what lies past them makes no difference.
+    pub fn is_planned(&self, random: &mut Random) -> Outcome {
+        let n = self.pairs();
+        let input = Input {
+            n,
+            floor: 0,
+            m: self.m.read().to_vec(),
+            w: self.w.read().to_vec(),
+            shuffle: random.shuffle(n),
+            room: Room::due(n),
+        };
+        made(random, &input)?;
+        Ok(())
     }
 
     /// M and W begin with these.
