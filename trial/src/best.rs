@@ -30,7 +30,8 @@ pub fn best(n: usize, m: &[u8], w: &[u16]) -> Best {
 }
 
 /// The heaviest among the sets "whose cycles all weigh more than the floor"
-/// (W-202). The empty set is one.
+/// (W-202). The empty set is one. With floor 0 these are all sets, if the tables
+/// are such as planning accepts: it refuses weightless edges (W-209).
 ///
 /// # Panics
 ///
