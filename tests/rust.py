@@ -24,7 +24,7 @@ def said(done):
 tests = cargo('rust', 'test', '--offline')
 results = re.findall(r'^test (\S+.*) \.\.\. (\w+)', tests.stdout.decode(), re.M)
 check(tests.returncode == 0, 'cargo test failed:\n' + said(tests))
-check(len(results) >= 46, f'only {len(results)} tests ran')
+check(len(results) >= 55, f'only {len(results)} tests ran')
 for name, result in results:
     check(result == 'ok', f'{name}: {result}')
 

@@ -20,7 +20,7 @@ def cargo(folder, *words):
 tests = cargo('trial', 'test', '--release', '--offline')
 results = re.findall(r'^test (\S+.*) \.\.\. (\w+)', tests.stdout, re.M)
 check(tests.returncode == 0, 'cargo test failed:\n' + tests.stdout[-3000:] + tests.stderr[-3000:])
-check(len(results) >= 160, f'only {len(results)} tests ran')
+check(len(results) >= 174, f'only {len(results)} tests ran')
 for name, result in results:
     check(result == 'ok', f'{name}: {result}')
 

@@ -1,5 +1,5 @@
-// Pools to try, and the plans that planning makes of them: document 01's k1 to k12, pools with floors, pools with rivals that weigh as much as W-208's bound
-// allows, one of 36 and one of 200. What it prints is held to the file 'stdout'. Every lent entry holds 99 before a call, and the first one past the filled part is printed too.
+// Pools to try, and the plans that planning makes of them: document 01's k1 to k12, pools with floors, weightless edges, pools with rivals that weigh as much as
+// W-208's bound allows, one of 36 and one of 200. What it prints is held to the file 'stdout'. Every lent entry holds 99 before a call, and the first one past the filled part is printed too.
 use cycle::Cycle;
 use planner::Planning;
 ghost use mathlib.Core.Path.{_≡_};
