@@ -358,18 +358,18 @@ struct vadivuzhen_plan_answer {
  * like any other.
  * Refuses 4; 13, where the floor is above VADIVUZHEN_MOST_FLOOR; 9, where m or w is shorter than n rows of n, the shuffle than n, weights, choices,
  * donors or recipients than what is filled, or the records than VADIVUZHEN_RECORDS(n); 8; 10; and last 17, where donor i may give to patient j and
- * that weighs nothing: the entry of m at i * n + j is 1, and that of w is 0. Where m has 0, w may have 0 too. 17 is the same at every floor, and
- * entries past n rows of n are not looked at. Each number is looked for in all that is lent before the next is: a weightless edge beside an entry of
- * m above 1 is 10.
+ * that weighs nothing: the entry of m at i * n + j is 1, and that of w is 0. Where m has 0, w may have 0 too. 17 is the same at every floor that 13
+ * lets pass, and entries past n rows of n are not looked at. Each number is looked for in all that is lent before the next is: a weightless edge
+ * beside an entry of m above 1 is 10.
  * Proved: a plan is made if and only if there are none of these faults. In every pool that is planned an exchange that can be carried out weighs more
  * than 0. Of every plan made: its donors and recipients are those of Algorithm 1 of arXiv 2302.13880, with the floor for the 0 of its line 7; all its
  * cycles can be carried out; each of them weighs more than the floor; no pair is in two of them; no other set of exchanges of two or three pairs that
- * can all be carried out and each weigh more than the floor, with no pair in two of them, weighs more than three times as much, and with floor 0
- * these are all the sets that can be carried out, with no pair in two exchanges; none of these sets weighs more than the sum over the planned
- * exchanges, the first `cycles` records, of each one's weight times its number of pairs, two where the third is n and else three: that sum and the
- * weight of the planned exchanges of two together are three times the plan's weight, so that as soon as one of two pairs is planned the sum is the
- * smaller of the two limits; and the tally depends on n alone, at every floor: with T triples and P twos among n pairs and R = n / 2 rounds, rounds
- * are R, comparisons T + R (T + P), and products 2P + 7T + R (5 (T + P) - 1) + (R - 1) (2P + 3T), or 0 where R is 0. */
+ * can all be carried out and each weigh more than the floor, with no pair in two of them, weighs more than three times as much, where with floor 0
+ * the words "and each weigh more than the floor" leave none out; none of these sets weighs more than the sum over the planned exchanges, the first
+ * `cycles` records, of each one's weight times its number of pairs, two where the third is n and else three: that sum and the weight of the planned
+ * exchanges of two together are three times the plan's weight, so that as soon as one of two pairs is planned the sum is the smaller of the two
+ * limits; and the tally depends on n alone, at every floor: with T triples and P twos among n pairs and R = n / 2 rounds, rounds are R, comparisons
+ * T + R (T + P), and products 2P + 7T + R (5 (T + P) - 1) + (R - 1) (2P + 3T), or 0 where R is 0. */
 VADIVUZHEN_ANSWERS struct vadivuzhen_plan_answer vadivuzhen_plan(
     size_t n, uint32_t floor,
     const uint8_t *m, size_t m_length,

@@ -27,7 +27,8 @@ pub struct Tally {
 /// more than three times as much, nor more than [`credit`](Plan::credit), which
 /// is less as soon as an exchange of two is planned. In every pool that is
 /// planned an executable cycle weighs more than 0, so with floor 0 both hold of
-/// every set of executable cycles with no pair in two of them.
+/// every set of executable cycles of two or three pairs with no pair in two of
+/// them.
 ///
 /// Pairs go by their numbers, from 0 to N − 1; their ids are for the printout,
 /// which `Display` shows as well. A plan holds a weight for each of

@@ -18,12 +18,15 @@ use Rattle.donation.specs.Compatibility.{compatibility}
 use Rattle.donation.specs.Weight.{weight}
 use Rattle.donation.proofs.Compatible.{compatibility-most}
 use Rattle.donation.proofs.Points.{present-weighs}
+use Rattle.graph.specs.Graph.{Graph}
+use Rattle.weighing.specs.Promises.{Plannable}
 use Rattle.weighing.proofs.Promised.{rightly}
 use Rattle.exchange.specs.Subsets.{cycles, entry, pairsAt}
 use Rattle.exchange.specs.Resolution.{recipientTable, donorTable}
 use Rattle.exchange.specs.Input.{Input, noFloor, request}
 use Rattle.exchange.specs.Planning.{plannedBy, planFrom}
 use Rattle.exchange.specs.Algorithm1 as Algorithm1
+use Rattle.exchange.specs.Faultless.{Compatibility, WeightyTables}
 use Rattle.exchange.specs.Promises.{ExecutableWeighs}
 use Rattle.exchange.proofs.Inverse.{Invertible}
 use Rattle.exchange.proofs.Charged.{planned-apart}
@@ -33,25 +36,29 @@ use Rattle.exchange.proofs.Credited.{planned-credits}
 use Rattle.exchange.proofs.Tallied.{tallied}
 use Rattle.exchange.proofs.Shuffled.{same-cycles}
 use Rattle.exchange.proofs.Partners.{algorithm-partners}
-use Rattle.exchange.proofs.Checked.{answers-rightly}
+use Rattle.exchange.proofs.Checked.{answers-rightly, sound-tables-pass}
 use Rattle.printout.specs.Printed.{PrintedPlan, planText, refusalText}
 use Rattle.answers.specs.Most.{most}
 use Rattle.answers.specs.Answering.{planBy, poolInput, printedPlanOf, pointsOn, orRefusal, answerText, putting, answering}
-use Rattle.answers.specs.Promises.{PlannableIsPlanned, BuiltIsPlanned, PlanGuarantee, SheetPlanned, AnswerFault, sheet, tooMany, AnsweringIsRight}
+use Rattle.answers.specs.Promises.{PlannableIsPlanned, PlannableNeverRefused, BuiltIsPlanned, PlanGuarantee, SheetPlanned, AnswerFault, sheet, tooMany, AnsweringIsRight}
 use Rattle.answers.proofs.Seated.{shuffle-seated}
 
+module _ (q : Points) (n : ℕ) (g : Graph) (z : Plannable q n g) where
+  compatible : Compatibility n (g .compatibilities)
+  unfolding entry
+  compatible = record { zeroOrOne = z .zeroOrOne; own = z .ownCompatibility }
+
+  weighty : WeightyTables n (g .compatibilities) (g .weights)
+  unfolding entry
+  weighty = z .noneWeightless
+
 pub plannable-is-planned : PlannableIsPlanned
-unfolding entry
 plannable-is-planned q n floor g s t few z low once long =
     answers-rightly (request n floor _ _ s) t .accepts
-    (record {
-      few = few;
-      low = low;
-      long = long;
-      eachOnce = once;
-      compatible = record { zeroOrOne = z .zeroOrOne; own = z .ownCompatibility };
-      weighty = z .noneWeightless;
-    })
+    (record { few = few; low = low; long = long; eachOnce = once; compatible = compatible q n g z; weighty = weighty q n g z })
+
+pub plannable-never-refused : PlannableNeverRefused
+plannable-never-refused q n floor g s t z k place e = sound-tables-pass (request n floor _ _ s) t (compatible q n g z) (weighty q n g z) k place e
 
 pub built-is-planned : BuiltIsPlanned
 built-is-planned v n floor points f old g s t built left low once long =

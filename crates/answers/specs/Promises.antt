@@ -4,7 +4,7 @@ use mathlib.Core.Path.{_≡_}
 use mathlib.Core.List.{List, map}
 use lib.ListN.{length, getD}
 use Rattle.laws.specs.Below.{table}
-use Rattle.refusal.specs.Answer.{finished, Outcome}
+use Rattle.refusal.specs.Answer.{finished, refused, Outcome}
 use Rattle.pool.specs.Points.{Points}
 use Rattle.pool.specs.Sheet.{pairsIn, pairAt, shuffleAt}
 use Rattle.pool.specs.Tables.{Fields}
@@ -37,7 +37,16 @@ PlannableIsPlanned =
     → LongEnough (request n floor (g .compatibilities) (g .weights) s) t
     → (p : Plan) × (planning (request n floor (g .compatibilities) (g .weights) s) t .answer ≡ finished p)
 
--- so those that were built are, by whatever points 14 lets pass
+-- and whatever shuffle, floor and tables are lent with them, neither 10 nor 17 is told
+abbrev pub PlannableNeverRefused : Type 0
+PlannableNeverRefused =
+    (q : Points) (n floor : ℕ) (g : Graph) (s : List ℕ) (t : Lent)
+    → Plannable q n g
+    → (k place : ℕ)
+    → planning (request n floor (g .compatibilities) (g .weights) s) t .answer ≡ refused k place
+    → (k ≡ 10 → ⊥) × (k ≡ 17 → ⊥)
+
+-- so those that were built are planned, by whatever points 14 lets pass
 abbrev pub BuiltIsPlanned : Type 0
 BuiltIsPlanned =
     (v n floor : ℕ) (points : List ℕ) (f : Fields) (old g : Graph) (s : List ℕ) (t : Lent)

@@ -20,13 +20,13 @@ use Rattle.exchange.specs.Resolution.{resolved, recordOf, pairsOf, recip
 use Rattle.exchange.specs.Planning.{tableFault, edgeFault, shortToRead, shortToFill, planFault, leftBy, plannedBy, planFrom, filledLent, planning}
 use Rattle.exchange.specs.Floors as Floorless
 use Rattle.exchange.specs.Pools.{read, tableOf, blank, foundIn, found, k5, boundsBy, boundsOf, k8, k8rival, four, fourRival, seven, sevenRival, ten, tenRival, square}
-use Rattle.exchange.specs.Pools.{PoolsComeOut, FloorsComeOut, FirstFaultTold, FourBeforeThirteen, PastUnchanged, WeightlessPlanned, EntryPastUnread, K5Before, WeightlessComeOut, CreditsComeOut}
+use Rattle.exchange.specs.Pools.{PoolsComeOut, FloorsComeOut, FirstFaultTold, FourBeforeThirteen, PastUnchanged, WeightlessAnswered, EntryPastUnread, K5Before, WeightlessComeOut, CreditsComeOut}
 use Rattle.exchange.specs.Rivals.{planned, Exchange, ExchangeSet, ExchangeSetOf}
 use Rattle.exchange.specs.Credit.{credited}
 
 computed : PoolsComeOut × FloorsComeOut × FirstFaultTold × FourBeforeThirteen × PastUnchanged × (boundsOf (k8 0) ≡ 18 ∷ 18 ∷ []) × (boundsOf (k8 5) ≡ 18 ∷ 18 ∷ [])
     × (boundsOf (k8 6) ≡ 0 ∷ 0 ∷ []) × (boundsOf four ≡ 20 ∷ 30 ∷ []) × (boundsOf seven ≡ 36 ∷ 36 ∷ []) × (boundsOf ten ≡ 52 ∷ 60 ∷ []) × (boundsOf square ≡ 0 ∷ 0 ∷ [])
-    × WeightlessPlanned × EntryPastUnread × K5Before
+    × WeightlessAnswered × EntryPastUnread × K5Before
 unfolding flatMap table either anyBelow countBelow one filled refuse _then_ unless shuffleFault roomFault among meets raise nextRound join
     byHalves choosing clear clearingTally rounds ascending subsets eachFirst orders cycles along edges entry productOf sumOf weigh firstOf
     heaviest pairsAt bestCycle subsetWeight evaluationTally resolved recordOf pairsOf recipientBy donorBy recipientTable donorTable total tableFault

@@ -65,7 +65,7 @@ bestCycle-most m w s q (u ∷ t) h e = go (split-at u q (omega (arith, h u, one-
 
 -- ---- the table of subsets and weights
 
--- a subset's weight, by its number: no subset weighs 0
+-- a subset's weight, by its number: what is no subset weighs 0
 pub weight-at : (l n : ℕ) (m w : ℕ → ℕ → ℕ) (s : List ℕ) (i : ℕ)
     → getD (weightsOf l n m w s) i 0 ≡ score m w s (bestCycle m w s (getD (subsets l n) i []))
 unfolding subsetWeight bestCycle cycles heaviest pairsAt weigh edges productOf sumOf

@@ -1,6 +1,6 @@
 -- What planning has checked, where it does not refuse, and what every answer of it says. Assumes nothing.
 use Prim.Native.Nat.{ℕ, _≤_, _<_}
-use mathlib.Core.Bool.{Bool, false, not, _&&_}
+use mathlib.Core.Bool.{Bool, false, not}
 use mathlib.Core.List.{List}
 use mathlib.Core.Path.{_≡_, refl, ap, _∙_}
 use native.Mathlib.Omega.{arith}
@@ -18,7 +18,7 @@ use Rattle.pool.proofs.Reading.{room-none, room-passed, room-fault}
 use Rattle.exchange.specs.Subsets.{entry}
 use Rattle.exchange.specs.Input.{Request}
 use Rattle.exchange.specs.Planning.{Lent, Plan, mostFloor, lengthsOf, tableFault, weightless, edgeFault, shortToRead, shortToFill, planFault, planning}
-use Rattle.exchange.specs.Promises.{AnswersRightly}
+use Rattle.exchange.specs.Promises.{AnswersRightly, SoundTablesPass}
 use Rattle.exchange.specs.Faultless.{LongEnough, Compatibility, WeightyTables, FaultlessInput, PlanFault, tooManyPairs, floorTooHigh, tooShort, notAShuffle, notCompatibility, weightlessEdge}
 
 module _ (n : ℕ) (M : List ℕ) where
@@ -69,7 +69,7 @@ module _ (n : ℕ) (M : List ℕ) where
         let none : weightless n M W i j ≡ false = any-none n _ (any-none n _ (refuse-none 17 0 _ e) i k) j q in
         omega (arith, eqb-false (entry W n i j) 0 (rw (eq-eqb _ 1 there) at none))
 
-    pub edge-fault : (P : ℕ → ℕ → Type 0)
+    edge-fault : (P : ℕ → ℕ → Type 0)
         → ((i j : ℕ) → i < n → j < n → entry M n i j ≡ 1 → entry W n i j ≡ 0 → P 17 0) → (k o : ℕ) → edgeFault n M W ≡ fault k o → P k o
     unfolding edgeFault
     edge-fault P seventeen = by-refuse P 17 0 _ (λ e.
@@ -229,3 +229,18 @@ answers-rightly r t =
           let d = plan-fault r t k place f in
           (d .0, d .1, ap (λ (o : Outcome Plan Lent). o .lent) (unless-fault _ _ _ _ k place f));
     }
+
+-- ## Neither 10 nor 17 of sound tables
+
+module _ (r : Request) (t : Lent) (sound : Compatibility (r .scope .pairs) (r .compatibilities))
+    (weighty : WeightyTables (r .scope .pairs) (r .compatibilities) (r .weights)) where
+  other-fault : (k : ℕ) → PlanFault r t k → (k ≡ 10 → ⊥) × (k ≡ 17 → ⊥)
+  other-fault k (tooManyPairs _) = (λ e. omega (arith, e), λ e. omega (arith, e))
+  other-fault k (floorTooHigh _ _) = (λ e. omega (arith, e), λ e. omega (arith, e))
+  other-fault k (tooShort _ _ _) = (λ e. omega (arith, e), λ e. omega (arith, e))
+  other-fault k (notAShuffle _ _ _ _) = (λ e. omega (arith, e), λ e. omega (arith, e))
+  other-fault k (notCompatibility _ _ _ _ h) = absurd (h sound)
+  other-fault k (weightlessEdge _ _ _ _ _ i j a b there e) = absurd (omega (arith, weighty i j a b there, e))
+
+pub sound-tables-pass : SoundTablesPass
+sound-tables-pass r t sound weighty k place e = other-fault r t sound weighty k (answers-rightly r t .refuses k place e .1)

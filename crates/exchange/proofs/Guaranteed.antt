@@ -33,7 +33,7 @@ use Rattle.exchange.proofs.Inverse.{Invertible, invertible}
 use Rattle.exchange.proofs.Charged.{weightsOf, weight-at, family, joined, planned-apart}
 use Rattle.exchange.proofs.Planned.{planned-set, planned-heavy, planned-below, rival-factor}
 use Rattle.exchange.proofs.Credited.{planned-credits}
-use Rattle.exchange.proofs.Weightless.{weighty-weighs}
+use Rattle.exchange.proofs.Weightless.{accepted-weighs}
 use Rattle.exchange.proofs.Tallied.{tallied}
 use Rattle.exchange.proofs.Shuffled.{same-cycles}
 use Rattle.exchange.proofs.Partners.{consistent, algorithm-partners}
@@ -216,7 +216,7 @@ module _ (n f : ℕ) (M W s : List ℕ) (t : Lent) (k : FaultlessInput (request 
   }
     where
       weighs : ExecutableWeighs q
-      weighs = weighty-weighs q (k .weighty)
+      weighs = accepted-weighs (request n f M W s) t k
 
       once : NoneTwice (joined cs)
       once = planned-apart f 3 n m w s sh

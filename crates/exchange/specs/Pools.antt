@@ -197,8 +197,8 @@ PastUnchanged =
 
 -- ## "No weightless edges" (document 02, W-209)
 
-abbrev pub weightlessPools : List Case
-weightlessPools =
+abbrev pub weightlessCases : List Case
+weightlessCases =
     -- one edge, which is in no cycle; one in the last row, beside one that weighs something; with a floor
     case 2 (edge 0 1 0 ∷ []) (0 ∷ 1 ∷ []) (turned 17 0 (blank 2))
     ∷ case 2 (edge 0 1 5 ∷ edge 1 0 0 ∷ []) (0 ∷ 1 ∷ []) (turned 17 0 (blank 2))
@@ -216,8 +216,8 @@ weightlessPools =
     ∷ case 2 (edge 1 1 0 ∷ k3edges) (0 ∷ 1 ∷ []) (turned 10 0 (blank 2))
     ∷ []
 
-abbrev pub WeightlessPlanned : Type 0
-WeightlessPlanned = map found weightlessPools ≡ map (λ (c : Case). c .due) weightlessPools
+abbrev pub WeightlessAnswered : Type 0
+WeightlessAnswered = map found weightlessCases ≡ map (λ (c : Case). c .due) weightlessCases
 
 -- k3, with an entry 1 in M and 0 in W past its two rows
 abbrev pub EntryPastUnread : Type 0
@@ -234,7 +234,7 @@ K5Before =
     ≡ outcome (finished (plan 0 0 (tally 1 6 1))) (lent (0 ∷ []) (1 ∷ []) (2 ∷ 2 ∷ []) (2 ∷ 2 ∷ []) (cycle 99 99 99 ∷ []))
 
 pub record WeightlessComeOut : Type 0 where
-  pub come : WeightlessPlanned
+  pub come : WeightlessAnswered
   pub past : EntryPastUnread
   pub before : K5Before
   -- what `ExecutableWeighs` rules out: k5's cycle is executable, and weighs 0

@@ -17,7 +17,7 @@ use Rattle.exchange.specs.Input.{Input, Request, inputOf, request}
 use Rattle.exchange.specs.Planning.{Lent, Plan, roundCount, planning}
 use Rattle.exchange.specs.Algorithm1 as Algorithm1
 use Rattle.exchange.specs.Algorithm1.{next}
-use Rattle.exchange.specs.Faultless.{FaultlessInput, PlanFault}
+use Rattle.exchange.specs.Faultless.{Compatibility, WeightyTables, FaultlessInput, PlanFault}
 use Rattle.exchange.specs.Rivals.{planned, Each, Executable, ExchangeSetOf, AboveFloor, weightIn}
 use Rattle.exchange.specs.Credit.{CreditsTwos}
 
@@ -130,6 +130,16 @@ pub record Answered (r : Request) (t : Lent) (o : Outcome Plan Lent) : Type 0 wh
 
 abbrev pub AnswersRightly : Type 0
 AnswersRightly = (r : Request) (t : Lent) → Answered r t (planning r t)
+
+-- of an M with 0 and 1 and no pair's own edge, and a W with no weightless edge, neither 10 nor 17 is told, whatever else is at fault
+abbrev pub SoundTablesPass : Type 0
+SoundTablesPass =
+    (r : Request) (t : Lent)
+    → Compatibility (r .scope .pairs) (r .compatibilities)
+    → WeightyTables (r .scope .pairs) (r .compatibilities) (r .weights)
+    → (k place : ℕ)
+    → planning r t .answer ≡ refused k place
+    → (k ≡ 10 → ⊥) × (k ≡ 17 → ⊥)
 
 -- ## No lent table grows or shrinks, whatever the answer
 

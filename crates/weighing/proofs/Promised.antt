@@ -1,8 +1,7 @@
 -- What is built, and the promise of the call. Assumes nothing.
 use mathlib.Core.Path.{_≡_, refl, sym, ap, subst, _∙_}
 use mathlib.Core.List.{List, []}
-use Prim.Native.Nat.{ℕ, _≤_, _<_}
-use native.Mathlib.Omega.{arith}
+use Prim.Native.Nat.{ℕ}
 use lib.ListN.{length}
 use Rattle.refusal.specs.Answer.{Answer, finished, Outcome, outcome}
 use Rattle.refusal.specs.Number.{numberOf, faultAt}
@@ -21,7 +20,7 @@ use Rattle.weighing.specs.Building.{buildFault, building}
 use Rattle.weighing.specs.Answers.{answerOf}
 use Rattle.graph.specs.Preconditions.{Buildable}
 use Rattle.weighing.specs.declared.Building.the-variants.{Built, Refused}
-use Rattle.weighing.specs.Promises.{FaultlessFields, Fit, entryAt, Entries, DonorsSide, Plannable, BuildsRightly}
+use Rattle.weighing.specs.Promises.{FaultlessFields, Fit, Entries, DonorsSide, Plannable, BuildsRightly}
 use Rattle.donation.proofs.Compatible.{compatibility-most, compatibility-same}
 use Rattle.donation.proofs.Points.{weight-same, weight-least, weight-most, present-weighs, weight-alike, weight-counted}
 use Rattle.graph.proofs.Rows.{rows-entry}

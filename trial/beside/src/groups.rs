@@ -246,12 +246,15 @@ fn input(random: &mut Random, n: usize, kind: u64) -> Result<Input, String> {
 }
 
 /// An input of that kind that is planned. If it has weightless edges, it is tried
-/// as it is first, and then has 1 for their weight.
+/// as it is first, and then has 1 for their weight, and a floor for these weights.
 fn accepted(random: &mut Random, n: usize, kind: u64, cases: &mut Cases) -> Result<Input, String> {
     let mut input = input(random, n, kind)?;
     if let Some(w) = mended(n, &input.m, &input.w) {
         cases.add(weightless(random, &input)?);
-        input.w = w;
+        let m = input.m.clone();
+        let tables = Tables { m, w };
+        input.floor = floor(random, n, &tables);
+        input.w = tables.w;
     }
     Ok(input)
 }
@@ -315,7 +318,7 @@ fn one_too_many(random: &mut Random) -> Answered {
     }
 }
 
-/// Sound tables with a floor that is too high.
+/// Tables that are sound, or have weightless edges, with a floor that is too high.
 fn too_high(random: &mut Random, n: usize, kind: u64) -> Answered {
     let mut input = input(random, n, kind)?;
     input.floor = random.one_of(&TOO_HIGH);
@@ -812,10 +815,12 @@ fn faults_of_planning(seed: u64, random: &mut Random, cases: &mut Cases) -> Resu
     // Of 200 pairs there would be too many plans to make.
     let n = faulty(seed).min(9);
     let kind = random.bits();
-    let tables = tables_of(random, n, kind)?;
+    let mut tables = tables_of(random, n, kind)?;
+    if let Some(w) = mended(n, &tables.m, &tables.w) {
+        tables.w = w;
+    }
     let floor = floor(random, n, &tables);
     let Tables { m, w } = tables;
-    let w = mended(n, &m, &w).unwrap_or(w);
     let sound = Input {
         n,
         floor,

@@ -1,4 +1,4 @@
--- `refusal::number` meets its contract. Assumes nothing.
+-- `refusal::number` meets its contract: each case has its number. The prover's own search proves up to 16 cases. Assumes nothing.
 use mathlib.Core.Path.{sym, ap}
 use borrow.Author.Needs.{needs}
 use Rattle.refusal.specs.Number.{numberOf}
