@@ -26,7 +26,7 @@ impl Tables {
     /// The compatibility is 1 where donor i may give to patient j, else 0; a
     /// pair's own is 0. Where it is 1 the weight is not 0. [`Tables::plan`]
     /// refuses others. Where it is 0 the weight, so also a pair's own, may be
-    /// any number.
+    /// any number, and plays no part.
     ///
     /// # Errors
     ///

@@ -14,8 +14,8 @@ use Rattle.exchange.specs.Input.{noFloor, input, inputOf, request}
 use Rattle.exchange.specs.Resolution.{total, donorTable, recipientTable}
 use Rattle.exchange.specs.Planning.{Plan, leftBy, plannedBy, planFrom}
 use Rattle.exchange.proofs.Inverse.{Invertible}
-use Rattle.exchange.proofs.Planned.{planned-set}
-use Rattle.exchange.proofs.Diagonal.{left-agree, planned-agree, total-agree}
+use Rattle.exchange.proofs.Planned.{planned-below}
+use Rattle.exchange.proofs.Unread.{left-agree, planned-agree, total-agree}
 use Rattle.printout.specs.Printed as Printed
 use Rattle.printout.specs.Printed.{planText}
 use Rattle.printout.specs.Calls.{printingPlan}
@@ -38,19 +38,18 @@ use Rattle.answers.proofs.Texts.{plan-printed, plan-surely}
 pub square-most : (n : ℕ) → n ≤ most → n * n ≤ 1600
 square-most n l = mul-le-mul l l
 
--- ## The entries of two different pairs are read, and no others
+-- ## The same entries have the same plan
 
 module _ (n : ℕ) (m k w v : ℕ → ℕ → ℕ) (s : List ℕ) (sh : Invertible n s) (bits : (i j : ℕ) → i < n → j < n → m i j ≤ 1)
     (alike : (i j : ℕ) → i < n → j < n → m i j ≡ k i j) (agree : (i j : ℕ) → i < n → j < n → w i j ≡ v i j) where
   pub plan-agree : (ids : List ℕ) → planBy ids (input n noFloor m w s) ≡ planBy ids (input n noFloor k v s)
   unfolding planBy planFrom
   plan-agree ids =
-      let a : (i j : ℕ) → i < n → j < n → (i ≡ j → ⊥) → m i j ≡ k i j = λ i j h l _. alike i j h l in
-      let b : (i j : ℕ) → i < n → j < n → (i ≡ j → ⊥) → w i j ≡ v i j = λ i j h l _. agree i j h l in
-      let left : leftBy (input n noFloor m w s) ≡ leftBy (input n noFloor k v s) = left-agree n m k w v a b noFloor 3 s sh in
-      let cs : plannedBy (input n noFloor m w s) ≡ plannedBy (input n noFloor k v s) = planned-agree n m k w v a b noFloor 3 s sh in
+      let there : (i j : ℕ) → i < n → j < n → m i j ≡ 1 → w i j ≡ v i j = λ i j h l _. agree i j h l in
+      let left : leftBy (input n noFloor m w s) ≡ leftBy (input n noFloor k v s) = left-agree n m k w v bits alike there noFloor 3 s sh in
+      let cs : plannedBy (input n noFloor m w s) ≡ plannedBy (input n noFloor k v s) = planned-agree n m k w v bits alike there noFloor 3 s sh in
       let sum : total m w (plannedBy (input n noFloor m w s)) ≡ total k v (plannedBy (input n noFloor k v s)) =
-      total-agree n m k w v a b 3 _ (planned-set noFloor 3 n m w s sh bits .exchanges) ∙ ap (total k v) cs in
+      total-agree n m k w v bits alike there _ (planned-below noFloor 3 n m w s sh) ∙ ap (total k v) cs in
       λ i. Printed.printedPlan n (length (cs i)) (sum i) ids (donorTable n (cs i)) (recipientTable n (cs i)) (left i .tally .comparisons)
       (left i .tally .products) (left i .tally .rounds)
 

@@ -33,7 +33,7 @@ among-none p c h = omega (arith, leb-false 1 (times p c) (sym (among-times p c) 
 pub none-among : (p : ℕ) (c : List ℕ) → times p c ≡ 0 → among p c ≡ false
 none-among p c h = among-times p c ∙ lt-leb 1 (times p c) (omega arith)
 
-pub different-once : (c : List ℕ) → Different c → NoneTwice c
+different-once : (c : List ℕ) → Different c → NoneTwice c
 unfolding times
 different-once [] h p = omega arith
 different-once (q ∷ c) h p = elim (same? p q) [
@@ -105,7 +105,7 @@ module _ (n : ℕ) where
   edges-inside (a ∷ c) h = along-inside (a ∷ c ++ (a ∷ [])) (each-append (λ (p : ℕ). p < n) (a ∷ c) (a ∷ []) h (h .0, tt))
 
   module _ (m : ℕ → ℕ → ℕ) (bits : (i j : ℕ) → i < n → j < n → m i j ≤ 1) where
-    product-executable : (es : List Edge) → Each Inside es → 0 < productOf m es → Each (λ (e : Edge). m (e .donor) (e .patient) ≡ 1) es
+    pub product-executable : (es : List Edge) → Each Inside es → 0 < productOf m es → Each (λ (e : Edge). m (e .donor) (e .patient) ≡ 1) es
     unfolding productOf
     product-executable [] h k = tt
     product-executable (e ∷ es) h k = elim (eq-zero-or-pos (m (e .donor) (e .patient))) [

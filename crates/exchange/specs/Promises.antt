@@ -179,6 +179,16 @@ SameTally =
     → planning (request n f′ M′ W′ s′) t′ .answer ≡ finished p′
     → p .tally ≡ p′ .tally
 
+-- W(i, j) plays no part where M(i, j) is not 1, in 17 and in a plan: equally long weight tables with the same entries where M is 1 have the same answer, and
+-- leave the same
+abbrev pub AbsentUnread : Type 0
+AbsentUnread =
+    (q : Scope) (f : ℕ) (M W W′ s : List ℕ) (t : Lent)
+    → length W ≡ length W′
+    → ((i j : ℕ) → i < q .pairs → j < q .pairs → entry M (q .pairs) i j ≡ 1 → entry W (q .pairs) i j ≡ entry W′ (q .pairs) i j)
+    → planning (record { scope = q; floor = f; compatibilities = M; weights = W; shuffle = s }) t
+    ≡ planning (record { scope = q; floor = f; compatibilities = M; weights = W′; shuffle = s }) t
+
 -- "W(i, i) is not read": equally long weight tables with the same entries for different pairs have the same answer, and leave the same
 abbrev pub DiagonalUnread : Type 0
 DiagonalUnread =
