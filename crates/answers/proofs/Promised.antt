@@ -36,11 +36,11 @@ use Rattle.exchange.proofs.Credited.{planned-credits}
 use Rattle.exchange.proofs.Tallied.{tallied}
 use Rattle.exchange.proofs.Shuffled.{same-cycles}
 use Rattle.exchange.proofs.Partners.{algorithm-partners}
-use Rattle.exchange.proofs.Checked.{answers-rightly, sound-tables-pass}
+use Rattle.exchange.proofs.Checked.{answers-rightly, sound-tables-pass-ten-and-seventeen}
 use Rattle.printout.specs.Printed.{PrintedPlan, planText, refusalText}
 use Rattle.answers.specs.Most.{most}
 use Rattle.answers.specs.Answering.{planBy, poolInput, printedPlanOf, pointsOn, orRefusal, answerText, putting, answering}
-use Rattle.answers.specs.Promises.{PlannableIsPlanned, PlannableNeverRefused, BuiltIsPlanned, PlanGuarantee, SheetPlanned, AnswerFault, sheet, tooMany, AnsweringIsRight}
+use Rattle.answers.specs.Promises.{PlannableIsPlanned, PlannablePassesTenAndSeventeen, BuiltIsPlanned, PlanGuarantee, SheetPlanned, AnswerFault, sheet, tooMany, AnsweringIsRight}
 use Rattle.answers.proofs.Seated.{shuffle-seated}
 
 module _ (q : Points) (n : ℕ) (g : Graph) (z : Plannable q n g) where
@@ -57,8 +57,8 @@ plannable-is-planned q n floor g s t few z low once long =
     answers-rightly (request n floor _ _ s) t .accepts
     (record { few = few; low = low; long = long; eachOnce = once; compatible = compatible q n g z; weighty = weighty q n g z })
 
-pub plannable-never-refused : PlannableNeverRefused
-plannable-never-refused q n floor g s t z k place e = sound-tables-pass (request n floor _ _ s) t (compatible q n g z) (weighty q n g z) k place e
+pub plannable-passes-ten-and-seventeen : PlannablePassesTenAndSeventeen
+plannable-passes-ten-and-seventeen q n floor g s t z k place e = sound-tables-pass-ten-and-seventeen (request n floor _ _ s) t (compatible q n g z) (weighty q n g z) k place e
 
 pub built-is-planned : BuiltIsPlanned
 built-is-planned v n floor points f old g s t built left low once long =

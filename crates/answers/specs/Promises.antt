@@ -25,8 +25,8 @@ use Rattle.printout.specs.Printed.{PrintedPlan, planText, refusalText}
 use Rattle.answers.specs.Most.{most}
 use Rattle.answers.specs.Answering.{poolInput, pointsOn, putting, answering}
 
--- tables as building gives them (`Plannable`), which a live pool has too, are planned with any shuffle, any floor up to the greatest and any tables that
--- are long enough: they have no fault 10, and no fault 17
+-- tables of up to 200 pairs that are as building gives them (`Plannable`), which a live pool has too, are planned with any shuffle, any floor up to the
+-- greatest and any tables that are long enough: they have no fault 10, and no fault 17
 abbrev pub PlannableIsPlanned : Type 0
 PlannableIsPlanned =
     (q : Points) (n floor : ℕ) (g : Graph) (s : List ℕ) (t : Lent)
@@ -38,8 +38,8 @@ PlannableIsPlanned =
     → (p : Plan) × (planning (request n floor (g .compatibilities) (g .weights) s) t .answer ≡ finished p)
 
 -- and whatever shuffle, floor and tables are lent with them, neither 10 nor 17 is told
-abbrev pub PlannableNeverRefused : Type 0
-PlannableNeverRefused =
+abbrev pub PlannablePassesTenAndSeventeen : Type 0
+PlannablePassesTenAndSeventeen =
     (q : Points) (n floor : ℕ) (g : Graph) (s : List ℕ) (t : Lent)
     → Plannable q n g
     → (k place : ℕ)
@@ -65,7 +65,7 @@ pub record PlanGuarantee (q : Input) (p : PrintedPlan) : Type 0 where
   pub exchanges : ExchangeSetOf q planned
   pub number : p .cycles ≡ length planned
   pub weighs : p .weight ≡ weightIn q planned
-  -- "No weightless edges" (document 02, W-209): no executable cycle is weightless
+  -- "No weightless edges" (document 02, W-209): no executable cycle of two or more pairs weighs 0
   pub noneWeightless : ExecutableWeighs q
   -- "three times the plan's weight is at least the weight of every other set of executable 2- and 3-cycles sharing no pair"
   pub factor : (cs : List (List ℕ)) → ExchangeSetOf q cs → weightIn q cs ≤ q .scope .largest * p .weight

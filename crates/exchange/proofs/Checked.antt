@@ -18,7 +18,7 @@ use Rattle.pool.proofs.Reading.{room-none, room-passed, room-fault}
 use Rattle.exchange.specs.Subsets.{entry}
 use Rattle.exchange.specs.Input.{Request}
 use Rattle.exchange.specs.Planning.{Lent, Plan, mostFloor, lengthsOf, tableFault, weightless, edgeFault, shortToRead, shortToFill, planFault, planning}
-use Rattle.exchange.specs.Promises.{AnswersRightly, SoundTablesPass}
+use Rattle.exchange.specs.Promises.{AnswersRightly, SoundTablesPassTenAndSeventeen}
 use Rattle.exchange.specs.Faultless.{LongEnough, Compatibility, WeightyTables, FaultlessInput, PlanFault, tooManyPairs, floorTooHigh, tooShort, notAShuffle, notCompatibility, weightlessEdge}
 
 module _ (n : ℕ) (M : List ℕ) where
@@ -242,5 +242,5 @@ module _ (r : Request) (t : Lent) (sound : Compatibility (r .scope .pairs) (r .c
   other-fault k (notCompatibility _ _ _ _ h) = absurd (h sound)
   other-fault k (weightlessEdge _ _ _ _ _ i j a b there e) = absurd (omega (arith, weighty i j a b there, e))
 
-pub sound-tables-pass : SoundTablesPass
-sound-tables-pass r t sound weighty k place e = other-fault r t sound weighty k (answers-rightly r t .refuses k place e .1)
+pub sound-tables-pass-ten-and-seventeen : SoundTablesPassTenAndSeventeen
+sound-tables-pass-ten-and-seventeen r t sound weighty k place e = other-fault r t sound weighty k (answers-rightly r t .refuses k place e .1)

@@ -1,4 +1,5 @@
--- Where no present edge weighs 0, every executable cycle weighs something, and with floor 0 every rival set is above the floor. Assumes nothing.
+-- Where no present edge weighs 0, every executable cycle of two or more pairs weighs something, and with floor 0 every rival set is above the floor.
+-- Assumes nothing.
 use Prim.Native.Nat.{ℕ, _*_, _≤_, _<_}
 use mathlib.Core.List.{List, [], _∷_}
 use mathlib.Core.Path.{_≡_, refl, ap₂}

@@ -208,7 +208,7 @@ weightlessCases =
     -- k3, with W(i, i) of 7
     ∷ case 2 (marked 0 0 0 7 ∷ marked 0 1 1 7 ∷ k3edges) (0 ∷ 1 ∷ [])
     (made (0 ∷ []) (12 ∷ []) 12 1 (1 ∷ 0 ∷ []) (1 ∷ 0 ∷ []) (cycle 0 1 2 ∷ []) (tally 1 6 1))
-    -- "after 10": after all that is checked before
+    -- "after 10": after 13, 9, 8 and 10
     ∷ floored 2 200001 k5edges (0 ∷ 1 ∷ []) (turned 13 0 (blank 2))
     ∷ case 2 k5edges (0 ∷ []) (turned 9 0 (blank 2))
     ∷ case 2 k5edges (0 ∷ 0 ∷ []) (turned 8 0 (blank 2))

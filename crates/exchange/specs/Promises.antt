@@ -97,7 +97,7 @@ pub record Guarantee (q : Input) (p : Plan) (t : Lent) : Type 0 where
   -- "three times the plan's weight is at least the weight of every other set of executable 2- and 3-cycles sharing no pair", of "those whose cycles all
   -- weigh more than the floor"
   pub factor : (cs : List (List ℕ)) → ExchangeSetOf q cs → AboveFloor q cs → weightIn q cs ≤ q .scope .largest * p .weight
-  -- "No weightless edges" (document 02, W-209): no executable cycle is weightless
+  -- "No weightless edges" (document 02, W-209): no executable cycle of two or more pairs weighs 0
   pub noneWeightless : ExecutableWeighs q
   -- so with floor 0 the factor is against every such set, in demand 3's own words
   pub factor-all : q .floor ≡ 0 → (cs : List (List ℕ)) → ExchangeSetOf q cs → weightIn q cs ≤ q .scope .largest * p .weight
@@ -132,8 +132,8 @@ abbrev pub AnswersRightly : Type 0
 AnswersRightly = (r : Request) (t : Lent) → Answered r t (planning r t)
 
 -- of an M with 0 and 1 and no pair's own edge, and a W with no weightless edge, neither 10 nor 17 is told, whatever else is at fault
-abbrev pub SoundTablesPass : Type 0
-SoundTablesPass =
+abbrev pub SoundTablesPassTenAndSeventeen : Type 0
+SoundTablesPassTenAndSeventeen =
     (r : Request) (t : Lent)
     → Compatibility (r .scope .pairs) (r .compatibilities)
     → WeightyTables (r .scope .pairs) (r .compatibilities) (r .weights)
