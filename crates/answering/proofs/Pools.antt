@@ -23,9 +23,10 @@ use Rattle.weighing.specs.declared.Building.{Building}
 use Rattle.weighing.specs.declared.Building.the-variants.{Refused}
 use Rattle.exchange.specs.Subsets.{entry}
 use Rattle.exchange.specs.Input.{noFloor, input, inputOf, request}
-use Rattle.exchange.specs.Faultless.{Compatibility, WeightyTables}
+use Rattle.exchange.specs.Faultless.{Compatibility}
 use Rattle.answers.specs.Answering.{planBy, printedPlanOf}
 use Rattle.buffers.specs.Preconditions.{FaultlessTables}
+use Rattle.answers.proofs.Promised.{plannable-compatible, plannable-weighty}
 use Rattle.answers.proofs.Seated.{each-once, shuffle-seated}
 use Rattle.answering.specs.Preconditions.{Read}
 use Rattle.answering.proofs.Plans.{square-most, plan-agree}
@@ -76,12 +77,7 @@ module _ (v n : ℕ) (t : Tables) (p : Read v n t) (old : Graph) (room : (1600 �
   -- ## What is built is planned
 
   compatible : Compatibility n (new .compatibilities)
-  unfolding entry
-  compatible = let q = w .plannable surely in record { zeroOrOne = q .zeroOrOne; own = q .ownCompatibility }
-
-  weighty : WeightyTables n (new .compatibilities) (new .weights)
-  unfolding entry
-  weighty = w .plannable surely .noneWeightless
+  compatible = plannable-compatible _ n new (w .plannable surely)
 
   pub plannable : (1600 ≤ length (new .compatibilities)) × (1600 ≤ length (new .weights)) → FaultlessTables (request n noFloor (new .compatibilities) (new .weights) (take n (t .shuffle)))
   plannable h =
@@ -94,7 +90,7 @@ module _ (v n : ℕ) (t : Tables) (p : Read v n t) (old : Graph) (room : (1600 �
         shuffle = omega (arith, length-take-le n (t .shuffle) held);
         eachOnce = rw (taken n (t .shuffle) held) (each-once v _ n _ _ (p .faultless .pool));
         compatible = compatible;
-        weighty = weighty;
+        weighty = plannable-weighty _ n new (w .plannable surely);
       }
 
   -- its plan is the pool's

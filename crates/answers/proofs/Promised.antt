@@ -44,21 +44,22 @@ use Rattle.answers.specs.Promises.{PlannableIsPlanned, PlannablePassesTe
 use Rattle.answers.proofs.Seated.{shuffle-seated}
 
 module _ (q : Points) (n : ℕ) (g : Graph) (z : Plannable q n g) where
-  compatible : Compatibility n (g .compatibilities)
+  pub plannable-compatible : Compatibility n (g .compatibilities)
   unfolding entry
-  compatible = record { zeroOrOne = z .zeroOrOne; own = z .ownCompatibility }
+  plannable-compatible = record { zeroOrOne = z .zeroOrOne; own = z .ownCompatibility }
 
-  weighty : WeightyTables n (g .compatibilities) (g .weights)
+  pub plannable-weighty : WeightyTables n (g .compatibilities) (g .weights)
   unfolding entry
-  weighty = z .noneWeightless
+  plannable-weighty = z .noneWeightless
 
 pub plannable-is-planned : PlannableIsPlanned
 plannable-is-planned q n floor g s t few z low once long =
     answers-rightly (request n floor _ _ s) t .accepts
-    (record { few = few; low = low; long = long; eachOnce = once; compatible = compatible q n g z; weighty = weighty q n g z })
+    (record { few = few; low = low; long = long; eachOnce = once; compatible = plannable-compatible q n g z; weighty = plannable-weighty q n g z })
 
 pub plannable-passes-ten-and-seventeen : PlannablePassesTenAndSeventeen
-plannable-passes-ten-and-seventeen q n floor g s t z k place e = sound-tables-pass-ten-and-seventeen (request n floor _ _ s) t (compatible q n g z) (weighty q n g z) k place e
+plannable-passes-ten-and-seventeen q n floor g s t z k place e =
+    sound-tables-pass-ten-and-seventeen (request n floor _ _ s) t (plannable-compatible q n g z) (plannable-weighty q n g z) k place e
 
 pub built-is-planned : BuiltIsPlanned
 built-is-planned v n floor points f old g s t built left low once long =

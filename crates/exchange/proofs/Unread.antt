@@ -177,7 +177,7 @@ module _ (q : Scope) (f : ℕ) (M W W′ s : List ℕ) (t : Lent) where
           (total-agree n m m w v bits same there (plannedBy (inputWith f l n m v s)) (planned-below f l n m v s sh))
 
   module _ (e : length W ≡ length W′) where
-    -- every fault is looked for in the lengths of W but 17
+    -- but for 17, every fault goes by the length of W alone
     fault-agree : (tableFault n M then edgeFault n M W) ≡ (tableFault n M then edgeFault n M W′) → planFault (lends W) (lengthsOf t) ≡ planFault (lends W′) (lengthsOf t)
     unfolding planFault shortToRead
     fault-agree d = rw (e, d)
