@@ -67,6 +67,12 @@ def spellings():
     made = set()
     for file in sources():
         made |= set(re.findall(r'\b(?:tie|goal)\.([^\s(){}\[\].,;:]+)', file.read_text()))
+    # a name that some file has from the library keeps the library's spelling
+    for file in sources():
+        for path, items in re.findall(r'^(?:pub |unfoldable )*use ([^{\n]*)\{([^}]*)\}', file.read_text(), re.M):
+            own = re.match(r'Rattle\.(\w+)\.', path)
+            if not (own and (CRATES / own.group(1)).is_dir()):
+                made |= set(TOKEN.findall(items))
     known = {snake(w) for w in words} | LIBRARY
     names = {}
     for name, files in where.items():

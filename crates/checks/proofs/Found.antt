@@ -5,7 +5,7 @@ use mathlib.Core.List.{List}
 use Prim.Native.Nat.{ℕ, ◌≤◌, ◌<◌}
 use native.Mathlib.Nat.{le_refl}
 use native.Mathlib.Omega.{arith}
-use borrow.Author.Tests.{lt-ltb, le_ltb, ltb-false}
+use borrow.Author.Tests.{lt-ltb, le-ltb, ltb-false}
 use lib.Dec.{eqb, ltb}
 use lib.ListN.{length, get_or}
 use Rattle.laws.specs.Below.{any_below}
@@ -107,7 +107,7 @@ module _ (v n space : ℕ) (points : List ℕ) where
 
     module _ (few : n ≤ 200) (found : Verdict) (e : fault_at 0 found ≡ tables_fault v n space points) where
       after_many : before_fault v n space points ≡ (tables_fault v n space points then points_fault 0 (points_of v (item_in points)))
-      after_many = after_version ∙ none_then _ _ (none_refuse 4 0 _ (le_ltb 200 n few))
+      after_many = after_version ∙ none_then _ _ (none_refuse 4 0 _ (le-ltb 200 n few))
 
       pub before_tables : (why : Refusal) → found ≡ Faulty why → fault_at 0 (Faulty why) ≡ before_fault v n space points
       unfolding fault_at

@@ -6,7 +6,7 @@ use mathlib.Core.List.{List, [], ◌∷◌}
 use mathlib.Core.Path.{◌≡◌, ap, sym, ◌∙◌}
 use native.Mathlib.Omega.{arith}
 use native.Mathlib.Nat.{add-zero, zero-add}
-use borrow.Author.Tests.{eqb_true}
+use borrow.Author.Tests.{eqb-true}
 use lib.Dec.{eqb}
 use lib.ListN.{length, get_or}
 use Rattle.laws.proofs.Below.{and_true}
@@ -26,7 +26,7 @@ from : (t : List ℕ) (m : ℕ) → six_times m t ≡ true → (i : ℕ) → i <
 unfolding six_times
 from [] m e i h = absurd (omega arith)
 from (x ∷ t) m e zero h =
-    eqb_true (6 * x) (ordered m) (and_true (eqb (6 * x) (ordered m)) (six_times (suc m) t) e).0 ∙ ap (λ (k : ℕ). ordered k) (sym (add-zero m))
+    eqb-true (6 * x) (ordered m) (and_true (eqb (6 * x) (ordered m)) (six_times (suc m) t) e).0 ∙ ap (λ (k : ℕ). ordered k) (sym (add-zero m))
 from (x ∷ t) m e (suc i) h =
     from t (suc m) (and_true (eqb (6 * x) (ordered m)) (six_times (suc m) t) e).1 i (omega arith) ∙ ap (λ (k : ℕ). ordered k) (omega arith)
 

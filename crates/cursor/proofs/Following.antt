@@ -5,7 +5,7 @@ use mathlib.Core.List.{List, [], ◌∷◌}
 use mathlib.Core.Path.{◌≡◌, refl, sym, ap, ◌∙◌}
 use native.Mathlib.Omega.{arith}
 use native.Mathlib.Decide.{ℕ_discrete}
-use borrow.Author.Tests.{eq-eqb, eqb_true}
+use borrow.Author.Tests.{eq-eqb, eqb-true}
 use lib.Dec.{eqb}
 use lib.ListN.{length, get_or}
 use Rattle.exchange.specs.Subsets.{up_to_three, order, subset_count}
@@ -33,9 +33,9 @@ there_stands n p s e = go (eqb p.u (get_or s 0 n)) (eqb p.v (get_or s 1 n)) refl
     go : (a b : Bool) → eqb p.u (get_or s 0 n) ≡ a → eqb p.v (get_or s 1 n) ≡ b
         → cond a (cond b (eqb p.w (get_or s 2 n)) false) false ≡ true → p ≡ places (get_or s 0 n) (get_or s 1 n) (get_or s 2 n)
     go true true x y z =
-        let u = eqb_true p.u (get_or s 0 n) x in
-        let v = eqb_true p.v (get_or s 1 n) y in
-        let w = eqb_true p.w (get_or s 2 n) z in
+        let u = eqb-true p.u (get_or s 0 n) x in
+        let v = eqb-true p.v (get_or s 1 n) y in
+        let w = eqb-true p.w (get_or s 2 n) z in
         λ i. places (u i) (v i) (w i)
     go true false x y z = let k : ◌≡◌ {A = ℕ} 0 1 = cc in absurd (omega arith)
     go false b x y z = let k : ◌≡◌ {A = ℕ} 0 1 = cc in absurd (omega arith)

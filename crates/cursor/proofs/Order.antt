@@ -8,7 +8,7 @@ use lib.ListN.{length, get_or, get_or-eq_default}
 use native.Mathlib.Omega.{arith}
 use native.Mathlib.Numerals.{add-one, towards_suc}
 use native.Mathlib.Nat.{le_of_suc-le-suc, not-suc-le-zero}
-use borrow.Author.Tests.{eq-eqb, ne_eqb, lt-ltb, le_ltb}
+use borrow.Author.Tests.{eq-eqb, ne_eqb, lt-ltb, le-ltb}
 use Rattle.exchange.specs.Subsets.{up_to_three, order, subset_count, ascending, subsets}
 use Rattle.cursor.specs.Cursor.{OnSubset, places, places_of, places_at}
 use Rattle.cursor.specs.declared.Places.{Places}
@@ -33,11 +33,11 @@ module _ (n : ℕ) (p : Places) where
 
     pub two_over : n ≤ p.v + 1 → p.u + 2 < n → next_of n p ≡ places (p.u + 1) (p.u + 2) n
     unfolding next_of
-    two_over h k = simp (eq-eqb _ _ e, le_ltb _ _ h, lt-ltb _ _ k)
+    two_over h k = simp (eq-eqb _ _ e, le-ltb _ _ h, lt-ltb _ _ k)
 
     pub two_last : n ≤ p.v + 1 → n ≤ p.u + 2 → next_of n p ≡ places n n n
     unfolding next_of
-    two_last h k = simp (eq-eqb _ _ e, le_ltb _ _ h, le_ltb _ _ k)
+    two_last h k = simp (eq-eqb _ _ e, le-ltb _ _ h, le-ltb _ _ k)
 
   module _ (e : p.w ≡ n → ⊥) where
     pub third_more : p.w + 1 < n → next_of n p ≡ places p.u p.v (p.w + 1)
@@ -47,15 +47,15 @@ module _ (n : ℕ) (p : Places) where
     module _ (a : n ≤ p.w + 1) where
       pub second_more : p.v + 2 < n → next_of n p ≡ places p.u (p.v + 1) (p.v + 2)
       unfolding next_of
-      second_more h = simp (ne_eqb _ _ e, le_ltb _ _ a, lt-ltb _ _ h)
+      second_more h = simp (ne_eqb _ _ e, le-ltb _ _ a, lt-ltb _ _ h)
 
       pub first_more : n ≤ p.v + 2 → p.u + 3 < n → next_of n p ≡ places (p.u + 1) (p.u + 2) (p.u + 3)
       unfolding next_of
-      first_more b h = simp (ne_eqb _ _ e, le_ltb _ _ a, le_ltb _ _ b, lt-ltb _ _ h)
+      first_more b h = simp (ne_eqb _ _ e, le-ltb _ _ a, le-ltb _ _ b, lt-ltb _ _ h)
 
       pub to_twos : n ≤ p.v + 2 → n ≤ p.u + 3 → next_of n p ≡ places 0 1 n
       unfolding next_of
-      to_twos b h = simp (ne_eqb _ _ e, le_ltb _ _ a, le_ltb _ _ b, le_ltb _ _ h)
+      to_twos b h = simp (ne_eqb _ _ e, le-ltb _ _ a, le-ltb _ _ b, le-ltb _ _ h)
 
 -- ## The walk
 

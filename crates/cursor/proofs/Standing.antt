@@ -5,7 +5,7 @@ use mathlib.Core.Path.{◌≡◌, sym, ap, ◌∙◌}
 use native.Mathlib.Omega.{arith}
 use native.Mathlib.Nat.{le_refl}
 use native.Mathlib.Decide.{dec_lt}
-use borrow.Author.Tests.{lt-ltb, le_ltb}
+use borrow.Author.Tests.{lt-ltb, le-ltb}
 use lib.ListN.{get_or, get_or-eq_default}
 use Rattle.exchange.specs.Subsets.{up_to_three, order, subset_count}
 use Rattle.cursor.specs.Cursor.{OnSubset, places, places_of, places_at, below, subset_at}
@@ -18,7 +18,7 @@ below_on n p s h = rw (lt-ltb p n h)
 
 below_off : (n p : ℕ) (s : List ℕ) → n ≤ p → below n (p ∷ s) ≡ below n s
 unfolding below
-below_off n p s h = rw (le_ltb p n h)
+below_off n p s h = rw (le-ltb p n h)
 
 -- a cursor at a subset stands at that subset
 pub stands : (n : ℕ) (s : List ℕ) → Subset n s → subset_at n (places_of n s) ≡ s

@@ -7,7 +7,7 @@ use native.Mathlib.Omega.{arith}
 use native.Mathlib.Nat.{le_of_eq, le_trans}
 use native.Mathlib.Decide.{dec_lt}
 use lib.ListN.{length, get_or, length-append, length-map, get_or-map, get_or-eq_default}
-use borrow.Author.Tests.{lt-ltb, le_ltb}
+use borrow.Author.Tests.{lt-ltb, le-ltb}
 use Rattle.greedy.specs.Tally.{tally}
 use Rattle.greedy.specs.Promises.{first_at}
 use Rattle.greedy.proofs.Counts.{times, NoneTwice, AllBelow, Alike, one_same, split_at, times_append, alike_length}
@@ -199,7 +199,7 @@ module _ (l n : ℕ) (m w : ℕ → ℕ → ℕ) (s : List ℕ) where
   resolve_total [] = refl
   resolve_total (c ∷ cs) = elim (dec_lt c (length (subsets l n))) [
     | yes h ↦ rw (lt-ltb c (length (subsets l n)) h) (omega (arith, resolve_total cs, planned-weight c))
-    | no h ↦ let k : length (subsets l n) ≤ c = omega arith in rw (le_ltb c (length (subsets l n)) k) (omega (arith, resolve_total cs, past c k))
+    | no h ↦ let k : length (subsets l n) ≤ c = omega arith in rw (le-ltb c (length (subsets l n)) k) (omega (arith, resolve_total cs, past c k))
   ]
 
   resolve_credited : (cs : List ℕ) → credited m w (resolved m w s (subsets l n) cs) ≡ credit (subsets l n) (weights_of l n m w s) cs
@@ -207,7 +207,7 @@ module _ (l n : ℕ) (m w : ℕ → ℕ → ℕ) (s : List ℕ) where
   resolve_credited [] = refl
   resolve_credited (c ∷ cs) = elim (dec_lt c (length (subsets l n))) [
     | yes h ↦ rw (lt-ltb c (length (subsets l n)) h) (ap₂ ◌+◌ (ap₂ ◌*◌ (planned-weight c) (planned_size c)) (resolve_credited cs))
-    | no h ↦ let k : length (subsets l n) ≤ c = omega arith in rw (le_ltb c (length (subsets l n)) k, past c k) (omega (arith, resolve_credited cs))
+    | no h ↦ let k : length (subsets l n) ≤ c = omega arith in rw (le-ltb c (length (subsets l n)) k, past c k) (omega (arith, resolve_credited cs))
   ]
 
   module _ (sh : Invertible n s) where
@@ -226,7 +226,7 @@ module _ (l n : ℕ) (m w : ℕ → ℕ → ℕ) (s : List ℕ) where
         pairs_times n s sh (best_cycle m w s (get_or (subsets l n) c [])) (cycle-below c) a,
         best_cycle_alike m w s (get_or (subsets l n) c []) (first_at a s),
       ))
-      | no h ↦ let k : length (subsets l n) ≤ c = omega arith in rw (le_ltb c (length (subsets l n)) k) (omega (
+      | no h ↦ let k : length (subsets l n) ≤ c = omega arith in rw (le-ltb c (length (subsets l n)) k) (omega (
         arith,
         resolve_times cs a,
         times_append (first_at a s) (get_or (subsets l n) c []) (places (subsets l n) cs),

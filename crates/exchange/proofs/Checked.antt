@@ -6,7 +6,7 @@ use mathlib.Core.Path.{◌≡◌, refl, ap, ◌∙◌}
 use native.Mathlib.Omega.{arith}
 use lib.Dec.{eqb, ltb}
 use lib.ListN.{length}
-use borrow.Author.Tests.{ltb-true, ltb-false, le_ltb, eqb_true, eqb-false, eq-eqb, not-false}
+use borrow.Author.Tests.{ltb-true, ltb-false, le-ltb, eqb-true, eqb-false, eq-eqb, not-false}
 use Rattle.laws.specs.Below.{either, any_below}
 use Rattle.laws.proofs.Below.{true_false, and_true, and_never, either_false, any_none, none_any, any_found}
 use Rattle.refusal.specs.Fault.{Fault, none, fault, refuse, ◌then◌}
@@ -32,7 +32,7 @@ module _ (n : ℕ) (M : List ℕ) where
   unfolding row either
   no_row h =
       none_any n row
-      (λ i k. rw (none_any n (λ j. ltb 1 (entry M n i j)) (λ j q. le_ltb 1 (entry M n i j) (h.zero_or_one i j k q)), eq-eqb _ 0 (h.own i k)))
+      (λ i k. rw (none_any n (λ j. ltb 1 (entry M n i j)) (λ j q. le-ltb 1 (entry M n i j) (h.zero_or_one i j k q)), eq-eqb _ 0 (h.own i k)))
 
   table_none : Compatibility n M → table_fault n M ≡ none
   unfolding table_fault row
@@ -45,7 +45,7 @@ module _ (n : ℕ) (M : List ℕ) where
       any_none n _ (refuse_none 10 0 _ e) in
       record {
         zero_or_one = λ i j h k. ltb-false 1 (entry M n i j) (any_none n _ (either_false _ _ (rows i h)).0 j k);
-        own = λ i h. eqb_true _ 0 (not-false _ (either_false _ _ (rows i h)).1);
+        own = λ i h. eqb-true _ 0 (not-false _ (either_false _ _ (rows i h)).1);
       }
 
   table_fault_lem : (P : ℕ → ℕ → Type 0) → ((Compatibility n M → ⊥) → P 10 0) → (k o : ℕ) → table_fault n M ≡ fault k o → P k o
@@ -61,7 +61,7 @@ module _ (n : ℕ) (M : List ℕ) where
         none_refuse 17 0 _
         (none_any n (λ i. any_below n (weightless n M W i)) (λ i k. none_any n (weightless n M W i) (λ j q.
         and_never (eqb (entry M n i j) 1) (eqb (entry W n i j) 0) (λ there e.
-        omega (arith, h i j k q (eqb_true (entry M n i j) 1 there), eqb_true (entry W n i j) 0 e)))))
+        omega (arith, h i j k q (eqb-true (entry M n i j) 1 there), eqb-true (entry W n i j) 0 e)))))
 
     edge_passed : edge_fault n M W ≡ none → WeightyTables n M W
     unfolding edge_fault
@@ -76,7 +76,7 @@ module _ (n : ℕ) (M : List ℕ) where
         let row = any_found n _ e in
         let at = any_found n _ row.2 in
         let both = and_true _ _ at.2 in
-        seventeen row.0 at.0 row.1 at.1 (eqb_true _ 1 both.0) (eqb_true _ 0 both.1))
+        seventeen row.0 at.0 row.1 at.1 (eqb-true _ 1 both.0) (eqb-true _ 0 both.1))
 
     pub edge_seventeen : (WeightyTables n M W → ⊥) → edge_fault n M W ≡ fault 17 0
     edge_seventeen h = go (edge_fault n M W) refl
@@ -176,8 +176,8 @@ module _ (r : Request) (t : Lent) where
   none_planned : FaultlessInput r t → plan_fault r (lengths_of t) ≡ none
   unfolding plan_fault n M W to_read to_fill
   none_planned h =
-      none_then _ _ (none_refuse 4 0 _ (le_ltb 200 n h.few))
-      ∙ none_then _ _ (none_refuse 13 0 _ (le_ltb most_floor r.floor h.low))
+      none_then _ _ (none_refuse 4 0 _ (le-ltb 200 n h.few))
+      ∙ none_then _ _ (none_refuse 13 0 _ (le-ltb most_floor r.floor h.low))
       ∙ none_then _ _ (read_none h.long)
       ∙ none_then _ _ (fill_none h.long)
       ∙ none_then _ _ (shuffle_none 0 n _ h.each_once)

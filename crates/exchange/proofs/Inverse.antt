@@ -6,7 +6,7 @@ use mathlib.Core.Path.{◌≡◌, refl, sym, ap₂, ◌∙◌}
 use native.Mathlib.Omega.{arith}
 use lib.Dec.{eqb}
 use lib.ListN.{length, get_or}
-use borrow.Author.Tests.{eqb_true, eqb-false}
+use borrow.Author.Tests.{eqb-true, eqb-false}
 use Rattle.laws.proofs.Below.{once_below}
 use Rattle.pool.specs.Faultless.{EachOnce}
 use Rattle.greedy.specs.Promises.{first_at}
@@ -33,7 +33,7 @@ first_at_there a (x ∷ s) h = go (eqb a x) refl h (λ z. first_at_there a s z)
   where
     go : (b : Bool) → eqb a x ≡ b → cond b 0 (suc (first_at a s)) < length (x ∷ s) → (first_at a s < length s → get_or s (first_at a s) 0 ≡ a)
         → get_or (x ∷ s) (cond b 0 (suc (first_at a s))) 0 ≡ a
-    go true q h ih = sym (eqb_true a x q)
+    go true q h ih = sym (eqb-true a x q)
     go false q h ih = ih (omega arith)
 
 -- ---- each of n places holds one of n pairs, and each pair stands at one place

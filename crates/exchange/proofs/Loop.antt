@@ -7,7 +7,7 @@ use native.Mathlib.Omega.{arith}
 use native.Mathlib.Decide.{dec_lt}
 use lib.Dec.{eqb, ltb}
 use lib.ListN.{length, get_or, length-map, get_or-eq_default}
-use borrow.Author.Tests.{ltb-true, ltb-false, lt-ltb, le_ltb, eqb-false, eq-eqb, ne_eqb}
+use borrow.Author.Tests.{ltb-true, ltb-false, lt-ltb, le-ltb, eqb-false, eq-eqb, ne_eqb}
 use Rattle.laws.specs.Below.{either}
 use Rattle.greedy.specs.Places.{meets}
 use Rattle.greedy.specs.Rounds.{clear}
@@ -41,7 +41,7 @@ module _ (weight : List ℕ → ℕ) where
   -- line 7's test is that of the greatest weight
   above_greatest : (f : ℕ) (S : List (List ℕ)) → some_above f weight S ≡ ltb f (greatest (map weight S))
   unfolding some_above greatest either
-  above_greatest f [] = sym (le_ltb f 0 (omega arith))
+  above_greatest f [] = sym (le-ltb f 0 (omega arith))
   above_greatest f (s ∷ S) = go (ltb f (weight s)) refl (above_greatest f S)
     where
       go : (b : Bool) → ltb f (weight s) ≡ b → some_above f weight S ≡ ltb f (greatest (map weight S))
@@ -49,7 +49,7 @@ module _ (weight : List ℕ → ℕ) where
       go true e h = sym (lt-ltb f (max (weight s) (greatest (map weight S))) (omega (arith, ltb-true f (weight s) e)))
       go false e h = elim (dec_lt f (greatest (map weight S))) [
         | yes k ↦ h ∙ lt-ltb f (greatest (map weight S)) k ∙ sym (lt-ltb f (max (weight s) (greatest (map weight S))) (omega arith))
-        | no k ↦ h ∙ le_ltb f (greatest (map weight S)) (omega arith) ∙ sym (le_ltb f (max (weight s) (greatest (map weight S))) (omega (arith, ltb-false f (weight s) e)))
+        | no k ↦ h ∙ le-ltb f (greatest (map weight S)) (omega arith) ∙ sym (le-ltb f (max (weight s) (greatest (map weight S))) (omega (arith, ltb-false f (weight s) e)))
       ]
 
   -- the first of weight g
@@ -226,7 +226,7 @@ chosen_one ss c cs h = rw (lt-ltb c (length ss) h)
 
 chosen_none : (ss : List (List ℕ)) (cs : List ℕ) → chosen_of ss (length ss ∷ cs) ≡ chosen_of ss cs
 unfolding chosen_of
-chosen_none ss cs = rw (le_ltb (length ss) (length ss) (omega arith))
+chosen_none ss cs = rw (le-ltb (length ss) (length ss) (omega arith))
 
 greatest_some : (ws : List ℕ) → 0 < greatest ws → 0 < length ws
 unfolding greatest
@@ -260,7 +260,7 @@ module _ (f : ℕ) (weight : List ℕ → ℕ) (ss : List (List ℕ)) where
 
     none_number : greatest (zeroed weight live ss) ≤ f → choice f ss (zeroed weight live ss) ≡ length ss
     unfolding choice
-    none_number h = rw (le_ltb f (greatest (zeroed weight live ss)) h)
+    none_number h = rw (le-ltb f (greatest (zeroed weight live ss)) h)
 
     -- a round that chooses none clears nothing
     none_clears : greatest (zeroed weight live ss) ≤ f
@@ -321,7 +321,7 @@ module _ (f : ℕ) (weight : List ℕ → ℕ) (ss : List (List ℕ)) where
 
   agrees : (r k : ℕ) (live : List ℕ → Bool) → Agrees r live k
   unfolding Agrees picks cleared chosen_of
-  agrees zero k live = λ q l e. sym (quiet_loop k f weight (keep live ss) (above_is live ∙ le_ltb f (greatest (zeroed weight live ss)) q))
+  agrees zero k live = λ q l e. sym (quiet_loop k f weight (keep live ss) (above_is live ∙ le-ltb f (greatest (zeroed weight live ss)) q))
   agrees (suc r) k live = go (dec_lt f (greatest (zeroed weight live ss))) (λ next j. agrees r j next)
     where
       go : Dec (f < greatest (zeroed weight live ss)) → ((next : List ℕ → Bool) (j : ℕ) → Agrees r next j) → Agrees (suc r) live k

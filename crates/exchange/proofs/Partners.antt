@@ -11,7 +11,7 @@ use native.Mathlib.Decide.{dec_lt}
 use lib.Dec.{eqb, ltb}
 use lib.ListN.{length, get_or, length-append, length-map, get_or-append}
 use lib.Seq.{get_or_at}
-use borrow.Author.Tests.{lt-ltb, le_ltb, eq-eqb, ne_eqb, leb-true, le-leb, lt-leb}
+use borrow.Author.Tests.{lt-ltb, le-ltb, eq-eqb, ne_eqb, leb-true, le-leb, lt-leb}
 use Rattle.laws.specs.Below.{ExactlyOne}
 use Rattle.greedy.specs.Places.{among}
 use Rattle.greedy.proofs.Counts.{times, NoneTwice, AllBelow, Alike, one_eq, same, other, same?, times_append, times_cons, among_times}
@@ -199,14 +199,14 @@ edge_at : (c : List ℕ) (k : ℕ) → k < length c → Memᴰ (edge (get_or c k
 unfolding next
 edge_at c k h = elim (dec_lt (suc k) (length c)) [
   | yes z ↦ rw (lt-ltb (suc k) (length c) z) (edge-next c k z)
-  | no z ↦ rw (le_ltb (suc k) (length c) (omega arith)) (edge_last c k (omega arith))
+  | no z ↦ rw (le-ltb (suc k) (length c) (omega arith)) (edge_last c k (omega arith))
 ]
 
 next-below : (size k : ℕ) → k < size → next size k < size
 unfolding next
 next-below size k h = elim (dec_lt (suc k) size) [
   | yes z ↦ rw (lt-ltb (suc k) size z) z
-  | no z ↦ rw (le_ltb (suc k) size (omega arith)) (omega arith)
+  | no z ↦ rw (le-ltb (suc k) size (omega arith)) (omega arith)
 ]
 
 -- and each edge of a cycle goes from a place to the next
@@ -233,7 +233,7 @@ edge_place (a ∷ c) e m =
     closing : (k : ℕ) → k < length (a ∷ c) → get_or (a ∷ c) (cond (ltb (suc k) (length (a ∷ c))) (suc k) 0) 0 ≡ get_or (a ∷ c ++ (a ∷ [])) (suc k) 0
     closing k h = elim (dec_lt (suc k) (length (a ∷ c))) [
       | yes z ↦ rw (lt-ltb (suc k) (length (a ∷ c)) z) (sym (get_or-append (a ∷ c) (a ∷ []) 0 (suc k) z))
-      | no z ↦ rw (le_ltb (suc k) (length (a ∷ c)) (omega arith)) (sym (get_or_at (a ∷ c) a [] 0 (suc k) (omega arith)))
+      | no z ↦ rw (le-ltb (suc k) (length (a ∷ c)) (omega arith)) (sym (get_or_at (a ∷ c) a [] 0 (suc k) (omega arith)))
     ]
 
 mem_all : (e : Edge) (c : List ℕ) (cs : List (List ℕ)) → Memᴰ c cs → Memᴰ e (edges c) → Memᴰ e (flat_map edges cs)

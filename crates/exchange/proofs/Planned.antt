@@ -7,7 +7,7 @@ use mathlib.Core.Path.{◌≡◌}
 use native.Mathlib.Omega.{arith}
 use native.Mathlib.Decide.{dec_lt}
 use lib.ListN.{length, get_or}
-use borrow.Author.Tests.{lt-ltb, le_ltb}
+use borrow.Author.Tests.{lt-ltb, le-ltb}
 use Rattle.greedy.specs.Tally.{tally}
 use Rattle.greedy.proofs.Counts.{times, NoneTwice, AllBelow, one_same}
 use Rattle.greedy.proofs.Bound.{chosen_above}
@@ -47,7 +47,7 @@ module _ (f l n : ℕ) (m w : ℕ → ℕ → ℕ) (s : List ℕ) (sh : Invertib
           },
           ih,
         )
-        | no k ↦ let q : length (subsets l n) ≤ c = omega arith in rw (le_ltb c (length (subsets l n)) q) ih
+        | no k ↦ let q : length (subsets l n) ≤ c = omega arith in rw (le-ltb c (length (subsets l n)) q) ih
       ]
 
   planned_above : Each (Rival f l n m w) (planned_by (input_with f l n m w s))

@@ -8,7 +8,7 @@ use native.Mathlib.Omega.{arith}
 use native.Mathlib.Nat.{eq-zero-or-pos, zero-mul}
 use lib.Dec.{eqb, ltb}
 use lib.ListN.{length, get_or}
-use borrow.Author.Tests.{eqb_true}
+use borrow.Author.Tests.{eqb-true}
 use Rattle.laws.specs.Below.{any_below}
 use Rattle.laws.specs.Lent.{filled}
 use Rattle.laws.proofs.Below.{any_cong}
@@ -188,7 +188,7 @@ module _ (q : Scope) (f : ℕ) (M W W' s : List ℕ) (t : Lent) where
         (λ i a. any_cong n (weightless n M W i) (weightless n M W' i) (λ j b. one_agree i j (agree i j a b) (eqb (m i j) 1) refl)))
       where
         one_agree : (i j : ℕ) → (m i j ≡ 1 → w i j ≡ v i j) → (there : Bool) → eqb (m i j) 1 ≡ there → weightless n M W i j ≡ weightless n M W' i j
-        one_agree i j h true d = ap (λ (x : ℕ). eqb (m i j) 1 && eqb x 0) (h (eqb_true (m i j) 1 d))
+        one_agree i j h true d = ap (λ (x : ℕ). eqb (m i j) 1 && eqb x 0) (h (eqb-true (m i j) 1 d))
         one_agree i j h false d = rw d
 
     absent : ((i j : ℕ) → i < n → j < n → m i j ≡ 1 → w i j ≡ v i j) → planning (lends W) t ≡ planning (lends W') t

@@ -3,7 +3,7 @@ use mathlib.Core.Path.{◌≡◌}
 use mathlib.Core.Bool.{true, false}
 use mathlib.Core.List.{List}
 use Prim.Native.Nat.{ℕ, ◌+◌, ◌≤◌, ◌<◌}
-use borrow.Author.Tests.{lt-ltb, le_ltb, eq-eqb, ne_eqb}
+use borrow.Author.Tests.{lt-ltb, le-ltb, eq-eqb, ne_eqb}
 use lib.ListN.{length}
 use Rattle.laws.specs.Digits.{big_endian}
 use Rattle.refusal.specs.Fault.{none, fault, refuse, ◌then◌}
@@ -21,16 +21,16 @@ module _ (b : List ℕ) (o tag len : ℕ) where
   module _ (l : o + start_length ≤ length b) where
     pub other_tag : (big_endian 1 b o ≡ tag → ⊥) → field_fault b o tag len ≡ fault 2 o
     unfolding field_fault refuse ◌then◌
-    other_tag t = simp (le_ltb _ _ l, ne_eqb _ _ t)
+    other_tag t = simp (le-ltb _ _ l, ne_eqb _ _ t)
 
     module _ (t : big_endian 1 b o ≡ tag) where
       pub other_length : (big_endian 2 b (o + 1) ≡ len → ⊥) → field_fault b o tag len ≡ fault 2 o
       unfolding field_fault refuse ◌then◌
-      other_length s = simp (le_ltb _ _ l, eq-eqb _ _ t, ne_eqb _ _ s)
+      other_length s = simp (le-ltb _ _ l, eq-eqb _ _ t, ne_eqb _ _ s)
 
       pub no_value : big_endian 2 b (o + 1) ≡ len → length b < o + start_length + len → field_fault b o tag len ≡ fault 1 o
       unfolding field_fault refuse ◌then◌
-      no_value s v = simp (le_ltb _ _ l, eq-eqb _ _ t, eq-eqb _ _ s, lt-ltb _ _ v)
+      no_value s v = simp (le-ltb _ _ l, eq-eqb _ _ t, eq-eqb _ _ s, lt-ltb _ _ v)
 
 -- ## The head: its field, then 3 and 4
 
@@ -46,4 +46,4 @@ module _ (b : List ℕ) (f : field_fault b 0 head_tag head_length ≡ none) wher
 
     pub head_none : pairs_in b ≤ 200 → head_fault b ≡ none
     unfolding head_fault version_fault refuse ◌then◌
-    head_none l = simp (f, v, le_ltb _ _ l)
+    head_none l = simp (f, v, le-ltb _ _ l)

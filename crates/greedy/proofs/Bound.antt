@@ -10,7 +10,7 @@ use native.Mathlib.Nat.{mul-le-mul_left, mul-le-mul_right, eq-zero-or-pos, le_of
 use native.Mathlib.Decide.{dec_le}
 use lib.Dec.{ltb}
 use lib.ListN.{length, get_or, length-append, get_or-eq_default}
-use borrow.Author.Tests.{ltb-true, ltb-false, le_ltb, le-leb, lt-leb}
+use borrow.Author.Tests.{ltb-true, ltb-false, le-ltb, le-leb, lt-leb}
 use Rattle.greedy.proofs.Counts.{times, shared, NoneTwice, AllBelow, Same, same, other, same?, times_append, shared_nil, shared_append, shared_join, shared_once, shared_both, shared_alike, shared_sym, meets_shared, Alike, pigeon}
 use Rattle.greedy.specs.Places.{meets}
 use Rattle.greedy.specs.Tally.{Tally, next_round}
@@ -22,7 +22,7 @@ use Rattle.greedy.proofs.Choosing.{First, greatest_first, choosing_number}
 
 pub choice_is : ChoiceIsLowest
 unfolding choice greatest
-choice_is f ss [] = rw (le_ltb f 0 (omega arith)) (none refl (λ i. omega arith))
+choice_is f ss [] = rw (le-ltb f 0 (omega arith)) (none refl (λ i. omega arith))
 choice_is f ss (x ∷ ws) = go (ltb f (greatest (x ∷ ws))) refl (greatest_first (x ∷ ws) (omega arith))
   where
     go : (b : Bool) → ltb f (greatest (x ∷ ws)) ≡ b → First (x ∷ ws) (greatest (x ∷ ws)) (first_at (greatest (x ∷ ws)) (x ∷ ws))

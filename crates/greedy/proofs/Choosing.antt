@@ -9,7 +9,7 @@ use native.Mathlib.Decide.{dec_lt}
 use lib.Dec.{ltb}
 use lib.ListN.{length, get_or, take, drop, length-append, length-drop, take-append-drop, get_or-append}
 use lib.Seq.{get_or-append-add, length-take-le}
-use borrow.Author.Tests.{ltb-true, ltb-false, eq-eqb, ne_eqb, le_ltb}
+use borrow.Author.Tests.{ltb-true, ltb-false, eq-eqb, ne_eqb, le-ltb}
 use Rattle.greedy.specs.Tally.{Tally, raise}
 use Rattle.greedy.specs.Promises.{first_at, HalvesGiveTheChoice, greatest, choice}
 use Rattle.greedy.specs.Rounds.{Winner, winner, join, by_halves, choosing}
@@ -186,7 +186,7 @@ greatest_first xs h = let r = halves_won (length xs) 0 xs (record { comparisons 
 
 pub choosing_number : HalvesGiveTheChoice
 unfolding choosing choice by_halves greatest first_at
-choosing_number f ss [] t = rw (le_ltb f 0 (omega arith))
+choosing_number f ss [] t = rw (le-ltb f 0 (omega arith))
 choosing_number f ss (x ∷ ws) t = go (by_halves (length (x ∷ ws)) 0 (x ∷ ws) t) (halves_won (length (x ∷ ws)) 0 (x ∷ ws) t (omega arith) (omega arith))
   where
     go : (b : Winner) → Won (x ∷ ws) 0 t b

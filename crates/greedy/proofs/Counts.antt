@@ -9,7 +9,7 @@ use native.Mathlib.Omega.{arith}
 use native.Mathlib.Decide.{dec_le}
 use lib.Dec.{leb, eqb}
 use lib.ListN.{length}
-use borrow.Author.Tests.{eqb_true, eqb-false, eq-eqb, leb-true, leb-false, le-leb}
+use borrow.Author.Tests.{eqb-true, eqb-false, eq-eqb, leb-true, leb-false, le-leb}
 use Rattle.laws.specs.Below.{either, one}
 use Rattle.greedy.specs.Places.{among, meets}
 
@@ -53,7 +53,7 @@ unfolding one
 same? p x = go (eqb p x) refl
   where
     go : (b : Bool) → eqb p x ≡ b → Same p x
-    go true e = same (eqb_true p x e) (rw e)
+    go true e = same (eqb-true p x e) (rw e)
     go false e = other (eqb-false p x e) (rw e)
 
 pub times_cons : (p x : ℕ) (l : List ℕ) → times p (x ∷ l) ≡ one (eqb p x) + times p l

@@ -5,7 +5,7 @@ use mathlib.Core.List.{List, [], ◌∷◌, Memᴰ}
 use mathlib.Core.Path.{◌≡◌, refl}
 use native.Mathlib.Omega.{arith}
 use lib.Dec.{eqb}
-use borrow.Author.Tests.{eqb_true, eq-eqb}
+use borrow.Author.Tests.{eqb-true, eq-eqb}
 use Rattle.laws.specs.Below.{either}
 use Rattle.laws.proofs.Below.{either_true}
 use Rattle.greedy.specs.Places.{among, meets}
@@ -17,7 +17,7 @@ among_stands p [] e = let z : ◌≡◌ {A = ℕ} 0 1 = cc in absurd (omega arit
 among_stands p (q ∷ s) e = go (eqb p q) refl e (λ k. among_stands p s k)
   where
     go : (b : Bool) → eqb p q ≡ b → either b (among p s) ≡ true → (among p s ≡ true → Memᴰ p s) → Memᴰ p (q ∷ s)
-    go true d e ih = Memᴰ.head (eqb_true p q d)
+    go true d e ih = Memᴰ.head (eqb-true p q d)
     go false d e ih = Memᴰ.tail (ih e)
 
 stands_among : (p : ℕ) (s : List ℕ) → Memᴰ p s → among p s ≡ true

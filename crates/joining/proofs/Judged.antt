@@ -3,7 +3,7 @@ use Prim.Native.Nat.{ℕ, ◌+◌, ◌≤◌, ◌<◌}
 use mathlib.Core.Path.{◌≡◌, sym, ap, ◌∙◌}
 use mathlib.Core.Bool.{Bool, true, false, not}
 use mathlib.Core.List.{List}
-use borrow.Author.Tests.{lt-ltb, le_ltb, eq-eqb, ne_eqb}
+use borrow.Author.Tests.{lt-ltb, le-ltb, eq-eqb, ne_eqb}
 use lib.Dec.{eqb, ltb}
 use Rattle.refusal.specs.Fault.{none, fault, refuse, ◌then◌}
 use Rattle.refusal.specs.Number.{fault_at}
@@ -76,7 +76,7 @@ module _ (a b : List ℕ) (space : ℕ) (found : Verdict) (f : fault_at 0 found 
 
     module _ (l : n + m ≤ 200) where
       past_many : both_fault a b space ≡ room_fault space (sheet_length (version_in a) (n + m))
-      past_many = past_shared ∙ none_then _ _ (none_refuse 12 0 _ (le_ltb 200 _ l))
+      past_many = past_shared ∙ none_then _ _ (none_refuse 12 0 _ (le-ltb 200 _ l))
 
       pub both_short : space < sheet_length (version_in a) (n + m) → fault_at 0 (Faulty TooShort) ≡ both_fault a b space
       unfolding fault_at room_fault
@@ -84,7 +84,7 @@ module _ (a b : List ℕ) (space : ℕ) (found : Verdict) (f : fault_at 0 found 
 
       pub both_sound : sheet_length (version_in a) (n + m) ≤ space → fault_at 0 Sound ≡ both_fault a b space
       unfolding fault_at room_fault
-      both_sound s = sym (past_many ∙ none_refuse 9 0 _ (le_ltb space _ s))
+      both_sound s = sym (past_many ∙ none_refuse 9 0 _ (le-ltb space _ s))
 
 -- ## The first sheet's own, the second's own, those of both
 

@@ -2,7 +2,7 @@
 use mathlib.Core.Path.{◌≡◌, sym, ◌∙◌}
 use mathlib.Core.List.{List}
 use Prim.Native.Nat.{ℕ, ◌*◌, ◌≤◌, ◌<◌}
-use borrow.Author.Tests.{lt-ltb, le_ltb}
+use borrow.Author.Tests.{lt-ltb, le-ltb}
 use Rattle.refusal.specs.Fault.{◌then◌}
 use Rattle.refusal.specs.Number.{fault_at}
 use Rattle.refusal.specs.declared.Refusal.{Refusal}
@@ -42,7 +42,7 @@ module _ (n space compatibilities weights : ℕ) (points : List ℕ) where
   module _ (few : n ≤ 200) (found : Verdict) (e : fault_at 0 found ≡ tables_fault live_version n space points) where
     after_many : sizes_fault n space compatibilities weights points ≡ (tables_fault live_version n space points then graph_fault n compatibilities weights)
     unfolding sizes_fault
-    after_many = none_then _ _ (none_refuse 4 0 _ (le_ltb 200 n few))
+    after_many = none_then _ _ (none_refuse 4 0 _ (le-ltb 200 n few))
 
     pub sizes_tables : (why : Refusal) → found ≡ Faulty why → fault_at 0 (Faulty why) ≡ sizes_fault n space compatibilities weights points
     unfolding fault_at

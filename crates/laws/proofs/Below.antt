@@ -8,7 +8,7 @@ use native.Mathlib.Nat.{add-zero, add-suc}
 use native.Mathlib.Numerals.{add-one}
 use native.Mathlib.Omega.{arith}
 use native.Mathlib.Decide.{dec_lt}
-use borrow.Author.Tests.{eqb_true, eqb-false, eq-eqb, ne_eqb, ltb-true, lt-ltb, le_ltb}
+use borrow.Author.Tests.{eqb-true, eqb-false, eq-eqb, ne_eqb, ltb-true, lt-ltb, le-ltb}
 use lib.Dec.{eqb, ltb}
 use lib.ListN.{length, get_or, length-append, get_or-append}
 use lib.Seq.{get_or_at, get_or-append-add, ext_get_or}
@@ -204,7 +204,7 @@ module _ (f : ℕ → ℕ) (v : ℕ) where
           record {
             at = n;
             below = omega arith;
-            there = eqb_true (f n) v h;
+            there = eqb-true (f n) v h;
             only =
                 below_suc {P = λ i. f i ≡ v → i ≡ n} n
                 (λ i l g. absurd (eqb-false (f i) v (none_count n (λ j. eqb (f j) v) z i l) g))
@@ -227,11 +227,11 @@ module _ (n : ℕ) (f : ℕ → ℕ) where
     where
       go : Dec (f i < m) → Dec (m < f i) → one (ltb (f i) (suc m)) ≡ one (ltb (f i) m) + one (eqb (f i) m)
       go (yes k) w = rw (lt-ltb (f i) (suc m) (omega arith), lt-ltb (f i) m k, ne_eqb (f i) m (λ e. omega arith))
-      go (no k) (yes l) = rw (le_ltb (f i) (suc m) (omega arith), le_ltb (f i) m (omega arith), ne_eqb (f i) m (λ e. omega arith))
-      go (no k) (no l) = rw (lt-ltb (f i) (suc m) (omega arith), le_ltb (f i) m (omega arith), eq-eqb (f i) m (omega arith))
+      go (no k) (yes l) = rw (le-ltb (f i) (suc m) (omega arith), le-ltb (f i) m (omega arith), ne_eqb (f i) m (λ e. omega arith))
+      go (no k) (no l) = rw (lt-ltb (f i) (suc m) (omega arith), le-ltb (f i) m (omega arith), eq-eqb (f i) m (omega arith))
 
   count_below_lem : (m : ℕ) → ((v : ℕ) → v < m → count_below n (λ j. eqb (f j) v) ≡ 1) → count_below n (λ j. ltb (f j) m) ≡ m
-  count_below_lem zero h = count_none n (λ j. ltb (f j) 0) (λ i l. le_ltb (f i) 0 (omega arith))
+  count_below_lem zero h = count_none n (λ j. ltb (f j) 0) (λ i l. le-ltb (f i) 0 (omega arith))
   count_below_lem (suc m) h =
       omega (
         arith,

@@ -12,7 +12,7 @@ pub use native.Mathlib.Omega.{arith}
 pub use lib.ListN.{length, get_or, set, length-set}
 pub use lib.WfN.{lt-wf_rel as Nat·lt-wfRel}
 pub use lib.Dec.{T as Holds, lit<}
-pub use borrow.Author.Tests.{lt-ltb, le_ltb}
+pub use borrow.Author.Tests.{lt-ltb, le-ltb}
 pub use seplogic.Ra.Ura.{Ura}
 pub use seplogic.Ra.TreeShare.{full_share}
 pub use mir.Syntax.{named, ty_unit, ty_bool, ty_ptr, w8, w16, w32, w64}

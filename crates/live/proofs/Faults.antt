@@ -5,7 +5,7 @@ use mathlib.Core.List.{List}
 use Prim.Native.Nat.{ℕ, ◌+◌, ◌*◌, ◌≤◌, ◌<◌, min}
 use native.Mathlib.Nat.{le_refl, le_trans, min-le_left, min-le_right, le-min}
 use native.Mathlib.Omega.{arith}
-use borrow.Author.Tests.{le_ltb, ltb-true, ltb-false, eqb_true, eqb-false, ne_eqb, eq-eqb, not-true, not-false}
+use borrow.Author.Tests.{le-ltb, ltb-true, ltb-false, eqb-true, eqb-false, ne_eqb, eq-eqb, not-true, not-false}
 use lib.Dec.{eqb}
 use lib.ListN.{length}
 use Rattle.laws.specs.Below.{any_below, Some}
@@ -127,7 +127,7 @@ module _ (l : Live) where
 
   numbers_passed : numbers ≡ none → TrueNumbers l
   unfolding numbers_fault
-  numbers_passed e j k = number_true n M j _ (eqb_true _ _ (not-false _ (refuse_none _ _ _ (first_none n number e j k))))
+  numbers_passed e j k = number_true n M j _ (eqb-true _ _ (not-false _ (refuse_none _ _ _ (first_none n number e j k))))
 
   numbers_fault_lem : (P : ℕ → ℕ → Type 0) → (Some n (λ j. TrueNumber l j → ⊥) → P 10 0) → (k o : ℕ) → numbers ≡ fault k o → P k o
   unfolding numbers_fault
@@ -140,7 +140,7 @@ module _ (l : Live) where
   sizes_none : l.count ≤ 200 → TablesKeep l → sizes_fault n (pair_room l) m w l.points ≡ none
   unfolding sizes_fault point_count has_points
   sizes_none few k =
-      none_then _ _ (none_refuse 4 0 _ (le_ltb 200 n few))
+      none_then _ _ (none_refuse 4 0 _ (le-ltb 200 n few))
       ∙ none_then _ _ (tables_none live_version n (pair_room l) l.points (hold_pairs n k.fields k.suitable) k.points)
       ∙ graph_none n m w k.graph.compatibilities k.graph.weights
 
@@ -232,7 +232,7 @@ module _ (p : Pair) (l : Live) where
   like_fault_lem P seven =
       by_then P _ _ (by_first P (n l) (id_fault 0 id) (λ i k _. id_fault_lem 0 id i P (λ j h e. seven (λ u. u.stored i j h k e))))
       (λ _. by_refuse P 7 0 _
-      (λ e. let f = any_found (n l) (λ j. eqb (id j) p.id) e in seven (λ u. u.new f.0 f.1 (eqb_true _ _ f.2))))
+      (λ e. let f = any_found (n l) (λ j. eqb (id j) p.id) e in seven (λ u. u.new f.0 f.1 (eqb-true _ _ f.2))))
 
   more_none : l.count < 200 → OneMoreFits l → more_fault (n l) (pair_room l) (m l) (w l) ≡ none
   unfolding more_fault
@@ -259,7 +259,7 @@ module _ (p : Pair) (l : Live) where
       → more_fault (n l) (pair_room l) (m l) (w l) ≡ fault k o → P k o
   unfolding more_fault
   more_fault_lem few P twelve nine =
-      by_then P _ _ (by_refuse P 12 0 _ (λ e. twelve (eqb_true _ _ e)))
+      by_then P _ _ (by_refuse P 12 0 _ (λ e. twelve (eqb-true _ _ e)))
       (λ a. let not200 : n l ≡ 200 → ⊥ = eqb-false _ _ (refuse_none _ _ _ a) in
       let less : n l < 200 = omega (arith, few, not200) in
       by_then P _ _ (room_fault_lem P _ _ (λ short. nine less (λ h. omega (arith, short, hold_pairs l (n l + 1) h.fields h.suitable))))
@@ -316,7 +316,7 @@ module _ (x : ℕ) (l : Live) where
       let s = then_none _ _ e in
       let kept : kept_fault l ≡ none = s.0 in
       let f = any_found (n l) (λ j. eqb (here j) x) (not-false _ (refuse_none _ _ _ s.1)) in
-      record { kept = kept_passed l kept; there = record { at = f.0; below = f.1; there = eqb_true _ _ f.2 } }
+      record { kept = kept_passed l kept; there = record { at = f.0; below = f.1; there = eqb-true _ _ f.2 } }
 
   pub withdraw_fault_lem : (k o : ℕ) → withdraw_fault x l ≡ fault k o → (o ≡ 0) × WithdrawFault x l k
   unfolding withdraw_fault

@@ -8,7 +8,7 @@ use native.Mathlib.Nat.{add-zero}
 use native.Mathlib.Numerals.{add-one}
 use native.Mathlib.Omega.{arith}
 use native.Mathlib.Decide.{dec_lt}
-use borrow.Author.Tests.{eqb_true, eq-eqb}
+use borrow.Author.Tests.{eqb-true, eq-eqb}
 use lib.Dec.{eqb}
 use lib.ListN.{length}
 use Rattle.laws.specs.Below.{count_below, one}
@@ -98,7 +98,7 @@ module _ (n : ℕ) (m : List ℕ) (j : ℕ) where
 
   so_many_ones : HowMany AOne n (ones_in n m j)
   unfolding ones_in
-  so_many_ones = how_many_lem AOne (λ i. eqb (item_in m (i * n + j)) 1) n (λ i _. (eqb_true _ _, eq-eqb _ _))
+  so_many_ones = how_many_lem AOne (λ i. eqb (item_in m (i * n + j)) 1) n (λ i _. (eqb-true _ _, eq-eqb _ _))
 
   pub number_true : (x : ℕ) → x ≡ ones_in n m j → HowMany AOne n x
   number_true x e = subst (HowMany AOne n) (sym e) so_many_ones

@@ -7,7 +7,7 @@ use native.Mathlib.Nat.{mod-lt, div-lt_iff_lt-mul, mul-le-mul}
 use native.Mathlib.Numerals.{add-one}
 use native.Mathlib.Omega.{arith}
 use native.Mathlib.Decide.{dec_lt}
-use borrow.Author.Tests.{lt-ltb, le_ltb, eqb_true, eq-eqb, ne_eqb}
+use borrow.Author.Tests.{lt-ltb, le-ltb, eqb-true, eq-eqb, ne_eqb}
 use lib.Dec.{eqb}
 use lib.ListN.{length, drop, length-set}
 use lib.Seq.{get_or-set_same, get_or-set_other, get_or-append-add, get_or-drop, drop-append_seam}
@@ -176,7 +176,7 @@ place_found (suc n) id x e = go (place_found n id x) (any_below n (λ j. eqb (id
         rw (h, k)
         (record {
           below = omega arith;
-          there = eqb_true (id n) x k;
+          there = eqb-true (id n) x k;
           first = λ j l e. true_false (eq-eqb (id j) x e) (any_none n (λ j. eqb (id j) x) h j l);
         })
     go r false h false k f = true_false f refl
@@ -190,7 +190,7 @@ module _ (a : ℕ) where
 
   pub up_from : (i : ℕ) → a ≤ i → up a i ≡ i + 1
   unfolding up
-  up_from i l = rw (le_ltb i a l)
+  up_from i l = rw (le-ltb i a l)
 
   pub up_least : (i : ℕ) → i ≤ up a i
   up_least i = go (dec_lt i a)

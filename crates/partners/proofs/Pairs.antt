@@ -5,7 +5,7 @@ use mathlib.Core.Bool.{Bool, cond}
 use mathlib.Core.List.{List}
 use Prim.Native.Nat.{ℕ, ◌+◌, ◌≤◌, ◌<◌}
 use native.Mathlib.Omega.{arith}
-use borrow.Author.Tests.{lt-ltb, le_ltb}
+use borrow.Author.Tests.{lt-ltb, le-ltb}
 use lib.ListN.{length, get_or, set, length-set}
 use Rattle.text.specs.Text.{newline, space, bytes_of, decimal, following}
 use Rattle.partners.specs.Pairs.{partner, pair_line}
@@ -22,7 +22,7 @@ module _ (n : ℕ) (ids : List ℕ) (who : ℕ) where
 
   pub partner_none : n ≤ who → partner n ids who ≡ bytes_of "-"
   unfolding partner
-  partner_none l = ap (λ (t : Bool). cond t (decimal (get_or ids who 0)) (bytes_of "-")) (le_ltb who n l)
+  partner_none l = ap (λ (t : Bool). cond t (decimal (get_or ids who 0)) (bytes_of "-")) (le-ltb who n l)
 
 -- a space and a dash
 pub put_dash : (at : ℕ) (old : List ℕ) → at + 1 < length old → Put at (following (bytes_of "-")) old (set (set old at space) (at + 1) (code "-")) (at + 2)

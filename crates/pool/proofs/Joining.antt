@@ -4,7 +4,7 @@ use mathlib.Core.Bool.{Bool, not}
 use mathlib.Core.List.{List}
 use Prim.Native.Nat.{ℕ, ◌≤◌}
 use native.Mathlib.Omega.{arith}
-use borrow.Author.Tests.{le_ltb, ltb-true, ltb-false, eq-eqb, ne_eqb, eqb_true, eqb-false, not-false}
+use borrow.Author.Tests.{le-ltb, ltb-true, ltb-false, eq-eqb, ne_eqb, eqb-true, eqb-false, not-false}
 use lib.Dec.{eqb, ltb}
 use lib.ListN.{length, take, drop}
 use lib.Seq.{drop_at}
@@ -49,10 +49,10 @@ module _ (a b : List ℕ) where
   differ_passed e =
       let s = then_none _ _ e in
       record {
-        version = eqb_true _ _ (not-false _ (refuse_none _ _ _ s.0));
+        version = eqb-true _ _ (not-false _ (refuse_none _ _ _ s.0));
         points =
             λ second k l.
-            eqb_true _ _
+            eqb-true _ _
             (not-false _ (any_none (point_count (version_in a)) differs_at (refuse_none _ _ _ s.1) k (rw (second_count (version_in a) second) l)));
       }
 
@@ -77,7 +77,7 @@ module _ (a b : List ℕ) where
 
   together_none : pairs_together a b ≤ 200 → together_fault a b ≡ none
   unfolding together_fault
-  together_none l = none_refuse 12 0 _ (le_ltb 200 _ l)
+  together_none l = none_refuse 12 0 _ (le-ltb 200 _ l)
 
   together_passed : together_fault a b ≡ none → pairs_together a b ≤ 200
   unfolding together_fault
@@ -100,7 +100,7 @@ module _ (a b : List ℕ) where
         (by_refuse P 11 0 _
         (λ e. let j = any_found (pairs_in b) shared_by e in
         let i = any_found (pairs_in a) _ j.2 in
-        JoinFault.shared_id one other same i.0 j.0 i.1 j.1 (eqb_true _ _ i.2)))
+        JoinFault.shared_id one other same i.0 j.0 i.1 j.1 (eqb-true _ _ i.2)))
         (λ h. let apart : NoSharedId a b = shared_passed h in
         by_then P (refuse 12 0 (ltb 200 (pairs_together a b))) _ (by_refuse P 12 0 _ (λ e. JoinFault.too_many_together one other same apart (ltb-true _ _ e)))
         (λ t. room_fault_lem P space (length (joined_sheet a b))

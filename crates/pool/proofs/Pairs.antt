@@ -3,7 +3,7 @@ use mathlib.Core.Path.{◌≡◌, sym, ap, ◌∙◌}
 use mathlib.Core.Bool.{false, not}
 use Prim.Native.Nat.{ℕ, ◌<◌}
 use native.Mathlib.Omega.{arith}
-use borrow.Author.Tests.{le_ltb, ltb-true, ltb-false, ne_eqb, eqb_true, eqb-false, not-true, not-false}
+use borrow.Author.Tests.{le-ltb, ltb-true, ltb-false, ne_eqb, eqb-true, eqb-false, not-true, not-false}
 use lib.Dec.{eqb}
 use Rattle.refusal.specs.Fault.{Fault, none, fault, refuse, ◌then◌}
 use Rattle.refusal.proofs.Faults.{then_none, none_then, refuse_none, none_refuse, by_refuse, by_then}
@@ -24,7 +24,7 @@ module _ (o : ℕ) (q : Pair) where
   pub groups_none : InRange q → groups ≡ none
   unfolding group_fault refuse ◌then◌
   groups_none r =
-      simp (le_ltb 3 _ r.donor_blood, le_ltb 3 _ r.patient_blood, le_ltb 1 _ r.donor_age, le_ltb 1 _ r.patient_age)
+      simp (le-ltb 3 _ r.donor_blood, le-ltb 3 _ r.patient_blood, le-ltb 1 _ r.donor_age, le-ltb 1 _ r.patient_age)
 
   pub groups_passed : groups ≡ none → InRange q
   unfolding group_fault
@@ -61,7 +61,7 @@ module _ (o : ℕ) (id : ℕ → ℕ) (i : ℕ) where
   pub id_fault_lem : (P : ℕ → ℕ → Type 0) → ((j : ℕ) → j < i → id j ≡ id i → P 7 o) → (k p : ℕ) → id_fault o id i ≡ fault k p → P k p
   unfolding id_fault
   id_fault_lem P seven =
-      by_refuse P 7 o _ (λ e. let f = any_found i (λ j. eqb (id j) (id i)) e in seven f.0 f.1 (eqb_true _ _ f.2))
+      by_refuse P 7 o _ (λ e. let f = any_found i (λ j. eqb (id j) (id i)) e in seven f.0 f.1 (eqb-true _ _ f.2))
 
 -- ## 6 and 7 of pair i
 
@@ -98,7 +98,7 @@ module _ (o n : ℕ) (s : ℕ → ℕ) where
   unfolding shuffle_fault
   shuffle_passed e v l =
       count_once s v n
-      (eqb_true _ _ (not-false _ (any_none n (λ v. not (eqb (count_below n (λ j. eqb (s j) v)) 1)) (refuse_none _ _ _ e) v l)))
+      (eqb-true _ _ (not-false _ (any_none n (λ v. not (eqb (count_below n (λ j. eqb (s j) v)) 1)) (refuse_none _ _ _ e) v l)))
 
   pub shuffle_fault_lem : (P : ℕ → ℕ → Type 0) → ((EachOnce n s → ⊥) → P 8 o) → (k p : ℕ) → shuffle_fault o n s ≡ fault k p → P k p
   unfolding shuffle_fault

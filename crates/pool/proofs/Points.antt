@@ -7,7 +7,7 @@ use Prim.Native.Nat.{ℕ, ◌+◌, ◌*◌, ◌≤◌, ◌<◌, max}
 use native.Mathlib.Nat.{le-max_left, le-max_right, max-eq_left, max-eq_right}
 use native.Mathlib.Omega.{arith}
 use native.Mathlib.Decide.{dec_lt}
-use borrow.Author.Tests.{le_ltb, ltb-false, eq-eqb, ne_eqb, eqb_true, eqb-false, not-true, not-false}
+use borrow.Author.Tests.{le-ltb, ltb-false, eq-eqb, ne_eqb, eqb-true, eqb-false, not-true, not-false}
 use lib.Dec.{eqb, ltb}
 use lib.ListN.{length}
 use Rattle.laws.specs.Below.{either}
@@ -25,8 +25,8 @@ module _ (v : ℕ) where
   pub known_version_lem : known_version v ≡ true → KnownVersion v
   unfolding known_version
   known_version_lem e =
-      ⊎_elim (λ h. let q : v ≡ 1 = eqb_true v 1 h in record { least = omega (arith, q); most = omega (arith, q) })
-      (λ h. let q : v ≡ 2 = eqb_true v 2 h in record { least = omega (arith, q); most = omega (arith, q) }) (either-found _ _ e)
+      ⊎_elim (λ h. let q : v ≡ 1 = eqb-true v 1 h in record { least = omega (arith, q); most = omega (arith, q) })
+      (λ h. let q : v ≡ 2 = eqb-true v 2 h in record { least = omega (arith, q); most = omega (arith, q) }) (either-found _ _ e)
 
   pub version_known : KnownVersion v → known_version v ≡ true
   unfolding known_version either
@@ -57,7 +57,7 @@ module _ (v : ℕ) where
 
   pub has_second : has_points v ≡ true → v ≡ 2
   unfolding has_points
-  has_second e = eqb_true v 2 e
+  has_second e = eqb-true v 2 e
 
   pub second_has : v ≡ 2 → has_points v ≡ true
   unfolding has_points
@@ -170,7 +170,7 @@ module _ (q : Points) where
 
   sound_tests : SoundPoints q → either (eqb q.base 0) (ltb 65535 (heaviest q)) ≡ false
   unfolding either
-  sound_tests s = rw (ne_eqb q.base 0 (λ e. omega (arith, e, s.base)), le_ltb 65535 (heaviest q) (sound_heaviest s))
+  sound_tests s = rw (ne_eqb q.base 0 (λ e. omega (arith, e, s.base)), le-ltb 65535 (heaviest q) (sound_heaviest s))
 
   module _ (o : ℕ) where
     pub points_none : SoundPoints q → points_fault o q ≡ none

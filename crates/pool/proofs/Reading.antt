@@ -3,7 +3,7 @@ use mathlib.Core.Path.{◌≡◌, refl, sym, ap, ◌∙◌}
 use mathlib.Core.List.{List}
 use Prim.Native.Nat.{ℕ, ◌≤◌, ◌<◌}
 use native.Mathlib.Omega.{arith}
-use borrow.Author.Tests.{le_ltb, ltb-true, ltb-false}
+use borrow.Author.Tests.{le-ltb, ltb-true, ltb-false}
 use lib.ListN.{length}
 use Rattle.refusal.specs.Fault.{Fault, none, fault, ◌then◌}
 use Rattle.refusal.specs.Answer.{finished, refused, Outcome, outcome, unless}
@@ -27,7 +27,7 @@ use Rattle.pool.proofs.Pairs.{pair_none, pair_passed, pair_fault_lem, shuffle_no
 
 pub room_none : (space n : ℕ) → n ≤ space → room_fault space n ≡ none
 unfolding room_fault
-room_none space n l = none_refuse 9 0 _ (le_ltb space n l)
+room_none space n l = none_refuse 9 0 _ (le-ltb space n l)
 
 pub room_passed : (space n : ℕ) → room_fault space n ≡ none → n ≤ space
 unfolding room_fault
@@ -76,7 +76,7 @@ module _ (b : List ℕ) where
   head_none h =
       none_then _ _ (field_none b _ _ _ h.field)
       ∙ none_then _ _ (version_none (version_in b) 0 h.version)
-      ∙ none_refuse 4 0 _ (le_ltb 200 (pairs_in b) h.few)
+      ∙ none_refuse 4 0 _ (le-ltb 200 (pairs_in b) h.few)
 
   points_none_field : PointsWhereDue b → points_field_fault b ≡ none
   unfolding points_field_fault
@@ -92,7 +92,7 @@ module _ (b : List ℕ) where
 
   end_none : (n : ℕ) → length b ≤ sheet_length (version_in b) n → end_fault b n ≡ none
   unfolding end_fault
-  end_none n l = none_refuse 5 _ _ (le_ltb (sheet_length (version_in b) n) (length b) l)
+  end_none n l = none_refuse 5 _ _ (le-ltb (sheet_length (version_in b) n) (length b) l)
 
   pub sheet_none : FaultlessSheet b → sheet_fault b ≡ none
   unfolding sheet_fault shuffle_field_fault

@@ -3,7 +3,7 @@ use mathlib.Core.Path.{◌≡◌, refl, sym, ap, ◌∙◌}
 use mathlib.Core.List.{List}
 use Prim.Native.Nat.{ℕ, ◌≤◌, ◌<◌}
 use native.Mathlib.Omega.{arith}
-use borrow.Author.Tests.{le_ltb, ltb-true, ltb-false}
+use borrow.Author.Tests.{le-ltb, ltb-true, ltb-false}
 use lib.ListN.{length}
 use Rattle.laws.specs.Below.{table}
 use Rattle.laws.specs.Lent.{filled}
@@ -42,7 +42,7 @@ module _ (v n space : ℕ) (points : List ℕ) (pair : ℕ → Pair) (Hold : Typ
       let l = holding.long w.hold in
       none_then _ _
       (none_then _ _ (version_none v 0 w.version)
-      ∙ none_then _ _ (none_refuse 4 0 _ (le_ltb 200 n w.few))
+      ∙ none_then _ _ (none_refuse 4 0 _ (le-ltb 200 n w.few))
       ∙ none_then _ _ (tables_none v n space points l.0 l.1)
       ∙ points_none weighed 0 w.points)
       ∙ none_first n (pair_fault 0 pair) (λ i l. pair_none 0 pair i (r i l) (λ j k. u i j k l))

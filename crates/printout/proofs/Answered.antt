@@ -4,7 +4,7 @@ use mathlib.Core.List.{List}
 use Prim.Native.Nat.{ℕ, ◌≤◌, ◌<◌}
 use native.Mathlib.Nat.{zero-add}
 use native.Mathlib.Omega.{arith}
-use borrow.Author.Tests.{lt-ltb, le_ltb, ltb-false}
+use borrow.Author.Tests.{lt-ltb, le-ltb, ltb-false}
 use lib.ListN.{length}
 use Rattle.laws.specs.Lent.{filled}
 use Rattle.laws.proofs.Lent.{stored-filled}
@@ -36,7 +36,7 @@ Nine k o = (k ≡ 9) × (o ≡ 0)
 module _ (room : ℕ) (text : List ℕ) where
   room_none : length text ≤ room → room_fault room (length text) ≡ none
   unfolding room_fault
-  room_none l = none_refuse 9 0 _ (le_ltb room (length text) l)
+  room_none l = none_refuse 9 0 _ (le-ltb room (length text) l)
 
   room_fault_lem : room < length text → room_fault room (length text) ≡ fault 9 0
   unfolding room_fault
@@ -64,24 +64,24 @@ module _ (room : ℕ) (p : PrintedPlan) where
 
   pub judged_donors : p.pairs ≤ length p.ids → length p.donors < p.pairs → fault_at 0 (Faulty TooShort) ≡ print_fault room p
   unfolding print_fault room_fault fault_at
-  judged_donors h l = sym (none_then _ _ (none_refuse 9 0 _ (le_ltb _ _ h)) ∙ fault_then _ _ (fault_refuse 9 0 _ (lt-ltb _ _ l)))
+  judged_donors h l = sym (none_then _ _ (none_refuse 9 0 _ (le-ltb _ _ h)) ∙ fault_then _ _ (fault_refuse 9 0 _ (lt-ltb _ _ l)))
 
   pub judged_recipients : p.pairs ≤ length p.ids → p.pairs ≤ length p.donors → length p.recipients < p.pairs
       → fault_at 0 (Faulty TooShort) ≡ print_fault room p
   unfolding print_fault room_fault fault_at
   judged_recipients h i l =
       sym
-      (none_then _ _ (none_refuse 9 0 _ (le_ltb _ _ h))
-      ∙ none_then _ _ (none_refuse 9 0 _ (le_ltb _ _ i))
+      (none_then _ _ (none_refuse 9 0 _ (le-ltb _ _ h))
+      ∙ none_then _ _ (none_refuse 9 0 _ (le-ltb _ _ i))
       ∙ fault_then _ _ (fault_refuse 9 0 _ (lt-ltb _ _ l)))
 
   module _ (hold : PlanTablesHold p.pairs p.ids p.donors p.recipients) where
     tables_passed : print_fault room p ≡ room_fault room (length (plan_text p))
     unfolding print_fault room_fault
     tables_passed =
-        none_then _ _ (none_refuse 9 0 _ (le_ltb _ _ hold.ids))
-        ∙ none_then _ _ (none_refuse 9 0 _ (le_ltb _ _ hold.donors))
-        ∙ none_then _ _ (none_refuse 9 0 _ (le_ltb _ _ hold.recipients))
+        none_then _ _ (none_refuse 9 0 _ (le-ltb _ _ hold.ids))
+        ∙ none_then _ _ (none_refuse 9 0 _ (le-ltb _ _ hold.donors))
+        ∙ none_then _ _ (none_refuse 9 0 _ (le-ltb _ _ hold.recipients))
 
     pub judged_fits : length (plan_text p) ≤ room → fault_at 0 Sound ≡ print_fault room p
     unfolding fault_at

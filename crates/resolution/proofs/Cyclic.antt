@@ -4,7 +4,7 @@ use mathlib.Core.Bool.{Bool, true, false, cond}
 use mathlib.Core.List.{List, [], ◌∷◌, ◌++◌}
 use mathlib.Core.Path.{◌≡◌, refl, sym, ap, subst, ◌∙◌}
 use native.Mathlib.Omega.{arith}
-use borrow.Author.Tests.{eq-eqb, ne_eqb, lt-ltb, le_ltb}
+use borrow.Author.Tests.{eq-eqb, ne_eqb, lt-ltb, le-ltb}
 use lib.Dec.{ltb}
 use lib.ListN.{length, get_or}
 use Rattle.cycle.specs.declared.Cycle.{Cycle}
@@ -74,7 +74,7 @@ module _ (m w : ℕ → ℕ → ℕ) (s : List ℕ) (ss : List (List ℕ)) where
 
   pub none_chosen : (c : ℕ) → length ss ≤ c → resolved m w s ss (c ∷ []) ≡ []
   unfolding resolved
-  none_chosen c h = rw (le_ltb c (length ss) h)
+  none_chosen c h = rw (le-ltb c (length ss) h)
 
 pub total-append : (m w : ℕ → ℕ → ℕ) (cs ds : List (List ℕ)) → total m w (cs ++ ds) ≡ total m w cs + total m w ds
 unfolding total
@@ -107,7 +107,7 @@ module _ (n : ℕ) (M W s : List ℕ) (p : Places) (range : OnSubset n p) where
     is_second h = is_heavier ∙ rw (lt-ltb x y h)
 
     pub is_first : y ≤ x → there ≡ get_or s p.u 0 ∷ get_or s p.v 0 ∷ get_or s p.w 0 ∷ []
-    is_first h = is_heavier ∙ rw (le_ltb x y h)
+    is_first h = is_heavier ∙ rw (le-ltb x y h)
 
 same_record : {a b d a' b' d' : ℕ} → a ≡ a' → b ≡ b' → d ≡ d' → ◌≡◌ {A = Cycle} (record { first = a; second = b; third = d }) (record { first = a'; second = b'; third = d' })
 same_record e f g = cc

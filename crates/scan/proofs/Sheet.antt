@@ -2,7 +2,7 @@
 use mathlib.Core.Path.{◌≡◌, sym, ◌∙◌}
 use mathlib.Core.List.{List}
 use Prim.Native.Nat.{ℕ, ◌≤◌, ◌<◌}
-use borrow.Author.Tests.{lt-ltb, le_ltb}
+use borrow.Author.Tests.{lt-ltb, le-ltb}
 use lib.ListN.{length}
 use Rattle.refusal.specs.Fault.{Fault, none, fault, ◌then◌, first_below}
 use Rattle.refusal.specs.Number.{number_of}
@@ -57,4 +57,4 @@ module _ (b : List ℕ) (n : ℕ) (many : n ≡ pairs_in b) (h : head_fault b �
 
       pub nothing_over : length b ≤ sheet_length (version_in b) n → none ≡ sheet_fault b
       unfolding end_fault
-      nothing_over l = sym (past_pairs ∙ none_then _ _ s ∙ none_refuse 5 _ _ (le_ltb _ _ l))
+      nothing_over l = sym (past_pairs ∙ none_then _ _ s ∙ none_refuse 5 _ _ (le-ltb _ _ l))

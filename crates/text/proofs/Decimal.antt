@@ -5,7 +5,7 @@ use Prim.Native.Nat.{ℕ, zero, suc, ◌+◌, ◌/◌, ◌%◌, ◌^◌, ◌≤�
 use native.Mathlib.Nat.{div-lt_iff_lt-mul, pow-suc}
 use native.Mathlib.Omega.{arith}
 use native.Mathlib.Decide.{dec_lt}
-use borrow.Author.Tests.{lt-ltb, le_ltb}
+use borrow.Author.Tests.{lt-ltb, le-ltb}
 use lib.Dec.{lit<}
 use lib.ListN.{length, length-append}
 use Rattle.text.specs.Text.{digit, digits_within, decimal}
@@ -16,7 +16,7 @@ within_small k x l = rw (lt-ltb x 10 l)
 
 within_large : (k x : ℕ) → 10 ≤ x → digits_within (suc k) x ≡ digits_within k (x / 10) ++ (digit (x % 10) ∷ [])
 unfolding digits_within
-within_large k x l = rw (le_ltb x 10 l)
+within_large k x l = rw (le-ltb x 10 l)
 
 -- what is above the digits of x says nothing
 within_same : (k m x : ℕ) → x < k → x < m → digits_within k x ≡ digits_within m x

@@ -3,7 +3,7 @@ use Prim.Native.Nat.{ℕ, ◌*◌, ◌≤◌, ◌<◌}
 use mathlib.Core.Bool.{Bool, true, false, not}
 use mathlib.Core.List.{List}
 use mathlib.Core.Path.{◌≡◌, sym, ap, ◌∙◌}
-use borrow.Author.Tests.{lt-ltb, le_ltb, eq-eqb, ne_eqb, ltb-false}
+use borrow.Author.Tests.{lt-ltb, le-ltb, eq-eqb, ne_eqb, ltb-false}
 use lib.Dec.{eqb, ltb}
 use lib.ListN.{length, get_or}
 use Rattle.laws.specs.Below.{either, any_below}
@@ -25,13 +25,13 @@ pub many : (n : ℕ) (g : Fault) → 200 < n → fault 4 0 ≡ (refuse 4 0 (ltb 
 many n g h = sym (fault_then _ g (fault_refuse 4 0 _ (lt-ltb 200 n h)))
 
 pub not_many : (n : ℕ) (g : Fault) → n ≤ 200 → g ≡ (refuse 4 0 (ltb 200 n) then g)
-not_many n g h = sym (none_then _ g (none_refuse 4 0 _ (le_ltb 200 n h)))
+not_many n g h = sym (none_then _ g (none_refuse 4 0 _ (le-ltb 200 n h)))
 
 pub high : (f : ℕ) (g : Fault) → most_floor < f → fault 13 0 ≡ (refuse 13 0 (ltb most_floor f) then g)
 high f g h = sym (fault_then _ g (fault_refuse 13 0 _ (lt-ltb most_floor f h)))
 
 pub not_high : (f : ℕ) (g : Fault) → f ≤ most_floor → g ≡ (refuse 13 0 (ltb most_floor f) then g)
-not_high f g h = sym (none_then _ g (none_refuse 13 0 _ (le_ltb most_floor f h)))
+not_high f g h = sym (none_then _ g (none_refuse 13 0 _ (le-ltb most_floor f h)))
 
 pub short : (space due : ℕ) → space < due → fault 9 0 ≡ room_fault space due
 unfolding room_fault
@@ -39,7 +39,7 @@ short space due h = sym (fault_refuse 9 0 _ (lt-ltb space due h))
 
 pub long : (space due : ℕ) → due ≤ space → none ≡ room_fault space due
 unfolding room_fault
-long space due h = sym (none_refuse 9 0 _ (le_ltb space due h))
+long space due h = sym (none_refuse 9 0 _ (le-ltb space due h))
 
 -- the first of two, and the second after none
 pub first : (f g : Fault) → fault 9 0 ≡ f → fault 9 0 ≡ (f then g)

@@ -2,7 +2,7 @@
 use mathlib.Core.Path.{◌≡◌}
 use Prim.Native.Nat.{ℕ, ◌+◌, max}
 use borrow.Author.Rules.{rules}
-use borrow.Author.Tests.{eq-eqb, ne_eqb, lt-ltb, le_ltb}
+use borrow.Author.Tests.{eq-eqb, ne_eqb, lt-ltb, le-ltb}
 use Rattle.laws.specs.Below.{either}
 use Rattle.refusal.specs.Fault.{refuse}
 use Rattle.refusal.specs.Number.{fault_at}
@@ -41,7 +41,7 @@ returns-3 c o =
     let first = second.before in
     let s = first.before in
     let e = summed s.before.before.args.points _ _ _ first.larger.ensures second.larger2.ensures third.larger3.ensures in
-    rw (ne_eqb _ _ s.if1.false, e, le_ltb 65535 _ c.if2.false)
+    rw (ne_eqb _ _ s.if1.false, e, le-ltb 65535 _ c.if2.false)
 
 pub judge-spec : {M : Type 1} → statement M
 judge-spec =

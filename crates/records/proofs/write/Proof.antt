@@ -2,7 +2,7 @@
 use types.Logic.{Logic}
 use denote.Slice.{mut_slice_vals}
 use denote.Ref.{MutBor}
-use Rattle.lending.proofs.Walking.{◌≡◌, refl, sym, ap, subst, Bool, ⊎_elim, WellFounded, InvImage·wf, [], ◌∷◌, List, ℕ, ◌+◌, ◌-◌, ◌<◌, ◌^◌, eq-or-lt_of_le, le_of_eq, lt_of_le_of_lt, add-one-le, arith, length, set, Nat·lt-wfRel, Holds, lit<, lt-ltb, le_ltb, Ura, full_share, named, ty_unit, ty_bool, w64, Val, vunit, vbool, vint, has_ty, WT, SProp, ent, id⊢, Lft, Share, GName, ftrue, fat, froom, fdies, flft, Memory, Routine, Out, Env, after_seq, after_block, Calls, Loops, Wp, at_return, WpFn, Tables, after_turn, Fun, fact, AllOutlive, tables, tables_of, ‵, raw, some, later, ◌⊛◌, ⋆, Item, Sq, runs, any_q, at_ret, ◌$◌, ◌∵◌, !, qed, by, move, keep, drop, use1, use2, use3, cut, split, join, pick, rewrite, fsplit, fjoin, feq_i, feq_l, suffices, frame, await, done, look, init, store, forget, stop, hop, fld, from, load, lit, addr, unit_lit, of_opd, bin, and_then, no_more, land, assigns, assigns_last, first, stays, leaves_loop, blocks, exec, Below, again, loops, returns, enter, alloc1, alloc0, params1, pass1, pass0, free1, free0, agg, whole, sub, look_in, lft_new, lft_end, FmC, fm_of, WpFn-mono, RattleType, owns, Is, Nothing, uint_vals, uint_Tells, uint_Makes, usize, RefT, slice_val, MutSlice, Room, slice-vals, mut_slice_Tells, array_vals, plain, array_of, only, owned, heard, nothing, on_entry, Meets, triple_of, Contract, Triple, calls_at, ensured, lasts, entered, cited, says, needs, Stays, stay_dropped, stay_slice, walk_of, Goes-dropped, Goes-slice, Walks, ends_at, walked, walk_Meets, yes, renamed, ty_of, LentAgain, again_out, again_back, Row, row_val, row_tells, row_makes, row_typed}
+use Rattle.lending.proofs.Walking.{◌≡◌, refl, sym, ap, subst, Bool, ⊎_elim, WellFounded, InvImage·wf, [], ◌∷◌, List, ℕ, ◌+◌, ◌-◌, ◌<◌, ◌^◌, eq-or-lt_of_le, le_of_eq, lt_of_le_of_lt, add-one-le, arith, length, set, Nat·lt-wfRel, Holds, lit<, lt-ltb, le-ltb, Ura, full_share, named, ty_unit, ty_bool, w64, Val, vunit, vbool, vint, has_ty, WT, SProp, ent, id⊢, Lft, Share, GName, ftrue, fat, froom, fdies, flft, Memory, Routine, Out, Env, after_seq, after_block, Calls, Loops, Wp, at_return, WpFn, Tables, after_turn, Fun, fact, AllOutlive, tables, tables_of, ‵, raw, some, later, ◌⊛◌, ⋆, Item, Sq, runs, any_q, at_ret, ◌$◌, ◌∵◌, !, qed, by, move, keep, drop, use1, use2, use3, cut, split, join, pick, rewrite, fsplit, fjoin, feq_i, feq_l, suffices, frame, await, done, look, init, store, forget, stop, hop, fld, from, load, lit, addr, unit_lit, of_opd, bin, and_then, no_more, land, assigns, assigns_last, first, stays, leaves_loop, blocks, exec, Below, again, loops, returns, enter, alloc1, alloc0, params1, pass1, pass0, free1, free0, agg, whole, sub, look_in, lft_new, lft_end, FmC, fm_of, WpFn-mono, RattleType, owns, Is, Nothing, uint_vals, uint_Tells, uint_Makes, usize, RefT, slice_val, MutSlice, Room, slice-vals, mut_slice_Tells, array_vals, plain, array_of, only, owned, heard, nothing, on_entry, Meets, triple_of, Contract, Triple, calls_at, ensured, lasts, entered, cited, says, needs, Stays, stay_dropped, stay_slice, walk_of, Goes-dropped, Goes-slice, Walks, ends_at, walked, walk_Meets, yes, renamed, ty_of, LentAgain, again_out, again_back, Row, row_val, row_tells, row_makes, row_typed}
 use denote.Struct.Laws as LL
 use Rattle.records.specs.Copying.{Writable, Puttable, record_at}
 use Rattle.laws.specs.Lent.{filled}
@@ -124,7 +124,7 @@ module _ {M : Type 1} {𝓤 : Ura M} (𝓛 : Logic 𝓤) (at_mem : Memory → SP
       unfolding after_turn
       leaves j over =
           assigns ! (bin ! (load ! (from ! (stop !)) (look ! 8 refl)) (load ! (from ! (stop !)) (look ! 10 refl)) tt) (from ! (stop !)) (init ! 6 refl (tt, tt)) $
-          rewrite ! 6 (λ (t : Bool). ‵ (fat full_share ty_bool l5 0 (vbool t))) (le_ltb j.0 cycles (le_of_eq (sym over))) refl $ leaves_loop ! (load ! (from ! (stop !)) (look ! 6 refl)) $ exec ! C Λ En pieces.t-3 (at_ret En Post) $
+          rewrite ! 6 (λ (t : Bool). ‵ (fat full_share ty_bool l5 0 (vbool t))) (le-ltb j.0 cycles (le_of_eq (sym over))) refl $ leaves_loop ! (load ! (from ! (stop !)) (look ! 6 refl)) $ exec ! C Λ En pieces.t-3 (at_ret En Post) $
           assigns ! (of_opd ! (unit_lit !)) (from ! (stop !)) (init ! 16 refl (tt, tt)) $
           returns ! (look ! 16 refl) $ forget ! 6 refl $ forget ! 8 refl $ forget ! 10 refl $ forget ! 12 refl $ forget ! 14 refl $ forget ! 16 refl $
           move ! (16 ∷ 17 ∷ []) $ free1 ! $ move ! (14 ∷ 15 ∷ []) $ free1 ! $ move ! (12 ∷ 13 ∷ []) $ free1 ! $ move ! (10 ∷ 11 ∷ []) $ free1 ! $ move ! (8 ∷ 9 ∷ []) $ free1 ! $ move ! (6 ∷ 7 ∷ []) $ free1 ! $ move ! (4 ∷ 5 ∷ []) $ free1 ! $ move ! (2 ∷ 3 ∷ []) $ free1 ! $ free1 ! $ free0 ! $

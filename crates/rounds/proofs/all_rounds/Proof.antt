@@ -2,7 +2,7 @@
 use types.Logic.{Logic}
 use denote.Slice.{mut_slice_vals}
 use denote.Ref.{Bor, mut_vals}
-use Rattle.lending.proofs.Walking.{◌≡◌, refl, sym, ap, subst, Bool, ⊎_elim, WellFounded, InvImage·wf, [], ◌∷◌, List, ℕ, ◌+◌, ◌-◌, ◌<◌, ◌^◌, eq-or-lt_of_le, le_of_eq, lt_of_le_of_lt, add-one-le, arith, length, set, Nat·lt-wfRel, Holds, lit<, lt-ltb, le_ltb, Ura, full_share, named, ty_unit, ty_bool, w32, w64, Val, vunit, vbool, vint, vptr, has_ty, WT, SProp, ent, id⊢, Lft, Share, GName, ftrue, fat, froom, fdies, flft, Memory, Routine, Out, Env, after_seq, after_block, Calls, Loops, Wp, at_return, WpFn, Tables, after_turn, Fun, fact, AllOutlive, tables, tables_of, ‵, raw, some, later, ◌⊛◌, ⋆, Item, Sq, runs, any_q, at_ret, ◌$◌, ◌∵◌, !, qed, by, move, keep, drop, use1, use2, use3, cut, split, join, pick, rewrite, fsplit, fjoin, feq_i, feq_l, suffices, frame, await, done, look, init, store, forget, stop, hop, fld, from, load, lit, addr, unit_lit, of_opd, bin, and_then, no_more, land, assigns, assigns_last, first, stays, leaves_loop, blocks, exec, Below, again, loops, returns, enter, alloc1, alloc0, params1, pass1, pass0, free1, free0, agg, whole, sub, look_in, lft_new, lft_end, FmC, fm_of, WpFn-mono, RattleType, owns, Is, shows, Nothing, uint_vals, uint_Tells, uint_Makes, u32, usize, RefT, MutRef, ptr-vals, mut_Tells, slice_val, MutSlice, ShrSlice, Room, slice-vals, mut_slice_Tells, plain, LentRef, lends_again, comes_back, only, owned, facts, heard, nothing, on_entry, Meets, triple_of, Contract, Triple, calls_at, ensured, lasts, entered, cited, says, needs, Stays, stay_dropped, stay_ref, stay_slice, walk_of, Goes-dropped, Goes-ref, Goes-slice, Walks, ends_at, walked, walk_Meets, yes, renamed, ty_of, less_fits, LentAgain, again_out, again_back, LentShared, shared_out, shared_back}
+use Rattle.lending.proofs.Walking.{◌≡◌, refl, sym, ap, subst, Bool, ⊎_elim, WellFounded, InvImage·wf, [], ◌∷◌, List, ℕ, ◌+◌, ◌-◌, ◌<◌, ◌^◌, eq-or-lt_of_le, le_of_eq, lt_of_le_of_lt, add-one-le, arith, length, set, Nat·lt-wfRel, Holds, lit<, lt-ltb, le-ltb, Ura, full_share, named, ty_unit, ty_bool, w32, w64, Val, vunit, vbool, vint, vptr, has_ty, WT, SProp, ent, id⊢, Lft, Share, GName, ftrue, fat, froom, fdies, flft, Memory, Routine, Out, Env, after_seq, after_block, Calls, Loops, Wp, at_return, WpFn, Tables, after_turn, Fun, fact, AllOutlive, tables, tables_of, ‵, raw, some, later, ◌⊛◌, ⋆, Item, Sq, runs, any_q, at_ret, ◌$◌, ◌∵◌, !, qed, by, move, keep, drop, use1, use2, use3, cut, split, join, pick, rewrite, fsplit, fjoin, feq_i, feq_l, suffices, frame, await, done, look, init, store, forget, stop, hop, fld, from, load, lit, addr, unit_lit, of_opd, bin, and_then, no_more, land, assigns, assigns_last, first, stays, leaves_loop, blocks, exec, Below, again, loops, returns, enter, alloc1, alloc0, params1, pass1, pass0, free1, free0, agg, whole, sub, look_in, lft_new, lft_end, FmC, fm_of, WpFn-mono, RattleType, owns, Is, shows, Nothing, uint_vals, uint_Tells, uint_Makes, u32, usize, RefT, MutRef, ptr-vals, mut_Tells, slice_val, MutSlice, ShrSlice, Room, slice-vals, mut_slice_Tells, plain, LentRef, lends_again, comes_back, only, owned, facts, heard, nothing, on_entry, Meets, triple_of, Contract, Triple, calls_at, ensured, lasts, entered, cited, says, needs, Stays, stay_dropped, stay_ref, stay_slice, walk_of, Goes-dropped, Goes-ref, Goes-slice, Walks, ends_at, walked, walk_Meets, yes, renamed, ty_of, less_fits, LentAgain, again_out, again_back, LentShared, shared_out, shared_back}
 use denote.Struct.Laws as LL
 use Rattle.rounds.specs.Preconditions.{Rounding}
 use Rattle.exchange.specs.Subsets.{up_to_three, order}
@@ -183,7 +183,7 @@ module _ {M : Type 1} {𝓤 : Ura M} (𝓛 : Logic 𝓤) (at_mem : Memory → SP
       leaves j over =
           assigns ! (of_opd ! (load ! (from ! (fld ! refl (stop !))) (look_in ! 32 (sub ! 1 refl (whole !))))) (from ! (stop !)) (init ! 24 refl (tt, record { fits = choices-room.0 })) $
           assigns ! (bin ! (load ! (from ! (stop !)) (look ! 28 refl)) (load ! (from ! (stop !)) (look ! 24 refl)) tt) (from ! (stop !)) (init ! 22 refl (tt, tt)) $
-          rewrite ! 22 (λ (t : Bool). ‵ (fat full_share ty_bool l9 0 (vbool t))) (le_ltb j.0 (length choices.now) (le_of_eq (sym over))) refl $ leaves_loop ! (load ! (from ! (stop !)) (look ! 22 refl)) $ exec ! C Λ En pieces.t-3 (at_ret En Post) $
+          rewrite ! 22 (λ (t : Bool). ‵ (fat full_share ty_bool l9 0 (vbool t))) (le-ltb j.0 (length choices.now) (le_of_eq (sym over))) refl $ leaves_loop ! (load ! (from ! (stop !)) (look ! 22 refl)) $ exec ! C Λ En pieces.t-3 (at_ret En Post) $
           assigns ! (of_opd ! (unit_lit !)) (from ! (stop !)) (init ! 40 refl (tt, tt)) $
           returns ! (look ! 40 refl) $ forget ! 22 refl $ forget ! 24 refl $ forget ! 28 refl $ forget ! 30 refl $ forget ! 32 refl $ forget ! 34 refl $ forget ! 36 refl $ forget ! 38 refl $ forget ! 40 refl $
           move ! (40 ∷ 41 ∷ []) $ free1 ! $ move ! (38 ∷ 39 ∷ []) $ free1 ! $ move ! (36 ∷ 37 ∷ []) $ free1 ! $ move ! (34 ∷ 35 ∷ []) $ free1 ! $ move ! (32 ∷ 33 ∷ []) $ free1 ! $ move ! (30 ∷ 31 ∷ []) $ free1 ! $ move ! (28 ∷ 29 ∷ []) $ free1 ! $ move ! (26 ∷ 27 ∷ []) $ free1 ! $ move ! (24 ∷ 25 ∷ []) $ free1 ! $ move ! (22 ∷ 23 ∷ []) $ free1 ! $ move ! (20 ∷ 21 ∷ []) $ free1 ! $ move ! (18 ∷ 19 ∷ []) $ free1 ! $ move ! (16 ∷ 17 ∷ []) $ free1 ! $ move ! (14 ∷ 15 ∷ []) $ free1 ! $ move ! (12 ∷ 13 ∷ []) $ free1 ! $ move ! (10 ∷ 11 ∷ []) $ free1 ! $ move ! (8 ∷ 9 ∷ []) $ free1 ! $ move ! (6 ∷ 7 ∷ []) $ free1 ! $ move ! (4 ∷ 5 ∷ []) $ free1 ! $ move ! (2 ∷ 3 ∷ []) $ free1 ! $ free1 ! $ free0 ! $

@@ -4,7 +4,7 @@ use mathlib.Core.Bool.{false}
 use mathlib.Core.Path.{◌≡◌, refl, sym, ap, ◌∙◌}
 use native.Mathlib.Omega.{arith}
 use borrow.Author.Rules.{rules}
-use borrow.Author.Tests.{lt-ltb, le_ltb}
+use borrow.Author.Tests.{lt-ltb, le-ltb}
 use lib.Dec.{ltb}
 use Rattle.laws.specs.Below.{any_below}
 use Rattle.laws.proofs.Below.{any_hit, any_more}
@@ -30,7 +30,7 @@ returns c =
 loop-again : tie.Need-loop-preserved invariant-loop decreases-loop
 loop-again c =
     let at-loop = c.before.before.before in
-    (omega arith, any_more at-loop.loop.j _ at-loop.loop.invariant.1 (ap (ltb 1) (sym c.before.compatible.ensures) ∙ le_ltb 1 _ c.if1.false))
+    (omega arith, any_more at-loop.loop.j _ at-loop.loop.invariant.1 (ap (ltb 1) (sym c.before.compatible.ensures) ∙ le-ltb 1 _ c.if1.false))
 
 returns-2 : tie.Need-returns-2 invariant-loop decreases-loop
 returns-2 c =
