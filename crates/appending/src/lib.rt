@@ -1,4 +1,6 @@
 // The sheet of two sheets, written into a lent buffer (document 02, W-201): their version and points, the pairs' fields of both, and both shuffles.
+#![tactic(auto)]
+
 ghost use Rattle.std.specs.Prelude.{◌≡◌, ◌+◌, ◌*◌, ◌≤◌, length};
 ghost use mathlib.Core.List.{flat_map};
 ghost use Rattle.laws.specs.Below.{table};

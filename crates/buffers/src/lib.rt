@@ -1,4 +1,6 @@
 // Planning with "buffers for 40 pairs": who wants a plan of at most 40 pairs and its partners lends two tables, and the rest is lent here.
+#![tactic(auto)]
+
 ghost use Rattle.std.specs.Prelude.{◌≡◌, ◌≤◌, length};
 ghost use Rattle.exchange.specs.Input.{no_floor, request};
 ghost use Rattle.exchange.specs.Planning.{lent};

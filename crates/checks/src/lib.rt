@@ -1,4 +1,6 @@
 // What two or more of reading, writing, building, planning and the calls of a live pool check alike: 6, 7, 8 and 9 of a pool's tables, and of lent ones 3, 4 and 14 before these.
+#![tactic(auto)]
+
 ghost use Rattle.std.specs.Prelude.{◌≡◌, List, ℕ, ◌+◌, ◌≤◌, ◌<◌, min, length, get_or, eqb};
 ghost use Rattle.laws.specs.Below.{any_below, count_below};
 ghost use Rattle.refusal.specs.Number.{fault_at};

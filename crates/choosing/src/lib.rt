@@ -1,5 +1,7 @@
 // Choosing: the lowest-numbered subset of greatest weight, made by gates. What runs depends on n, the number of weights and the cursor alone. Winners
 // come by value; only `choose_part` looks a weight up, and `chosen_in_round` stores a choice.
+#![tactic(auto)]
+
 ghost use Rattle.std.specs.Prelude.{◌≡◌, cond, ◌+◌, ◌^◌, ◌<◌, ltb, length, set};
 ghost use Rattle.greedy.specs.Rounds.{winner, by_halves, choosing};
 ghost use Rattle.exchange.specs.Subsets.{up_to_three, order};
@@ -12,7 +14,7 @@ use cursor::Places;
 use gates::{Secret, SecretPlaces, Tally};
 
 // A winner: its weight, its number and its places.
-#[derive(Drop)]
+#[derive(Clone, Copy)]
 pub struct Best {
     pub weight: Secret,
     pub number: Secret,
@@ -20,14 +22,14 @@ pub struct Best {
 }
 
 // Two winners joined, and the tally.
-#[derive(Drop)]
+#[derive(Clone, Copy)]
 pub struct Joined {
     pub best: Best,
     pub tally: Tally,
 }
 
 // A part's winner, the cursor past the part, and the tally.
-#[derive(Drop)]
+#[derive(Clone, Copy)]
 pub struct Won {
     pub best: Best,
     pub next: Places,
@@ -35,7 +37,7 @@ pub struct Won {
 }
 
 // A choice, its places, and the tally.
-#[derive(Drop)]
+#[derive(Clone, Copy)]
 pub struct Chosen {
     pub number: Secret,
     pub at: SecretPlaces,
@@ -43,7 +45,7 @@ pub struct Chosen {
 }
 
 // The places of a choice that is stored, and the tally.
-#[derive(Drop)]
+#[derive(Clone, Copy)]
 pub struct Placed {
     pub at: SecretPlaces,
     pub tally: Tally,

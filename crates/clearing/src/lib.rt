@@ -1,5 +1,7 @@
 // Clearing: after each round but the last, every subset sharing a place with the choice gets weight 0, by products. What runs depends on n, the
 // cursor and the rounds that are left alone: after a choice of none it runs as well.
+#![tactic(auto)]
+
 ghost use Rattle.std.specs.Prelude.{◌≡◌, cond, [], ◌∷◌};
 ghost use Rattle.greedy.specs.Places.{meets};
 ghost use Rattle.greedy.specs.Rounds as Rounds;

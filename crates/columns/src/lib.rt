@@ -1,4 +1,6 @@
 // One number of every pair of a sheet, and the numbers of its points or its shuffle, each into a lent table. Of which version the sheet is, the caller says.
+#![tactic(auto)]
+
 ghost use Rattle.std.specs.Prelude.{◌≡◌, ◌+◌, ◌*◌, ◌≤◌, ◌<◌, length};
 ghost use Rattle.laws.specs.Below.{table};
 ghost use Rattle.laws.specs.Digits.{big_endian};

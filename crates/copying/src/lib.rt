@@ -1,4 +1,6 @@
 // Bytes copied into a lent buffer: of a sheet that is joined to another, and of a word that is printed.
+#![tactic(auto)]
+
 ghost use Rattle.std.specs.Prelude.{◌≡◌, ◌+◌, ◌≤◌, length};
 ghost use Rattle.laws.specs.Lent.{stored};
 

@@ -1,5 +1,7 @@
 // How many twos and triples there are among m places, from a constant table and without dividing (document 02, W-203), and at which place the one of a
 // number begins. That table is all that is read here.
+#![tactic(auto)]
+
 ghost use Rattle.std.specs.Prelude.{◌≡◌, ◌+◌, ◌-◌, ◌*◌, ◌≤◌, ◌<◌};
 ghost use Rattle.counting.specs.Counting.{TripleTable, of_size, Begins};
 

@@ -1,12 +1,14 @@
 // The published order of subsets, walked by a cursor and numbered both ways. Of tables the constant one of `counting` alone is read: what runs depends on n
 // and the cursor, or on n and a number.
+#![tactic(auto)]
+
 ghost use Rattle.std.specs.Prelude.{◌≡◌, [], ◌≤◌, ◌<◌, get_or};
 ghost use Rattle.exchange.specs.Subsets.{up_to_three, order, subset_count};
 ghost use Rattle.counting.specs.Counting.{TripleTable, of_size};
 ghost use Rattle.cursor.specs.Cursor.{OnSubset, places_at, next_places, number_in, subset_at, TwoAt};
 
 // A cursor: the places of a subset in order, n where there is none. A two has w = n; n, n, n is no subset.
-#[derive(Drop)]
+#[derive(Clone, Copy)]
 pub struct Places {
     pub u: usize,
     pub v: usize,

@@ -1,4 +1,6 @@
 // Compatibility and weight (document 01, with 02's mismatches and points) of one donor and one patient: an entry of M and of W.
+#![tactic(auto)]
+
 ghost use Rattle.std.specs.Prelude.{◌≡◌, not, ◌&&◌, cond, ◌+◌, ◌≤◌, length, eqb};
 ghost use Rattle.laws.specs.Below.{one};
 ghost use Rattle.pool.specs.Points.{document_points, point_count, points_of};
@@ -11,7 +13,7 @@ ghost use Rattle.donation.specs.Weight.{mismatches, mismatch_points, age_points}
 use points::Points;
 
 // The weighing, with document 01's points by name. Many mismatches and other ages give 0 in every registry.
-#[derive(Drop)]
+#[derive(Clone, Copy)]
 pub struct Weighing;
 
 impl Weighing {

@@ -1,5 +1,7 @@
 // The pieces of a sheet, written into a lent buffer (document 01, 'The pool sheet', with 02's version 2): a number, a field's start, the head, a pair, and
 // a field of two-byte numbers: the points, and the shuffle.
+#![tactic(auto)]
+
 ghost use Rattle.std.specs.Prelude.{◌≡◌, ◌+◌, ◌*◌, ◌≤◌, length};
 ghost use mathlib.Core.List.{◌++◌, flat_map};
 ghost use Rattle.laws.specs.Below.{table};

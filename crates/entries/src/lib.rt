@@ -1,5 +1,7 @@
 // Entries of M and W, and the weight of a cycle by them, in the open: for the checks before planning's steps and for resolution after them, which are
 // no gates. What a gate makes of them is in `evaluation`.
+#![tactic(auto)]
+
 ghost use Rattle.std.specs.Prelude.{◌≡◌, [], ◌∷◌, ◌*◌, ◌≤◌, ◌<◌, length};
 ghost use Rattle.exchange.specs.Subsets.{entry};
 ghost use Rattle.entries.specs.Preconditions.{weight_of, Pairs};

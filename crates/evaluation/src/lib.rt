@@ -1,5 +1,7 @@
 // Evaluation: the weight of each subset, made by gates. What runs depends on n and the cursor alone. Weights are made of entries that come by value;
 // only `edge` looks them up in the lent tables, and `evaluated` stores.
+#![tactic(auto)]
+
 ghost use Rattle.std.specs.Prelude.{◌≡◌, [], ◌∷◌, ◌<◌};
 ghost use Rattle.exchange.specs.Subsets.{up_to_three, order, entry, subset_weight, subset_weights, evaluation_tally};
 ghost use Rattle.gates.specs.Counting.{counted, TallyRoom, Raised};
@@ -13,7 +15,7 @@ use cursor::Places;
 use gates::{Gated, Secret, Tally};
 
 // An edge's entries of M and W.
-#[derive(Drop)]
+#[derive(Clone, Copy)]
 pub struct EdgeEntries {
     pub m: Secret,
     pub w: Secret,

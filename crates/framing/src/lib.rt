@@ -1,4 +1,6 @@
 // A sheet's fields, one at a time (document 01, 'The pool sheet'): a number in its bytes, a field where it is due, and the head.
+#![tactic(auto)]
+
 ghost use Rattle.std.specs.Prelude.{◌≡◌, ◌+◌, ◌≤◌, length};
 ghost use Rattle.laws.specs.Digits.{big_endian};
 ghost use Rattle.refusal.specs.Number.{fault_at};

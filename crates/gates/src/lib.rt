@@ -1,6 +1,8 @@
 // The gates of planning, and the two types that only this crate looks into: a secret and the tally. In service a secret is a word that is shared,
 // and the gates run among the peers; here they do their work on plain words. Each gate counts itself, and nothing else raises the tally. What runs
 // in a gate is the same whatever its secrets are. Nothing here opens a secret: `store_u32` puts one into a lent table, in service a share.
+#![tactic(auto)]
+
 ghost use Rattle.std.specs.Prelude.{◌≡◌, cond, [], ◌∷◌, ◌+◌, ◌-◌, ◌*◌, ◌^◌, ◌<◌, ◌≤◌, eqb, ltb, length, get_or, set};
 ghost use Rattle.laws.specs.Below.{one};
 ghost use Rattle.greedy.specs.Tally.{next_round, tally};
@@ -10,13 +12,13 @@ ghost use Rattle.gates.specs.Counting.{counted, TallyRoom, Raised};
 ghost use Rattle.gates.specs.Secrets.{value_of};
 
 // A secret: an entry of M or W, a weight, a choice's number or one of its places, or what gates make of them.
-#[derive(Drop)]
+#[derive(Clone, Copy)]
 pub struct Secret {
     value: u32,
 }
 
 // "Tally": what the gates did.
-#[derive(Drop)]
+#[derive(Clone, Copy)]
 pub struct Tally {
     comparisons: u64,
     products: u64,
@@ -24,7 +26,7 @@ pub struct Tally {
 }
 
 // The counts of a tally, for a result. No gate takes them.
-#[derive(Drop)]
+#[derive(Clone, Copy)]
 pub struct Counts {
     pub comparisons: u64,
     pub products: u64,
@@ -32,14 +34,14 @@ pub struct Counts {
 }
 
 // What a gate gives, and the tally after it.
-#[derive(Drop)]
+#[derive(Clone, Copy)]
 pub struct Gated {
     pub value: Secret,
     pub tally: Tally,
 }
 
 // A choice's places, n where there is none.
-#[derive(Drop)]
+#[derive(Clone, Copy)]
 pub struct SecretPlaces {
     pub u: Secret,
     pub v: Secret,

@@ -1,4 +1,6 @@
 // The tables M and W (document 01, 'Compatibility and weight'), filled row by row.
+#![tactic(auto)]
+
 ghost use Rattle.std.specs.Prelude.{◌≡◌};
 ghost use Rattle.pool.specs.Tables.{pair_in};
 ghost use Rattle.pool.specs.Faultless.{SoundPoints};

@@ -184,16 +184,18 @@ pub greatest_first : (xs : List ℕ) → 0 < length xs → First xs (greatest xs
 greatest_first xs h = let r = halves_won (length xs) 0 xs (record { comparisons = 0; products = 0; rounds = 0 }) h (omega arith) in
     first_same xs _ r.at r.first
 
+won_choice : (f n : ℕ) (xs : List ℕ) (t : Tally) (b : Winner) → Won xs 0 t b
+    → cond (ltb f b.weight) b.number n ≡ cond (ltb f (greatest xs)) (first_at (greatest xs) xs) n
+won_choice f n xs t b h =
+    let e : b.number ≡ h.at = omega (arith, h.number) in
+    rw (first_greatest xs b.weight h.at h.first, first_at_lem xs b.weight h.at h.first, e)
+
 pub choosing_number : HalvesGiveTheChoice
 unfolding choosing choice by_halves greatest first_at
-choosing_number f ss [] t = rw (le-ltb f 0 (omega arith))
-choosing_number f ss (x ∷ ws) t = go (by_halves (length (x ∷ ws)) 0 (x ∷ ws) t) (halves_won (length (x ∷ ws)) 0 (x ∷ ws) t (omega arith) (omega arith))
-  where
-    go : (b : Winner) → Won (x ∷ ws) 0 t b
-        → cond (ltb f b.weight) b.number (length ss) ≡ cond (ltb f (greatest (x ∷ ws))) (first_at (greatest (x ∷ ws)) (x ∷ ws)) (length ss)
-    go b h =
-        let n : b.number ≡ h.at = omega (arith, h.number) in
-        rw (first_greatest (x ∷ ws) b.weight h.at h.first, first_at_lem (x ∷ ws) b.weight h.at h.first, n)
+choosing_number f ss [] t = refl
+choosing_number f ss (x ∷ ws) t =
+    won_choice f (length ss) (x ∷ ws) t (by_halves (length (x ∷ ws)) 0 (x ∷ ws) t)
+    (halves_won (length (x ∷ ws)) 0 (x ∷ ws) t (omega arith) (omega arith))
 
 pub choosing-tally : (f : ℕ) (ss : List (List ℕ)) (ws : List ℕ) (t : Tally) → 0 < length ws
     → (choosing f ss ws t).tally ≡ raise (length ws) (5 * length ws - 1) t

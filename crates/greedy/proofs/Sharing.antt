@@ -22,6 +22,7 @@ among_stands p (q ∷ s) e = go (eqb p q) refl e (λ k. among_stands p s k)
 
 stands_among : (p : ℕ) (s : List ℕ) → Memᴰ p s → among p s ≡ true
 unfolding among either
+stands_among p [] m = elim m [ ]
 stands_among p (q ∷ s) (Memᴰ.head e) = rw (eq-eqb p q e)
 stands_among p (q ∷ s) (Memᴰ.tail m) = rw (stands_among p s m) (either_true (eqb p q))
 
@@ -37,6 +38,7 @@ meets_share (p ∷ s) t e = go (among p t) refl e (λ k. meets_share s t k)
 
 share_meets : (s t : List ℕ) (p : ℕ) → Memᴰ p s → Memᴰ p t → meets s t ≡ true
 unfolding meets either
+share_meets [] t p k m = elim k [ ]
 share_meets (q ∷ s) t p (Memᴰ.head e) m = rw (← e, stands_among p t m)
 share_meets (q ∷ s) t p (Memᴰ.tail k) m = rw (share_meets s t p k m) (either_true (among q t))
 

@@ -1,5 +1,7 @@
 // Two sheets made one, in a lent buffer (document 02, W-201 and W-205): the late registrations of an addendum join a sheet. Everything is checked before
 // anything is written, so that a refusal leaves the buffer as it was.
+#![tactic(auto)]
+
 ghost use Rattle.std.specs.Prelude.{◌≡◌};
 ghost use Rattle.refusal.specs.Answer.{outcome};
 ghost use Rattle.refusal.specs.Number.{fault_at};
@@ -13,7 +15,7 @@ use refusal::{Refusal, Verdict};
 use scan::Found;
 
 // What joining two sheets answers: the length of the sheet, or the refusal and its place.
-#[derive(Drop)]
+#[derive(Clone, Copy)]
 pub enum Joining {
     Length(usize),
     Refused(Refusal, usize),

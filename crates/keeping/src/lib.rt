@@ -1,4 +1,6 @@
 // A live pool is started (document 02, W-206); and what registering and withdrawing check alike, with the two checks over all pairs that registering makes.
+#![tactic(auto)]
+
 ghost use Rattle.std.specs.Prelude.{◌≡◌, ◌≤◌, length};
 ghost use Rattle.laws.specs.Lent.{filled};
 ghost use Rattle.refusal.specs.Fault.{first_below};

@@ -1,1 +1,2 @@
 // Definitions and laws on lists, counting and numbers that two or more crates need. No code.
+#![tactic(auto)]

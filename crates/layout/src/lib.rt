@@ -1,5 +1,7 @@
 // The pool sheet in numbers (document 01, 'The pool sheet', with 02's version 2): tags, lengths, and what stands where. Reading and writing count by
 // these.
+#![tactic(auto)]
+
 ghost use Rattle.std.specs.Prelude.{◌≡◌, ◌≤◌};
 ghost use Rattle.pool.specs.Points.{known_version, has_points, point_count};
 ghost use Rattle.pool.specs.Sheet.{first_pair, pair_place, sheet_length};

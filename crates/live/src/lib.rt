@@ -1,10 +1,12 @@
 // A live pool (document 02, W-206 and W-207): what starting it, registering a pair and withdrawing one answer and leave, what is promised of these calls
 // and of every list of them, and examples. Here are a pair and an answer as the calls have them.
+#![tactic(auto)]
+
 use refusal::Refusal;
 
 // A pair that is registered.
 #[repr(C)]
-#[derive(Drop)]
+#[derive(Clone, Copy)]
 pub struct Pair {
     pub id: u32,
     pub donor_blood: u8,
@@ -17,7 +19,7 @@ pub struct Pair {
 }
 
 // What each of the three calls answers: it is done, or the refusal.
-#[derive(Drop)]
+#[derive(Clone, Copy)]
 pub enum Change {
     Done,
     Refused(Refusal),

@@ -1,4 +1,6 @@
 // Reads a pool sheet from standard input and says what it found: the points of version 2, the pairs and the shuffle, or the refusal's number and place.
+#![tactic(auto)]
+
 ghost use Rattle.std.specs.Prelude.{◌≤◌};
 
 use reader::Reading;

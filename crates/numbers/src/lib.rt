@@ -1,5 +1,7 @@
 // The answers of the library's calls as structs of numbers, for the C boundary (include/vadivuzhen.h). In each `refusal` is document 01's number, or 0
 // where the call finished; a field that the answer does not use is 0.
+#![tactic(auto)]
+
 ghost use Rattle.std.specs.Prelude.{◌≡◌};
 ghost use Rattle.refusal.specs.Number.{number_of};
 ghost use Rattle.reader.specs.Answers.{answer_of as Reader·answerOf};
@@ -22,7 +24,7 @@ use writer::Writing;
 
 // The sheet's version and N, or the refusal's place.
 #[repr(C)]
-#[derive(Drop)]
+#[derive(Clone, Copy)]
 pub struct ReadAnswer {
     pub refusal: u32,
     pub version: u16,
@@ -32,7 +34,7 @@ pub struct ReadAnswer {
 
 // The sheet's length.
 #[repr(C)]
-#[derive(Drop)]
+#[derive(Clone, Copy)]
 pub struct WriteAnswer {
     pub refusal: u32,
     pub length: usize,
@@ -40,7 +42,7 @@ pub struct WriteAnswer {
 
 // The joined sheet's length, or the refusal's place.
 #[repr(C)]
-#[derive(Drop)]
+#[derive(Clone, Copy)]
 pub struct JoinAnswer {
     pub refusal: u32,
     pub place: usize,
@@ -48,21 +50,21 @@ pub struct JoinAnswer {
 }
 
 #[repr(C)]
-#[derive(Drop)]
+#[derive(Clone, Copy)]
 pub struct BuildAnswer {
     pub refusal: u32,
 }
 
 // Of starting, registering and withdrawing.
 #[repr(C)]
-#[derive(Drop)]
+#[derive(Clone, Copy)]
 pub struct LiveAnswer {
     pub refusal: u32,
 }
 
 // The plan's number of cycles, weight and tally.
 #[repr(C)]
-#[derive(Drop)]
+#[derive(Clone, Copy)]
 pub struct PlanAnswer {
     pub refusal: u32,
     pub cycles: usize,
@@ -74,7 +76,7 @@ pub struct PlanAnswer {
 
 // The text's length.
 #[repr(C)]
-#[derive(Drop)]
+#[derive(Clone, Copy)]
 pub struct PrintAnswer {
     pub refusal: u32,
     pub length: usize,

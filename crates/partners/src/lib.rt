@@ -1,5 +1,7 @@
 // The lines of a plan's pairs (document 01, 'Writer and printout'): each pair's id and those of its partners, put into a lent buffer, and their
 // lengths. Like every `put` of `text`, these give the place after what they put.
+#![tactic(auto)]
+
 ghost use Rattle.std.specs.Prelude.{◌≡◌, ◌+◌, ◌≤◌, ◌<◌, length, leb};
 ghost use Rattle.text.specs.Text.{following};
 ghost use Rattle.text.specs.Put.{Put};

@@ -1,10 +1,11 @@
 // Reads a pool sheet from standard input and prints the plan of its pool, or the refusal. The longest sheet has 7,425 bytes: one more shows that bytes
 // are left over. Where a read fails nothing is planned; that, and output that is lost, is said on standard error.
+#![tactic(auto)]
 
 ghost use Rattle.std.specs.Prelude.{◌≤◌, length};
 
 // What was read: so many bytes, and whether that is all, or a read failed.
-#[derive(Drop)]
+#[derive(Clone, Copy)]
 struct Input {
     size: usize,
     whole: bool,

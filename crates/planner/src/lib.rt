@@ -1,4 +1,6 @@
 // The planning call.
+#![tactic(auto)]
+
 ghost use Rattle.std.specs.Prelude.{◌≡◌};
 ghost use Rattle.refusal.specs.Answer.{refused, outcome};
 ghost use Rattle.refusal.specs.Number.{number_of};
@@ -17,21 +19,21 @@ use gates::{Counts, Tally};
 use refusal::{Refusal, Verdict};
 
 // "The result carries the plan's weight, number of cycles and tally."
-#[derive(Drop)]
+#[derive(Clone, Copy)]
 pub struct Planned {
     pub weight: u64,
     pub cycles: usize,
     pub tally: Counts,
 }
 
-#[derive(Drop)]
+#[derive(Clone, Copy)]
 pub enum Planning {
     Made(Planned),
     Refused(Refusal),
 }
 
 // What planning gives, with its records by value: the first `cycles` of them.
-#[derive(Drop)]
+#[derive(Clone, Copy)]
 struct Work {
     planning: Planning,
     cycles: usize,

@@ -1,4 +1,6 @@
 // The six points that edges are weighed by (document 02, W-205): by name, out of a table, and whether they pass.
+#![tactic(auto)]
+
 ghost use Rattle.std.specs.Prelude.{◌≡◌, ℕ, ◌≤◌, max, length};
 ghost use Rattle.refusal.specs.Number.{fault_at};
 ghost use Rattle.pool.specs.Points.{registry_points, points_by};
@@ -9,7 +11,7 @@ ghost use Rattle.points.specs.Named.{named};
 use refusal::{Refusal, Verdict};
 
 #[repr(C)]
-#[derive(Drop)]
+#[derive(Clone, Copy)]
 pub struct Points {
     pub base: u16,
     // Mismatches: none, 1 or 2, 3 or 4.

@@ -1,1 +1,2 @@
 // The pool and its sheet: definitions and theorems. No code.
+#![tactic(auto)]

@@ -1,5 +1,7 @@
 // A plan, or a refusal, printed into a lent buffer (document 01, 'Writer and printout'). A text's length is known before any of it is
 // written, so that a refusal leaves the buffer as it was.
+#![tactic(auto)]
+
 ghost use Rattle.std.specs.Prelude.{◌≡◌, ◌≤◌, length};
 ghost use Rattle.refusal.specs.Answer.{outcome};
 ghost use Rattle.refusal.specs.Number.{number_of, fault_at};
@@ -14,7 +16,7 @@ ghost use Rattle.printout.specs.Promises.{PrintsPlan, PrintsRefused, PrintsRefus
 use refusal::{Refusal, Verdict};
 
 // What printing answers: the text's length, or the refusal, whose place is 0.
-#[derive(Drop)]
+#[derive(Clone, Copy)]
 pub enum Printing {
     Length(usize),
     Refused(Refusal),

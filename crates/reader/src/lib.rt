@@ -1,5 +1,7 @@
 // A pool sheet read into lent tables (document 01, 'The pool sheet' and 'Turned back', with 02's version 2). The whole sheet is checked before anything is
 // filled, so that a refusal leaves every table as it was.
+#![tactic(auto)]
+
 ghost use Rattle.std.specs.Prelude.{◌≡◌, length};
 ghost use Rattle.refusal.specs.Answer.{outcome};
 ghost use Rattle.pool.specs.Sheet.{pool_of};
@@ -14,7 +16,7 @@ use refusal::{Refusal, Verdict};
 use scan::Found;
 
 // What reading a sheet answers: its version and N, or the refusal and its place.
-#[derive(Drop)]
+#[derive(Clone, Copy)]
 pub enum Reading {
     Pairs(u16, usize),
     Refused(Refusal, usize),

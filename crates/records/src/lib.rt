@@ -1,4 +1,6 @@
 // The records of a plan, in an array by value and in a table that the caller lends.
+#![tactic(auto)]
+
 ghost use Rattle.std.specs.Prelude.{◌≡◌, ◌<◌, length, set, take};
 ghost use Rattle.laws.specs.Lent.{filled};
 ghost use Rattle.records.specs.Copying.{record_at, Puttable, Writable};

@@ -1,8 +1,10 @@
 // The refusals of document 01 by name, and each one's number there ('Turned back, by whom it is caused'), with those that document 02 adds to its list.
+#![tactic(auto)]
+
 ghost use Rattle.std.specs.Prelude.{◌≡◌};
 ghost use Rattle.refusal.specs.Number.{number_of};
 
-#[derive(Drop)]
+#[derive(Clone, Copy)]
 pub enum Refusal {
     // The sender of the sheet: a field's start or value is cut off or missing.
     CutOff,
@@ -40,7 +42,7 @@ pub enum Refusal {
 }
 
 // What a check of one thing finds.
-#[derive(Drop)]
+#[derive(Clone, Copy)]
 pub enum Verdict {
     Sound,
     Faulty(Refusal),

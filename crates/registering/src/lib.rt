@@ -1,5 +1,7 @@
 // Registering a pair in a live pool (document 02, W-206 and W-207). All is checked before anything is filled, so that a refusal leaves every table and the count as they
 // were.
+#![tactic(auto)]
+
 ghost use Rattle.std.specs.Prelude.{◌≡◌, List, ℕ, ◌+◌, ◌≤◌, length};
 ghost use Rattle.refusal.specs.Fault.{◌then◌};
 ghost use Rattle.refusal.specs.Answer.{outcome};

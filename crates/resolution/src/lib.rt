@@ -1,4 +1,6 @@
 // Resolution: the chosen cycles as records and as partners, with their weight. It is not tallied, and may look at a choice.
+#![tactic(auto)]
+
 ghost use Rattle.std.specs.Prelude.{◌≡◌, [], ◌∷◌, ◌^◌, ◌≤◌, ◌<◌, length, set};
 ghost use Rattle.laws.specs.Below.{table};
 ghost use Rattle.exchange.specs.Subsets.{up_to_three, edges};
@@ -12,14 +14,14 @@ use cursor::Places;
 use cycle::Cycle;
 
 // A cycle's record and its weight.
-#[derive(Drop)]
+#[derive(Clone, Copy)]
 pub struct Giving {
     pub cycle: Cycle,
     pub weight: usize,
 }
 
 // The weight and the number of some cycles, and their records from the first on.
-#[derive(Drop)]
+#[derive(Clone, Copy)]
 pub struct Resolved {
     pub weight: usize,
     pub cycles: usize,

@@ -1,4 +1,6 @@
 // The rounds: always all of them. What runs depends on n and the number of rounds alone.
+#![tactic(auto)]
+
 ghost use Rattle.std.specs.Prelude.{◌≡◌, length};
 ghost use Rattle.greedy.specs.Rounds as Rounds;
 ghost use Rattle.exchange.specs.Subsets.{up_to_three, order};

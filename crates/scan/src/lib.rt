@@ -1,4 +1,6 @@
 // The checker of a sheet's bytes (document 01, 'Turned back'): the first fault there is, with its place.
+#![tactic(auto)]
+
 ghost use Rattle.std.specs.Prelude.{◌≡◌, ◌+◌, ◌≤◌, ◌<◌, length};
 ghost use Rattle.refusal.specs.Fault.{first_below};
 ghost use Rattle.refusal.specs.Number.{fault_at};
@@ -10,7 +12,7 @@ ghost use Rattle.scan.specs.Preconditions.{Noted};
 use refusal::{Refusal, Verdict};
 
 // What a search for a fault finds: nothing, or the first refusal and its place.
-#[derive(Drop)]
+#[derive(Clone, Copy)]
 pub enum Found {
     Nothing,
     Fault(Refusal, usize),

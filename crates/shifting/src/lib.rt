@@ -1,5 +1,7 @@
 // A pair is taken out of a live pool's tables, in place and in one ascending pass (document 02, W-206): of a table of a field one entry, of M and W one row and
 // one column.
+#![tactic(auto)]
+
 ghost use Rattle.std.specs.Prelude.{◌≡◌, ◌+◌, ◌≤◌, ◌<◌};
 ghost use Rattle.laws.specs.Below.{table};
 ghost use Rattle.laws.specs.Lent.{stored};

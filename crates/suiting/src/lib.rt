@@ -1,5 +1,7 @@
 // How many donors suit each patient of a live pool (document 02, W-207): the ones in the columns of M, counted row by row; the stored numbers held to them; and
 // the numbers that are left where a pair goes.
+#![tactic(auto)]
+
 ghost use Rattle.std.specs.Prelude.{◌≡◌, not, ◌+◌, ◌-◌, ◌≤◌, eqb, length};
 ghost use Rattle.laws.specs.Below.{table, one};
 ghost use Rattle.laws.specs.Lent.{filled};

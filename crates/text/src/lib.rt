@@ -1,4 +1,6 @@
 // The pieces of a printout (document 01, 'Writer and printout'): numbers in decimal, words and lines, put into a lent buffer, and their lengths.
+#![tactic(auto)]
+
 ghost use Rattle.std.specs.Prelude.{◌≡◌, ◌+◌, ◌≤◌, ◌<◌, length};
 ghost use Rattle.text.specs.Text.{decimal, digit as Text·digit, following, number_line};
 ghost use Rattle.text.specs.Put.{Put};

@@ -1,6 +1,8 @@
 // Pairs to try, and the tables that building makes of them: the documents' edge examples, antigens that both or only the patient has, every two blood
 // groups, antigens and antibodies at both ends of the laboratory's list, two registries' own points, the limits, and each refusal. What it prints is held
 // to the file 'stdout'. Every lent entry holds 99 before a call, and the first one past the filled part is printed too.
+#![tactic(auto)]
+
 ghost use Rattle.std.specs.Prelude.{◌≤◌, length};
 
 use refusal::Refusal;
@@ -80,7 +82,7 @@ fn print_answer(answer: Building) {
 
 // The first pair's donor and the second pair's patient; the second pair's donor and the first pair's patient are O, young, with no antigens and
 // no antibodies.
-#[derive(Drop)]
+#[derive(Clone, Copy)]
 struct Edge {
     donor_blood: u8,
     patient_blood: u8,

@@ -1,6 +1,8 @@
 // Sheets to try, and what joining them says (document 02, W-201 and W-205): document 01's example with an addendum of one pair and of two, no pairs on
 // either side, the same in version 2, the limits, versions and points that differ, and each refusal in its order. What it prints is held to the file
 // 'stdout'. Every lent byte holds 99 before a call.
+#![tactic(auto)]
+
 ghost use Rattle.std.specs.Prelude.{◌+◌, ◌≤◌};
 
 use joining::Joining;

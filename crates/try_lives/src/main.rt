@@ -1,12 +1,14 @@
 // A live pool from call to call: a run of document 02's W-206 and W-207 with its tables after each call, each refusal and what comes first of two, tables that a caller
 // changed, and two hundred pairs. What it prints is held to the file 'stdout', which is what the planner in Rust prints (trial/examples/lives.rs).
+#![tactic(auto)]
+
 ghost use Rattle.std.specs.Prelude.{◌+◌, ◌≤◌};
 
 use live::{Change, Pair};
 use points::Points;
 
 // A pool's count and tables, and what the last call answered: 0 where it was done, else the refusal's number.
-#[derive(Drop)]
+#[derive(Clone, Copy)]
 struct Pool {
     answer: u8,
     count: usize,
@@ -25,7 +27,7 @@ struct Pool {
 }
 
 // What a pool is asked.
-#[derive(Drop)]
+#[derive(Clone, Copy)]
 enum Call {
     Register(Pair),
     Withdraw(u32),
@@ -70,7 +72,7 @@ fn number(answer: Change) -> u8 {
 }
 
 // How many entries of the points, of the ids, of M, of W and of the numbers of suitable donors are lent to a call. The other tables are lent whole.
-#[derive(Drop)]
+#[derive(Clone, Copy)]
 struct Lent {
     points: usize,
     ids: usize,
@@ -498,7 +500,7 @@ const SECOND_BLOOD: usize = 8;
 const SECOND_NUMBER: usize = 9;
 
 // The run's first two pairs, with what the row says.
-#[derive(Drop)]
+#[derive(Clone, Copy)]
 struct Row {
     numbers: [u16; 10],
 }

@@ -1,5 +1,7 @@
 // Pools to try, and the plans that planning makes of them: document 01's k1 to k12, pools with floors, weightless edges, pools with rivals that weigh as much as
 // W-208's bound allows, one of 36 and one of 200. What it prints is held to the file 'stdout'. Every lent entry holds 99 before a call, and the first one past the filled part is printed too.
+#![tactic(auto)]
+
 ghost use Rattle.std.specs.Prelude.{◌≡◌, ◌≤◌, ◌<◌, length, replicate};
 ghost use Rattle.refusal.specs.Answer.{outcome};
 ghost use Rattle.exchange.specs.Input.{request};
@@ -94,7 +96,7 @@ fn print_answer(answer: Planning) {
 }
 
 // What planning answered, and the table of records that it was lent.
-#[derive(Drop)]
+#[derive(Clone, Copy)]
 struct Planned {
     answer: Planning,
     records: [Cycle; 101],

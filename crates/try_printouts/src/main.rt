@@ -1,5 +1,7 @@
 // Printouts to try: document 01's example, nobody, the least and the greatest numbers, numbers that are no pair's, and every reason for 9. What
 // it prints is held to the file 'stdout'. Every lent byte holds '#' before a call; the text is shown with eight bytes past it.
+#![tactic(auto)]
+
 ghost use Rattle.std.specs.Prelude.{◌≤◌};
 
 use printout::Printing;

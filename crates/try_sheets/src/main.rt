@@ -1,5 +1,7 @@
 // Sheets of both versions to try, and what reading and writing them says: document 01's example there and back, the limits, points, and each refusal with
 // its place. What it prints is held to the file 'stdout'. Every lent entry holds 99 before a call.
+#![tactic(auto)]
+
 ghost use Rattle.std.specs.Prelude.{◌≤◌};
 
 use reader::Reading;

@@ -1,5 +1,7 @@
 // Numbers of subsets to try, and the places that they stand for (document 02, W-203): all of up to 12 places in order, and single ones of 36 and of 200,
 // there and back. What it prints is held to the file 'stdout'.
+#![tactic(auto)]
+
 ghost use Rattle.std.specs.Prelude.{◌≤◌, ◌<◌};
 ghost use Rattle.exchange.specs.Subsets.{up_to_three, subset_count};
 

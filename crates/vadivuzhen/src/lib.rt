@@ -1,4 +1,6 @@
 // The library's calls with a C boundary (include/vadivuzhen.h). Each hands its arguments on, and answers in numbers (crate `numbers`).
+#![tactic(auto)]
+
 ghost use Rattle.std.specs.Prelude.{◌≡◌};
 ghost use Rattle.pool.specs.Lent.{lent_fields, lent_tables};
 ghost use Rattle.pool.specs.Calls.{reading, writing};

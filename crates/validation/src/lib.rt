@@ -1,4 +1,6 @@
 // What planning checks of its input before anything is filled: 4, 13, 9, 8, 10, 17.
+#![tactic(auto)]
+
 ghost use Rattle.std.specs.Prelude.{◌≡◌, ◌*◌, ◌≤◌, ◌<◌, ltb, length};
 ghost use Rattle.laws.specs.Below.{any_below};
 ghost use Rattle.refusal.specs.Fault.{refuse, ◌then◌};

@@ -1,5 +1,7 @@
 // Building (document 01, 'Compatibility and weight'): the tables M and W from a pool's fields, weighed by the points of its version (document 02,
 // W-205). All is checked before anything is filled, so that a refusal leaves both tables as they were.
+#![tactic(auto)]
+
 ghost use Rattle.std.specs.Prelude.{◌≡◌};
 ghost use Rattle.refusal.specs.Answer.{outcome};
 ghost use Rattle.refusal.specs.Number.{fault_at};
@@ -12,7 +14,7 @@ ghost use Rattle.weighing.specs.Promises.{BuildsRightly};
 use refusal::{Refusal, Verdict};
 
 // What building answers: the tables are built, or the refusal.
-#[derive(Drop)]
+#[derive(Clone, Copy)]
 pub enum Building {
     Built,
     Refused(Refusal),

@@ -1,5 +1,7 @@
 // Withdrawing a pair from a live pool (document 02, W-206 and W-207). All is checked before anything is moved, so that a refusal leaves every table and the count as they
 // were.
+#![tactic(auto)]
+
 ghost use Rattle.std.specs.Prelude.{◌≡◌, ◌-◌, ◌≤◌, length};
 ghost use Rattle.refusal.specs.Answer.{outcome};
 ghost use Rattle.pool.specs.Tables.{item_in};

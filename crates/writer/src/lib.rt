@@ -1,5 +1,7 @@
 // A pool in lent tables written as a sheet into a lent buffer (document 01, 'The pool sheet' and 'Writer and printout', with 02's version 2). Everything is
 // checked before anything is written, so that a refusal leaves the buffer as it was.
+#![tactic(auto)]
+
 ghost use Rattle.std.specs.Prelude.{◌≡◌, ◌≤◌, length};
 ghost use mathlib.Core.List.{flat_map};
 ghost use Rattle.laws.specs.Below.{table};
@@ -19,7 +21,7 @@ ghost use Rattle.writer.specs.Answers.{answer_of};
 use refusal::{Refusal, Verdict};
 
 // What writing a sheet answers: its length, or the refusal, whose place is 0.
-#[derive(Drop)]
+#[derive(Clone, Copy)]
 pub enum Writing {
     Length(usize),
     Refused(Refusal),
