@@ -1,0 +1,43 @@
+-- `points::judge` meets its contract: its tests, one after another, are those of 14. Assumes nothing.
+use mathlib.Core.Path.{◌≡◌}
+use Prim.Native.Nat.{ℕ, ◌+◌, max}
+use borrow.Author.Rules.{rules}
+use borrow.Author.Tests.{eq-eqb, ne_eqb, lt-ltb, le-ltb}
+use Rattle.laws.specs.Below.{either}
+use Rattle.refusal.specs.Fault.{refuse}
+use Rattle.refusal.specs.Number.{fault_at}
+use Rattle.pool.specs.Points.{heaviest}
+use Rattle.pool.specs.Faults.{points_fault}
+use Rattle.points.specs.Named.{named}
+use Rattle.points.specs.declared.Points.{Points}
+use Rattle.points.proofs.judge.Goals as goal
+
+-- the largest and the larger, as the code finds them
+summed : (q : Points) (x y z : ℕ) → x ≡ max q.few q.some → y ≡ max q.none x → z ≡ max q.equal q.young_to_senior
+    → heaviest (named q) ≡ q.base + y + z
+unfolding heaviest
+summed q x y z e f g = rw (f, e, g)
+
+pub returns-then-points-eq0 : goal.returns-then-points-eq0
+unfolding fault_at points_fault refuse either
+returns-then-points-eq0 c o = rw (eq-eqb _ _ c.if-points-eq0.true)
+
+pub returns-then-points-mismatch-gt65535 : goal.returns-then-points-mismatch-gt65535
+unfolding fault_at points_fault refuse either
+returns-then-points-mismatch-gt65535 c o =
+    let third = c in
+    let second = third in
+    let first = second in
+    let s = first in
+    let e = summed s.args.points _ _ _ first.larger.ensures second.larger-mismatch.ensures third.larger-age.ensures in
+    rw (ne_eqb _ _ s.if-points-eq0.false, e, lt-ltb 65535 _ c.if-points-mismatch-gt65535.true)
+
+pub returns : goal.returns
+unfolding fault_at points_fault refuse either
+returns c o =
+    let third = c in
+    let second = third in
+    let first = second in
+    let s = first in
+    let e = summed s.args.points _ _ _ first.larger.ensures second.larger-mismatch.ensures third.larger-age.ensures in
+    rw (ne_eqb _ _ s.if-points-eq0.false, e, le-ltb 65535 _ c.if-points-mismatch-gt65535.false)
