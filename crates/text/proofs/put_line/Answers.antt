@@ -67,12 +67,9 @@ bounds-out-end c =
       c.loop-i.invariant.1,
     )
 
--- ??
--- add-result : tie.Need-overflow-add-result invariant-loop decreases-loop
--- add-result c =
---     let w = c in
---     let s = c in
---     omega (arith, s.requires, length-line s.args.word.now s.args.numbers.now, w.put_word.ensures.ends, (numbered c).ends)
+pub overflow_add-result : goal.overflow_add-result
+overflow_add-result c =
+    omega (arith, c.requires, length-line c.args.word.now c.args.numbers.now, c.put_word-end.ensures.ends, (numbered c).ends)
 
 pub shape_of-out : goal.shape_of-out
 shape_of-out c =

@@ -1,0 +1,24 @@
+-- `checks::times` meets its contract. The loop's invariant: `count` is how often v stands among the numbers passed. Assumes nothing.
+use Prim.Native.Nat.{ℕ, ◌-◌, ◌≤◌}
+use mathlib.Core.Path.{◌≡◌, refl, ap, ◌∙◌}
+use mathlib.Core.Bool.{Bool}
+use mathlib.Core.List.{List}
+use mathlib.Core.Logic.{⊎_elim}
+use native.Mathlib.Omega.{arith}
+use borrow.Author.Rules.{rules}
+use borrow.Author.Tests.{eq-eqb, ne_eqb}
+use lib.Dec.{eqb}
+use lib.ListN.{get_or}
+use Rattle.laws.specs.Below.{count_below}
+use Rattle.laws.proofs.Below.{count_hit, count_miss}
+use Rattle.checks.proofs.times.Given as goal
+
+-- does v stand at k?
+abbrev pub hit : List ℕ → ℕ → ℕ → Bool
+hit s v k = eqb (get_or s k 0) v
+
+abbrev pub invariant-loop-j : goal.invariant-loop-j
+invariant-loop-j l = (l.j ≤ l.n) × (l.count ≤ l.j) × (l.count ≡ count_below l.j (hit l.s l.v))
+
+abbrev pub decreases-loop-j : goal.decreases-loop-j
+decreases-loop-j l = l.n - l.j

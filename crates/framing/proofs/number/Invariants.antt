@@ -1,0 +1,24 @@
+-- `framing::number` meets its contract. The loop's invariant: x is the number in the k - left bytes passed. Assumes nothing.
+use Prim.Native.Nat.{ℕ, ◌+◌, ◌-◌, ◌*◌, ◌^◌, ◌≤◌, ◌<◌}
+use mathlib.Core.Path.{◌≡◌, refl, sym, ap, ◌∙◌}
+use mathlib.Core.List.{List}
+use native.Mathlib.Nat.{pow-le-pow_right, pow-suc}
+use native.Mathlib.Numerals.{add-one}
+use native.Mathlib.Omega.{arith}
+use lib.Arith.{digits_lt}
+use lib.Dec.{lit<}
+use lib.ListN.{get_or}
+use Rattle.laws.specs.Digits.{big_endian}
+use Rattle.laws.proofs.Digits.{big_endian_more}
+use Rattle.framing.proofs.number.Given as goal
+
+-- x is the number in i bytes
+pub record Passed (b : List ℕ) (at i x : ℕ) : Type 0 where
+  pub is : x ≡ big_endian i b at
+  pub below : x < 256 ^ i
+
+abbrev pub invariant-loop-left : goal.invariant-loop-left
+invariant-loop-left l = (l.left ≤ l.k) × Passed l.b l.at (l.k - l.left) l.x
+
+abbrev pub decreases-loop-left : goal.decreases-loop-left
+decreases-loop-left l = l.left
