@@ -9,7 +9,7 @@ use native.Mathlib.Decide.{dec_lt}
 use lib.Dec.{ltb}
 use lib.ListN.{length, get_or, take, drop, length-append, length-drop, take-append-drop, get_or-append}
 use lib.Seq.{get_or-append-add, length-take-le}
-use borrow.Author.Tests.{ltb-true, ltb-false, eq-eqb, ne_eqb, le-ltb}
+use borrow.Author.Tests.{ltb-true, ltb-false, eq-eqb, ne_eqb}
 use Rattle.greedy.specs.Tally.{Tally, raise}
 use Rattle.greedy.specs.Promises.{first_at, HalvesGiveTheChoice, greatest, choice}
 use Rattle.greedy.specs.Rounds.{Winner, winner, join, by_halves, choosing}

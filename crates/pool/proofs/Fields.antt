@@ -5,7 +5,7 @@ use Prim.Native.Nat.{ℕ, ◌+◌, ◌≤◌}
 use native.Mathlib.Omega.{arith}
 use borrow.Author.Tests.{le-ltb, ltb-true, ltb-false, eq-eqb, eqb-true, eqb-false, not-true, not-false}
 use lib.ListN.{length}
-use Rattle.refusal.specs.Fault.{Fault, none, fault, refuse, ◌then◌}
+use Rattle.refusal.specs.Fault.{none, fault, refuse, ◌then◌}
 use Rattle.refusal.proofs.Faults.{then_none, refuse_none, by_refuse, by_then}
 use Rattle.laws.specs.Digits.{big_endian}
 use Rattle.pool.specs.Sheet.{start_length}

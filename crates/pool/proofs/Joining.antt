@@ -12,7 +12,7 @@ use Rattle.laws.specs.Below.{any_below}
 use Rattle.laws.specs.Lent.{filled}
 use Rattle.laws.proofs.Below.{any_none, none_any, any_found}
 use Rattle.laws.proofs.Lent.{take-filled}
-use Rattle.refusal.specs.Fault.{none, fault, refuse, ◌then◌}
+use Rattle.refusal.specs.Fault.{none, fault, refuse}
 use Rattle.refusal.specs.Answer.{finished, refused, Outcome, outcome}
 use Rattle.refusal.proofs.Faults.{none_fault, then_none, none_then, refuse_none, none_refuse, by_refuse, by_then, unless_none, unless_fault, finished_none, refused_fault}
 use Rattle.pool.specs.Points.{point_count}

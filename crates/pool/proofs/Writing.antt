@@ -8,7 +8,7 @@ use lib.ListN.{length}
 use Rattle.laws.specs.Below.{table}
 use Rattle.laws.specs.Lent.{filled}
 use Rattle.laws.proofs.Below.{table_cong}
-use Rattle.refusal.specs.Fault.{none, fault, ◌then◌}
+use Rattle.refusal.specs.Fault.{none, fault}
 use Rattle.refusal.specs.Answer.{finished, refused, Outcome, outcome}
 use Rattle.refusal.proofs.Faults.{then_none, none_then, refuse_none, none_refuse, first_none, none_first, by_refuse, by_then, by_first, unless_none, unless_fault, finished_none, refused_fault}
 use Rattle.pool.specs.Pool.{Pair}

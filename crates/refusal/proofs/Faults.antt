@@ -8,7 +8,7 @@ use native.Mathlib.Omega.{arith}
 use native.Mathlib.Decide.{dec_lt}
 use Rattle.laws.proofs.Below.{below_suc}
 use Rattle.refusal.specs.Fault.{Fault, none, fault, refuse, only, ◌then◌, first_below}
-use Rattle.refusal.specs.Answer.{Answer, finished, refused, Outcome, outcome, unless}
+use Rattle.refusal.specs.Answer.{finished, refused, outcome, unless}
 use Rattle.refusal.specs.Number.{number_of, fault_at}
 use Rattle.refusal.specs.declared.Refusal.{Refusal}
 use Rattle.refusal.specs.declared.Verdict.{Verdict}

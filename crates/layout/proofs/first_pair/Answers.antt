@@ -1,7 +1,6 @@
 -- `layout::first_pair` meets its contract. Assumes nothing.
 use mathlib.Core.Path.{sym, ◌∙◌}
 use native.Mathlib.Omega.{arith}
-use borrow.Author.Rules.{rules}
 use Rattle.pool.specs.Sheet.{points_size}
 use Rattle.layout.proofs.first_pair.Goals as goal
 

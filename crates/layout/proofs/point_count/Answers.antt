@@ -1,6 +1,5 @@
 -- `layout::point_count` meets its contract. Assumes nothing.
 use mathlib.Core.Path.{sym, ◌∙◌}
-use borrow.Author.Rules.{rules}
 use Rattle.pool.specs.Points.{point_count}
 use Rattle.layout.proofs.point_count.Goals as goal
 

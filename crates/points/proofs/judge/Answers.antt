@@ -1,7 +1,6 @@
 -- `points::judge` meets its contract: its tests, one after another, are those of 14. Assumes nothing.
 use mathlib.Core.Path.{◌≡◌}
 use Prim.Native.Nat.{ℕ, ◌+◌, max}
-use borrow.Author.Rules.{rules}
 use borrow.Author.Tests.{eq-eqb, ne_eqb, lt-ltb, le-ltb}
 use Rattle.laws.specs.Below.{either}
 use Rattle.refusal.specs.Fault.{refuse}

@@ -1,5 +1,5 @@
 -- `text::line_length` meets its contract. The invariant: the word and i numbers are added up. Assumes nothing.
-use Prim.Native.Nat.{ℕ, ◌+◌, ◌*◌, ◌-◌, ◌≤◌}
+use Prim.Native.Nat.{ℕ}
 use mathlib.Core.Path.{◌≡◌, ap}
 use mathlib.Core.List.{flatten}
 use native.Mathlib.Omega.{arith}

@@ -1,11 +1,10 @@
 -- `text::line_length` meets its contract. The invariant: the word and i numbers are added up. Assumes nothing.
-use Prim.Native.Nat.{ℕ, ◌+◌, ◌*◌, ◌-◌, ◌≤◌}
-use mathlib.Core.Path.{◌≡◌, ap}
+use Prim.Native.Nat.{◌+◌, ◌*◌, ◌-◌, ◌≤◌}
+use mathlib.Core.Path.{◌≡◌}
 use mathlib.Core.List.{flatten}
-use native.Mathlib.Omega.{arith}
 use lib.ListN.{length as size}
 use Rattle.laws.specs.Below.{table}
-use Rattle.text.proofs.Lines.{following_at, length_none, length_texts, length-line}
+use Rattle.text.proofs.Lines.{following_at}
 use Rattle.text.proofs.line_length.Given as goal
 
 abbrev pub invariant-loop-i : goal.invariant-loop-i

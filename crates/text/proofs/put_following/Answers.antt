@@ -3,7 +3,6 @@ use mathlib.Core.Path.{◌∙◌}
 use native.Mathlib.Omega.{arith}
 use lib.ListN.{length-set}
 use Rattle.text.proofs.Puts.{put_following}
-use borrow.Author.Rules.{rules}
 use Rattle.text.proofs.put_following.Goals as goal
 
 pub put_number-requires : goal.put_number-requires

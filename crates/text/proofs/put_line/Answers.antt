@@ -1,10 +1,7 @@
 -- `text::put_line` meets its contract. The invariant: i numbers are put after the word. Assumes nothing.
-use Prim.Native.Nat.{◌-◌, ◌≤◌}
-use mathlib.Core.Path.{◌≡◌, refl, ◌∙◌}
-use mathlib.Core.List.{flatten}
+use mathlib.Core.Path.{refl, ◌∙◌}
 use native.Mathlib.Omega.{arith}
 use lib.ListN.{length, length-set}
-use Rattle.laws.specs.Below.{table}
 use Rattle.text.specs.Put.{Put}
 use Rattle.text.proofs.Lines.{following_at, after, texts_none, next_fits, put_next, texts_all, length-line, put_line}
 use Rattle.text.proofs.put_line.Goals as goal

@@ -1,12 +1,11 @@
 -- `text::put_line` meets its contract. The invariant: i numbers are put after the word. Assumes nothing.
 use Prim.Native.Nat.{◌-◌, ◌≤◌}
-use mathlib.Core.Path.{◌≡◌, refl, ◌∙◌}
+use mathlib.Core.Path.{◌≡◌}
 use mathlib.Core.List.{flatten}
-use native.Mathlib.Omega.{arith}
-use lib.ListN.{length, length-set}
+use lib.ListN.{length}
 use Rattle.laws.specs.Below.{table}
 use Rattle.text.specs.Put.{Put}
-use Rattle.text.proofs.Lines.{following_at, after, texts_none, next_fits, put_next, texts_all, length-line, put_line}
+use Rattle.text.proofs.Lines.{following_at}
 use Rattle.text.proofs.put_line.Given as goal
 
 abbrev pub invariant-loop-i : goal.invariant-loop-i

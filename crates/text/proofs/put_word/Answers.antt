@@ -1,6 +1,5 @@
 -- `text::put_word` meets its contract. Assumes nothing.
 use mathlib.Core.Path.{refl}
-use borrow.Author.Rules.{rules}
 use Rattle.text.proofs.put_word.Goals as goal
 
 pub returns : goal.returns
