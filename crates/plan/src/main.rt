@@ -4,6 +4,8 @@
 
 ghost use Rattle.std.specs.Prelude.{◌≤◌, length};
 
+use std::io::Read;
+
 // What was read: so many bytes, and whether that is all, or a read failed.
 #[derive(Clone, Copy)]
 struct Input {
@@ -12,31 +14,29 @@ struct Input {
 }
 
 // Reads until the table is full or the input ends.
-fn read_sheet(sheet: &mut [u8]) -> Input
+fn read_sheet<R: Read>(from: &mut R, sheet: &mut [u8]) -> Input
     ensures { result.size ≤ length sheet.new }
 {
     let mut size: usize = 0;
     while size < sheet.len() {
-        let got = libc::read(0, &mut sheet[size..]);
-        let more = io::count(got, &sheet[size..]);
-        if more == 0 {
-            // The input ended, or the read answered -1.
-            return Input {
-                size: size,
-                whole: got == 0,
-            };
+        match from.read(&mut sheet[size..]) {
+            Ok(0) => {
+                return Input { size: size, whole: true };
+            }
+            Ok(more) => {
+                size += more;
+            }
+            Err(_) => {
+                return Input { size: size, whole: false };
+            }
         }
-        size += more;
     }
-    Input {
-        size: size,
-        whole: true,
-    }
+    Input { size: size, whole: true }
 }
 
-fn main() {
+fn main(rt: HostRuntime) {
     let mut sheet = [0u8; 7426];
-    let input = read_sheet(&mut sheet);
+    let input = read_sheet(&mut rt.stdin(), &mut sheet);
     if !input.whole {
         io::write_all(
             2,
