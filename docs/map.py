@@ -17,7 +17,8 @@ def groups():
             found.append((line.lstrip('# ').rstrip('.'), {}))
         elif ':' in line:
             name, needs = line.split('#')[0].split(':')
-            found[-1][1][name.strip()] = needs.split()
+            # a static library says so after its name
+            found[-1][1][name.split()[0]] = needs.split()
     return [(title, rooms) for title, rooms in found if rooms]
 
 

@@ -12,12 +12,12 @@ const FOLDER: &str = "VADIVUZHEN_LIB";
 fn main() {
     println!("cargo:rerun-if-env-changed={FOLDER}");
     let package = env::var_os("CARGO_MANIFEST_DIR").expect("cargo names the package");
-    let folder = env::var_os(FOLDER).unwrap_or("../target/staticlib".into());
+    let folder = env::var_os(FOLDER).unwrap_or("../crates/vadivuzhen/out".into());
     let archive = Path::new(&package).join(folder).join("libvadivuzhen.a");
     println!("cargo:rerun-if-changed={}", archive.display());
     let Ok(archive) = archive.canonicalize() else {
         eprintln!("the proved library is not at {}", archive.display());
-        eprintln!("run `rt staticlib vadivuzhen` in the repository,");
+        eprintln!("run `rt lib` in crates/vadivuzhen,");
         eprintln!("or set {FOLDER} to the folder that has libvadivuzhen.a");
         exit(1);
     };

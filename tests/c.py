@@ -10,7 +10,7 @@ from closing import check, close
 
 top = pathlib.Path(__file__).resolve().parent.parent
 STRICT = ['-Wall', '-Wextra', '-Werror', '-pedantic', '-I', top / 'include']
-LIBRARY = top / 'target' / 'staticlib' / 'libvadivuzhen.a'
+LIBRARY = top / 'crates' / 'vadivuzhen' / 'out' / 'libvadivuzhen.a'
 PRINTED = 'PLAN 2 1 2900\n11 12 12\n12 11 11\nCOUNTS 1 6 1\n'
 POINTS = bytes.fromhex('04 000C 03E8 0190 00FA 0064 0032 001E')
 
@@ -121,8 +121,8 @@ def try_calls(folder):
         check(line.startswith('ok: '), f'tests/calls.c: {line}')
 
 
-made = run('rt', 'staticlib', 'vadivuzhen')
-check(made.returncode == 0 and LIBRARY.is_file(), 'rt staticlib vadivuzhen:\n' + (made.stdout + made.stderr).decode('utf-8', 'replace')[-3000:])
+made = subprocess.run(['rt', 'lib'], cwd=LIBRARY.parent.parent, capture_output=True)
+check(made.returncode == 0 and LIBRARY.is_file(), 'rt lib in crates/vadivuzhen:\n' + (made.stdout + made.stderr).decode('utf-8', 'replace')[-3000:])
 builds('the header as C11', 'gcc', '-std=c11', *STRICT, '-fsyntax-only', '-x', 'c', top / 'include' / 'vadivuzhen.h')
 builds('the header as C++', 'g++', '-std=c++11', *STRICT, '-fsyntax-only', '-x', 'c++', top / 'include' / 'vadivuzhen.h')
 with tempfile.TemporaryDirectory() as name:

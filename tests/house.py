@@ -29,7 +29,7 @@ def used_by(name):
     for folder, pattern in (('src', '*.rt'), ('specs', '*.antt'), ('proofs', '*.antt')):
         for file in sorted((top / 'crates' / name / folder).rglob(pattern)):
             text = without_comments(file)
-            named = re.findall(r'\bRattle·([a-z0-9_]+)', text)
+            named = re.findall(r'\bRattle\.([a-z0-9_]+)', text)
             if folder == 'src':
                 named += re.findall(r'(?<![\w:])([a-z0-9_]+)::', text)
             for other in set(named) & ({*house, *KIT} - {name}):

@@ -8,7 +8,7 @@ import subprocess
 from closing import check, close
 
 top = pathlib.Path(__file__).resolve().parent.parent
-LIBRARY = {'VADIVUZHEN_LIB': str(top / 'target' / 'staticlib')}
+LIBRARY = {'VADIVUZHEN_LIB': str(top / 'crates' / 'vadivuzhen' / 'out')}
 PRINTED = 'PLAN 2 1 2900\n11 12 12\n12 11 11\nCOUNTS 1 6 1\n'
 
 
@@ -53,7 +53,7 @@ with open('/dev/full', 'wb') as full:
 check(unwritten.returncode == 2 and b'the text cannot be written' in unwritten.stderr, 'the example with no room for its text:\n' + said(unwritten))
 
 lost = cargo('rust', 'build', '--offline', VADIVUZHEN_LIB='nowhere')
-told = [f"the proved library is not at {top / 'rust' / 'nowhere' / 'libvadivuzhen.a'}\n", 'run `rt staticlib vadivuzhen`']
+told = [f"the proved library is not at {top / 'rust' / 'nowhere' / 'libvadivuzhen.a'}\n", 'run `rt lib` in crates/vadivuzhen']
 check(lost.returncode != 0 and all(line in said(lost) for line in told), 'a build without the archive:\n' + said(lost))
 
 bench = cargo('bench', 'run', '--release', '--offline', '--quiet', '--', '10')

@@ -229,6 +229,8 @@ class Source:
         text = self.raw = joined(text)
         self.clauses = [line.strip() for line in text.splitlines() if re.match(r'\s*(ghost use|requires|ensures)\b', line)]
         rest = '\n'.join(re.sub(r'//.*', '', line) for line in text.splitlines() if line.strip() not in self.clauses)
+        # what a crate says of how it is checked, and that its plain structs may be copied
+        rest = re.sub(r'^#(!\[tactic\(auto\)\]|\[derive\(Clone, Copy\)\]|\[cycle\(\w+\)\])$', '', rest, flags=re.M)
         self.uses = re.findall(r'^use ([^;]*);', rest, re.M)
         rest = re.sub(r'^use [^;]*;', '', rest, flags=re.M)
         self.structs = {name: ' '.join(struct.split()) for struct, name in re.findall(r'^(pub struct (\w+) \{[^{}]*\})', rest, re.M)}
@@ -668,7 +670,7 @@ CHEATS = [
 
 def compiled(folder, crate):
     """What the compiler says of a crate: no contract and no proof is looked at."""
-    run = subprocess.run(['rt', 'mir', crate], cwd=folder, capture_output=True, text=True)
+    run = subprocess.run(['rt', 'check', '--generated', folder / 'generated'], cwd=folder / 'crates' / crate, capture_output=True, text=True)
     return run.returncode == 0, run.stdout + run.stderr
 
 
@@ -676,8 +678,8 @@ def tried(cheats):
     """Of each of these cheats, in a copy of the tree: its text, whether every edit fits, and what the compiler says."""
     with tempfile.TemporaryDirectory() as folder:
         copy = pathlib.Path(folder)
-        for name in 'crates', 'crates.txt', 'target/rlib', 'target/stamp':
-            (shutil.copytree if (top / name).is_dir() else shutil.copy)(top / name, copy / name)
+        shutil.copytree(top / 'crates', copy / 'crates', ignore=shutil.ignore_patterns('out'))
+        shutil.copy(top / 'crates.txt', copy / 'crates.txt')
         outcomes = []
         for crate, what, edits, by, words in cheats:
             cheat, fits = texts[crate], True

@@ -10,7 +10,7 @@ import subprocess
 from closing import check, close
 
 top = pathlib.Path(__file__).resolve().parent.parent
-LIBRARY = {'VADIVUZHEN_LIB': str(top / 'target' / 'staticlib')}
+LIBRARY = {'VADIVUZHEN_LIB': str(top / 'crates' / 'vadivuzhen' / 'out')}
 
 
 def cargo(folder, *words):

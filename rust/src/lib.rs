@@ -59,7 +59,7 @@
 //!
 //! The archive of the proved library is taken from the folder that the
 //! environment variable `VADIVUZHEN_LIB` names; without it, from where
-//! `rt staticlib vadivuzhen` leaves it in the repository, `target/staticlib`.
+//! `rt lib` in crates/vadivuzhen leaves it in that folder, `out`.
 //! It is for x86-64 Linux, and the crate does not compile for other targets.
 //!
 //! Take crate and archive from the same version of the repository. A call
