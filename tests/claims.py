@@ -132,7 +132,7 @@ for call in re.findall(r'extern "C" fn (\w+)', code[crates / 'vadivuzhen' / 'src
 
 def brings(source):
     """What a source has from modules of specs/: each name with its module."""
-    found = re.findall(r'^(?:ghost )?use Rattle·(\w+)(?:·specs)?\.specs\.(?!declared)(\w+)(?: as (\w+)|\.\{(.*)\})', source, re.M)
+    found = re.findall(r'^(?:ghost )?use Rattle\.(\w+)\.specs\.(?!declared)(\w+)(?: as (\w+)|\.\{(.*)\})', source, re.M)
     return {name.split(' as ')[-1]: f'{crate}/specs/{file}' for crate, file, whole, some in found for name in [whole, *some.split(', ')] if name}
 
 

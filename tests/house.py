@@ -75,7 +75,7 @@ tracked = subprocess.run(['git', 'ls-files'], cwd=top, capture_output=True, text
 words = set()
 for file in tracked:
     if not file.startswith('docs/') and (top / file).is_file():
-        words |= set(re.findall(r"[\w·′'-]+", (top / file).read_bytes().decode('utf-8', 'replace')))
+        words |= set(re.findall(r"[\w'-]+", (top / file).read_bytes().decode('utf-8', 'replace')))
 
 
 def files(path):
@@ -90,7 +90,7 @@ def is_path(token):
 def has(file, name):
     """Does a file have a name; a file of Rattle or antt, as a name that it defines?"""
     before = {'.antt': r'^(?:(?:unfoldable|abbrev|pub|record|data) )*', '.rt': r'\b(?:fn|struct|enum|const) '}.get(file.suffix, r'(?<![\w-])')
-    return file.is_file() and re.search(before + re.escape(name) + r'(?![\w·′\'-])', file.read_text(), re.M)
+    return file.is_file() and re.search(before + re.escape(name) + r'(?![\w\'-])', file.read_text(), re.M)
 
 
 def elsewhere(found):
@@ -106,7 +106,7 @@ for token in sorted(set(re.findall(r'`([^`\n]+)`', written))):
     elif is_path(token) and ' ' not in token:
         there = [file.relative_to(top) for file in (top / 'crates').rglob(pathlib.Path(token).name)] if not files(token) else []
         check(files(token), f'docs/MAP.md: `{token}`: no such file{elsewhere(there)}')
-    elif re.fullmatch(r"[\w·′'-]+", token):
+    elif re.fullmatch(r"[\w'-]+", token):
         check(token in words or (top / token).is_dir(), f'docs/MAP.md: `{token}`: no file has that name in it')
 
 for path, names in re.findall(r'`([^`\s]+/[^`\s]+)`((?: `[^`\s/]+`)+)', written):

@@ -1,5 +1,5 @@
-"""The sources are in the formatter's layout (rt fmt --check), and no file names a path of a machine. No line of a contract has more than 150 characters,
-and no line of a definition or of a proof by hand more than 250. Where subsets are counted and numbered, nothing is divided,
+"""No file names a path of a machine. No line of a contract has more than 150 characters, and no line of a definition or of a proof more than 250 (that the
+sources are in the formatter's layout is rt ci's to say). Where subsets are counted and numbered, nothing is divided,
 and nothing walks."""
 import pathlib
 import re
@@ -8,9 +8,6 @@ import subprocess
 from closing import check, close
 
 top = pathlib.Path(__file__).resolve().parent.parent
-
-layout = subprocess.run(['rt', 'fmt', '--check'], cwd=top, capture_output=True, text=True)
-check(layout.returncode == 0, 'run `rt fmt`: ' + (layout.stdout + layout.stderr).strip())
 
 tracked = subprocess.run(['git', 'ls-files'], cwd=top, capture_output=True, text=True).stdout.split()
 check(tracked, 'git lists no files')
@@ -45,10 +42,8 @@ for file in sorted((top / 'crates').rglob('*.rt')):
     check(not found, f'{file.relative_to(top)}: lines of contracts: {found}')
 
 for file in sorted((top / 'crates').rglob('*.antt')):
-    text = file.read_text()
-    if 'Rattle·lending.proofs.Walking' not in text:  # else it is a walk, which walks/walk.py writes
-        found = too_long(enumerate(text.splitlines(), 1), 250)
-        check(not found, f'{file.relative_to(top)}: lines: {found}')
+    found = too_long(enumerate(file.read_text().splitlines(), 1), 250)
+    check(not found, f'{file.relative_to(top)}: lines: {found}')
 
 # "T and each triple's number come from it without dividing" (02, W-203): a contract can't say how. No division stands where subsets are counted and
 # numbered, and elsewhere in planning none but by 2; the counts have one loop, which searches for a place, and the cursor has none and never goes on by
