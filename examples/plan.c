@@ -2,9 +2,9 @@
  * Exit status: 0 where a plan is printed, 1 where the sheet is refused, 2 where it can't be read or the text can't be written.
  *
  * In the repository's folder:
- *   rt staticlib vadivuzhen
- *   gcc -std=c11 -Wall -Wextra -Werror -pedantic -Iinclude examples/plan.c target/staticlib/libvadivuzhen.a -o target/plan-c
- *   target/plan-c examples/two.sheet */
+ *   (cd crates/vadivuzhen && rt lib)
+ *   gcc -std=c11 -Wall -Wextra -Werror -pedantic -Iinclude examples/plan.c crates/vadivuzhen/out/libvadivuzhen.a -o crates/vadivuzhen/out/plan-c
+ *   crates/vadivuzhen/out/plan-c examples/two.sheet */
 #include <stdio.h>
 
 #include "vadivuzhen.h"
