@@ -1,10 +1,8 @@
 -- `reader::fill` meets its contract: each call fills its table, and the tables are lent one after another. Assumes nothing.
 use mathlib.Core.Path.{◌≡◌, refl, ap, ◌∙◌}
 use native.Mathlib.Omega.{arith}
-use borrow.Author.Rules.{rules}
 use Rattle.pool.specs.Sheet.{pair_place, pool_of, pair_at, id_at, donor_blood_at, patient_blood_at, donor_age_at, patient_age_at, donor_antigens_at, patient_antigens_at, patient_antibodies_at, pair_due}
-use Rattle.pool.specs.Tables.{fields, tables, filled_fields, filled_tables}
-use Rattle.pool.specs.Faultless.{TablesHold}
+use Rattle.pool.specs.Tables.{filled_fields, filled_tables}
 use Rattle.pool.proofs.Points.{size_most, count_size}
 use Rattle.pool.proofs.Rooms.{room_hold}
 use Rattle.reader.proofs.Columns.{column, own_points, numbers}
@@ -19,50 +17,42 @@ fill_numbers-requires c =
 
 pub fill_ids-requires : goal.fill_ids-requires
 fill_ids-requires c =
-    let held : TablesHold c.args.version c.args.n (tables c.args.points.now (fields c.args.ids.now c.args.donor_blood.now c.args.patient_blood.now c.args.donor_age.now c.args.patient_age.now c.args.donor_antigens.now c.args.patient_antigens.now c.args.patient_antibodies.now) c.args.shuffle.now) =
-    room_hold _ _ _ c.requires.held c.requires.held_points in
+    let held = room_hold _ _ _ c.requires.held c.requires.held_points in
     omega (arith, c.requires.few, c.requires.whole, held.fields.ids)
 
 pub fill_groups-requires : goal.fill_groups-requires
 fill_groups-requires c =
-    let held : TablesHold c.args.version c.args.n (tables c.args.points.now (fields c.args.ids.now c.args.donor_blood.now c.args.patient_blood.now c.args.donor_age.now c.args.patient_age.now c.args.donor_antigens.now c.args.patient_antigens.now c.args.patient_antibodies.now) c.args.shuffle.now) =
-    room_hold _ _ _ c.requires.held c.requires.held_points in
+    let held = room_hold _ _ _ c.requires.held c.requires.held_points in
     omega (arith, c.requires.few, c.requires.whole, held.fields.donor_blood)
 
 pub fill_groups-requires-2 : goal.fill_groups-requires-2
 fill_groups-requires-2 c =
-    let held : TablesHold c.args.version c.args.n (tables c.args.points.now (fields c.args.ids.now c.args.donor_blood.now c.args.patient_blood.now c.args.donor_age.now c.args.patient_age.now c.args.donor_antigens.now c.args.patient_antigens.now c.args.patient_antibodies.now) c.args.shuffle.now) =
-    room_hold _ _ _ c.requires.held c.requires.held_points in
+    let held = room_hold _ _ _ c.requires.held c.requires.held_points in
     omega (arith, c.requires.few, c.requires.whole, held.fields.patient_blood)
 
 pub fill_groups-requires-3 : goal.fill_groups-requires-3
 fill_groups-requires-3 c =
-    let held : TablesHold c.args.version c.args.n (tables c.args.points.now (fields c.args.ids.now c.args.donor_blood.now c.args.patient_blood.now c.args.donor_age.now c.args.patient_age.now c.args.donor_antigens.now c.args.patient_antigens.now c.args.patient_antibodies.now) c.args.shuffle.now) =
-    room_hold _ _ _ c.requires.held c.requires.held_points in
+    let held = room_hold _ _ _ c.requires.held c.requires.held_points in
     omega (arith, c.requires.few, c.requires.whole, held.fields.donor_age)
 
 pub fill_groups-requires-4 : goal.fill_groups-requires-4
 fill_groups-requires-4 c =
-    let held : TablesHold c.args.version c.args.n (tables c.args.points.now (fields c.args.ids.now c.args.donor_blood.now c.args.patient_blood.now c.args.donor_age.now c.args.patient_age.now c.args.donor_antigens.now c.args.patient_antigens.now c.args.patient_antibodies.now) c.args.shuffle.now) =
-    room_hold _ _ _ c.requires.held c.requires.held_points in
+    let held = room_hold _ _ _ c.requires.held c.requires.held_points in
     omega (arith, c.requires.few, c.requires.whole, held.fields.patient_age)
 
 pub fill_tissue-requires : goal.fill_tissue-requires
 fill_tissue-requires c =
-    let held : TablesHold c.args.version c.args.n (tables c.args.points.now (fields c.args.ids.now c.args.donor_blood.now c.args.patient_blood.now c.args.donor_age.now c.args.patient_age.now c.args.donor_antigens.now c.args.patient_antigens.now c.args.patient_antibodies.now) c.args.shuffle.now) =
-    room_hold _ _ _ c.requires.held c.requires.held_points in
+    let held = room_hold _ _ _ c.requires.held c.requires.held_points in
     omega (arith, c.requires.few, c.requires.whole, held.fields.donor_antigens)
 
 pub fill_tissue-requires-2 : goal.fill_tissue-requires-2
 fill_tissue-requires-2 c =
-    let held : TablesHold c.args.version c.args.n (tables c.args.points.now (fields c.args.ids.now c.args.donor_blood.now c.args.patient_blood.now c.args.donor_age.now c.args.patient_age.now c.args.donor_antigens.now c.args.patient_antigens.now c.args.patient_antibodies.now) c.args.shuffle.now) =
-    room_hold _ _ _ c.requires.held c.requires.held_points in
+    let held = room_hold _ _ _ c.requires.held c.requires.held_points in
     omega (arith, c.requires.few, c.requires.whole, held.fields.patient_antigens)
 
 pub fill_tissue-requires-3 : goal.fill_tissue-requires-3
 fill_tissue-requires-3 c =
-    let held : TablesHold c.args.version c.args.n (tables c.args.points.now (fields c.args.ids.now c.args.donor_blood.now c.args.patient_blood.now c.args.donor_age.now c.args.patient_age.now c.args.donor_antigens.now c.args.patient_antigens.now c.args.patient_antibodies.now) c.args.shuffle.now) =
-    room_hold _ _ _ c.requires.held c.requires.held_points in
+    let held = room_hold _ _ _ c.requires.held c.requires.held_points in
     omega (arith, c.requires.few, c.requires.whole, held.fields.patient_antibodies)
 
 pub pair_place-requires : goal.pair_place-requires
@@ -70,8 +60,7 @@ pair_place-requires c = c.requires.few
 
 pub fill_numbers-requires-2 : goal.fill_numbers-requires-2
 fill_numbers-requires-2 c =
-    let held : TablesHold c.args.version c.args.n (tables c.args.points.now (fields c.args.ids.now c.args.donor_blood.now c.args.patient_blood.now c.args.donor_age.now c.args.patient_age.now c.args.donor_antigens.now c.args.patient_antigens.now c.args.patient_antibodies.now) c.args.shuffle.now) =
-    room_hold _ _ _ c.requires.held c.requires.held_points in
+    let held = room_hold _ _ _ c.requires.held c.requires.held_points in
     omega (arith, c.requires.few, c.requires.whole, held.shuffle, c.pair_place.ensures)
 
 -- ## What the calls leave

@@ -1,6 +1,5 @@
 -- `reader::judge` meets its contract. Assumes nothing.
 use mathlib.Core.Path.{◌≡◌, sym, ap, ap₂, ◌∙◌}
-use borrow.Author.Rules.{rules}
 use lib.ListN.{length}
 use Rattle.refusal.specs.Answer.{finished}
 use Rattle.refusal.specs.Fault.{none}

@@ -1,7 +1,6 @@
 -- `reader::read` meets its contract. Assumes nothing.
 use Prim.Native.Nat.{min}
 use mathlib.Core.Path.{◌≡◌, refl, sym, ap, ◌∙◌}
-use borrow.Author.Rules.{rules}
 use lib.ListN.{length}
 use Rattle.pool.specs.Tables.{Tables, fields, tables, field_room, room}
 use Rattle.pool.specs.Calls.{reading}
@@ -39,7 +38,7 @@ returns-in-Refused c =
     refl in
     let e = c.in-Refused.is in
     let w = refused_leaves _ lent _ answers _ _ e in
-    (w, rightly _ lent w)
+    record { fact_1 = w; fact_2 = rightly _ lent w }
 
 pub returns-in-Pairs : goal.returns-in-Pairs
 unfolding room field_room
@@ -54,4 +53,5 @@ returns-in-Pairs c =
     c.judge.ensures lent
     (sym (c.lesser-space.ensures ∙ ap (λ k. min k (length c.args.shuffle.now)) c.room-held.ensures))
     refl in
-    finished_rightly _ lent _ answers _ _ c.in-Pairs.is _ c.fill.ensures
+    let w = finished_rightly _ lent _ answers _ _ c.in-Pairs.is _ c.fill.ensures in
+    record { fact_1 = w.0; fact_2 = w.1 }
