@@ -6,7 +6,7 @@ ghost use Rattle.std.specs.Prelude.{◌≡◌, length};
 ghost use Rattle.refusal.specs.Answer.{outcome};
 ghost use Rattle.pool.specs.Sheet.{pool_of};
 ghost use Rattle.pool.specs.Tables.{Tables, room, filled_tables};
-ghost use Rattle.pool.specs.Lent.{tables_now, lent_tables};
+ghost use Rattle.pool.specs.Lent.{mut_tables_now, mut_lent_tables};
 ghost use Rattle.pool.specs.Calls.{reading};
 ghost use Rattle.pool.specs.Promises.{ReadsRightly};
 ghost use Rattle.reader.specs.Answers.{answer_of};
@@ -55,10 +55,10 @@ fn fill(
     patient_antibodies: &mut [u64],
     shuffle: &mut [u16],
 )
-    requires { let t = tables_now points ids donor_blood patient_blood donor_age patient_age
+    requires { let t = mut_tables_now points ids donor_blood patient_blood donor_age patient_age
         donor_antigens patient_antigens patient_antibodies shuffle in
         Fillable b.now version n t }
-    ensures { let t = lent_tables points ids donor_blood patient_blood donor_age patient_age
+    ensures { let t = mut_lent_tables points ids donor_blood patient_blood donor_age patient_age
         donor_antigens patient_antigens patient_antibodies shuffle in
         t.exit ≡ filled_tables (pool_of b.now) t.entry }
 {
@@ -99,10 +99,10 @@ pub fn read(
     patient_antibodies: &mut [u64],
     shuffle: &mut [u16],
 ) -> Reading
-    ensures fact_1 { let t = lent_tables points ids donor_blood patient_blood donor_age patient_age
+    ensures fact_1 { let t = mut_lent_tables points ids donor_blood patient_blood donor_age patient_age
         donor_antigens patient_antigens patient_antibodies shuffle in
         outcome (answer_of result) t.exit ≡ reading sheet.now t.entry }
-    ensures fact_2 { let t = lent_tables points ids donor_blood patient_blood donor_age patient_age
+    ensures fact_2 { let t = mut_lent_tables points ids donor_blood patient_blood donor_age patient_age
         donor_antigens patient_antigens patient_antibodies shuffle in
         ReadsRightly sheet.now t.entry (outcome (answer_of result) t.exit) }
 {

@@ -1,7 +1,6 @@
 -- `encoding::put` meets its contract. The invariant: i bytes are written, the last ones, and `left` is still to be written. Assumes nothing.
 use Prim.Native.Nat.{◌-◌, ◌≤◌}
-use native.Mathlib.Omega.{arith}
-use Rattle.encoding.proofs.Numbers.{Numbering, numbering_none, numbering_more, numbering_all}
+use Rattle.encoding.proofs.Numbers.{Numbering}
 use Rattle.encoding.proofs.put.Given as goal
 
 abbrev pub invariant-loop-i : goal.invariant-loop-i

@@ -1,7 +1,6 @@
 -- `encoding::put_head` meets its contract: each piece goes where the one before it ends. Assumes nothing.
 use mathlib.Core.Path.{refl}
 use native.Mathlib.Omega.{arith}
-use borrow.Author.Rules.{rules}
 use Rattle.laws.specs.Digits.{bytes}
 use Rattle.pool.specs.Sheet.{field, head_field, version_place, pairs_place}
 use Rattle.laws.proofs.Lent.{stored_then}
@@ -10,10 +9,6 @@ use Rattle.encoding.proofs.put_head.Goals as goal
 pub returns : goal.returns
 unfolding head_field field bytes
 returns c =
-    let third = c in
-    let second = third in
-    let first = second in
-    let s = first in
-    stored_then 0 pairs_place _ _ _ _ _ refl (omega (arith, s.requires))
-    (stored_then 0 version_place _ _ _ _ _ refl (omega (arith, s.requires)) first.put_start.ensures second.put.ensures)
-    third.put-2.ensures
+    stored_then 0 pairs_place _ _ _ _ _ refl (omega (arith, c.requires))
+    (stored_then 0 version_place _ _ _ _ _ refl (omega (arith, c.requires)) c.put_start.ensures c.put.ensures)
+    c.put-2.ensures

@@ -1,11 +1,8 @@
 -- `encoding::put_numbers` meets its contract. The invariant: j numbers of two bytes are written from `at` on. Assumes nothing.
 use Prim.Native.Nat.{◌-◌, ◌≤◌}
-use native.Mathlib.Omega.{arith}
-use borrow.Author.Rules.{rules}
 use Rattle.laws.specs.Digits.{bytes}
-use Rattle.laws.proofs.Digits.{length-bytes}
 use Rattle.pool.specs.Tables.{item_in}
-use Rattle.laws.proofs.Lent.{Pieces, pieces_none, pieces_more, pieces_all}
+use Rattle.laws.proofs.Lent.{Pieces}
 use Rattle.encoding.proofs.put_numbers.Given as goal
 
 abbrev pub invariant-loop-j : goal.invariant-loop-j

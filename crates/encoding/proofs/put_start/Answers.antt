@@ -1,7 +1,6 @@
 -- `encoding::put_start` meets its contract: the length goes where the tag ends. Assumes nothing.
 use mathlib.Core.Path.{refl}
 use native.Mathlib.Omega.{arith}
-use borrow.Author.Rules.{rules}
 use Rattle.laws.specs.Digits.{bytes}
 use Rattle.laws.proofs.Lent.{stored_then}
 use Rattle.encoding.proofs.put_start.Goals as goal
@@ -9,7 +8,4 @@ use Rattle.encoding.proofs.put_start.Goals as goal
 pub returns : goal.returns
 unfolding bytes
 returns c =
-    let second = c in
-    let first = second in
-    let s = first in
-    stored_then s.args.at 1 _ _ _ _ _ refl (omega (arith, s.requires)) first.put.ensures second.put-2.ensures
+    stored_then c.args.at 1 _ _ _ _ _ refl (omega (arith, c.requires)) c.put.ensures c.put-2.ensures

@@ -1,0 +1,57 @@
+-- `reader::read` meets its contract. Assumes nothing.
+use Prim.Native.Nat.{min}
+use mathlib.Core.Path.{◌≡◌, refl, sym, ap, ◌∙◌}
+use lib.ListN.{length}
+use Rattle.pool.specs.Tables.{Tables, fields, tables, field_room, room}
+use Rattle.pool.specs.Calls.{reading}
+use Rattle.reader.specs.Answers.{answer_of}
+use Rattle.reader.proofs.Answered.{refused_leaves, fillable, rightly, finished_rightly}
+use Rattle.reader.proofs.read.Goals as goal
+
+pub fill-requires : goal.fill-requires
+unfolding room field_room
+fill-requires c =
+    let lent : Tables =
+    let a = c.args in
+    tables a.points.now
+    (fields a.ids.now a.donor_blood.now a.patient_blood.now a.donor_age.now a.patient_age.now a.donor_antigens.now
+    a.patient_antigens.now a.patient_antibodies.now)
+    a.shuffle.now in
+    let answers : answer_of c.judge.result ≡ (reading c.args.sheet.now lent).answer =
+    c.judge.ensures lent
+    (sym (c.lesser-space.ensures ∙ ap (λ k. min k (length c.args.shuffle.now)) c.room-held.ensures))
+    refl in
+    fillable _ _ _ answers _ _ c.in-Pairs.is
+
+pub returns-in-Refused : goal.returns-in-Refused
+unfolding room field_room
+returns-in-Refused c =
+    let lent : Tables =
+    let a = c.args in
+    tables a.points.now
+    (fields a.ids.now a.donor_blood.now a.patient_blood.now a.donor_age.now a.patient_age.now a.donor_antigens.now
+    a.patient_antigens.now a.patient_antibodies.now)
+    a.shuffle.now in
+    let answers : answer_of c.judge.result ≡ (reading c.args.sheet.now lent).answer =
+    c.judge.ensures lent
+    (sym (c.lesser-space.ensures ∙ ap (λ k. min k (length c.args.shuffle.now)) c.room-held.ensures))
+    refl in
+    let e = c.in-Refused.is in
+    let w = refused_leaves _ lent _ answers _ _ e in
+    record { fact_1 = w; fact_2 = rightly _ lent w }
+
+pub returns-in-Pairs : goal.returns-in-Pairs
+unfolding room field_room
+returns-in-Pairs c =
+    let lent : Tables =
+    let a = c.args in
+    tables a.points.now
+    (fields a.ids.now a.donor_blood.now a.patient_blood.now a.donor_age.now a.patient_age.now a.donor_antigens.now
+    a.patient_antigens.now a.patient_antibodies.now)
+    a.shuffle.now in
+    let answers : answer_of c.judge.result ≡ (reading c.args.sheet.now lent).answer =
+    c.judge.ensures lent
+    (sym (c.lesser-space.ensures ∙ ap (λ k. min k (length c.args.shuffle.now)) c.room-held.ensures))
+    refl in
+    let w = finished_rightly _ lent _ answers _ _ c.in-Pairs.is _ c.fill.ensures in
+    record { fact_1 = w.0; fact_2 = w.1 }
