@@ -1,7 +1,6 @@
 -- `counting::begin_below` meets its contract. Assumes nothing.
 use Prim.Native.Nat.{◌-◌}
 use native.Mathlib.Omega.{arith}
-use borrow.Author.Rules.{rules}
 use Rattle.counting.proofs.Sized.{more_among}
 use Rattle.counting.proofs.begin_below.Goals as goal
 

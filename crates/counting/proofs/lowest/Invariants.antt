@@ -1,9 +1,6 @@
 -- `counting::lowest` meets its contract. The loop's invariant: i is a place, and no more than k begin below it. Assumes nothing.
 use Prim.Native.Nat.{◌+◌, ◌-◌, ◌≤◌, ◌<◌}
-use native.Mathlib.Omega.{arith}
-use borrow.Author.Rules.{rules}
 use Rattle.counting.specs.Counting.{of_size}
-use Rattle.counting.proofs.Sized.{begins_somewhere, goes_on}
 use Rattle.counting.proofs.lowest.Given as goal
 
 abbrev pub invariant-loop-i : goal.invariant-loop-i

@@ -1,6 +1,5 @@
 -- `counting::triples` meets its contract, by the rule of the table. Assumes nothing.
 use native.Mathlib.Omega.{arith}
-use borrow.Author.Rules.{rules}
 use Rattle.counting.proofs.Rule.{entry_is}
 use Rattle.counting.proofs.Sized.{few_triples}
 use Rattle.counting.proofs.triples.Goals as goal

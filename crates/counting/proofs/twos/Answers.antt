@@ -1,7 +1,6 @@
 -- `counting::twos` meets its contract. Assumes nothing.
 use Prim.Native.Nat.{◌-◌}
 use native.Mathlib.Omega.{arith}
-use borrow.Author.Rules.{rules}
 use Rattle.counting.proofs.Sized.{few_triples, more_among, no_twos, twos_by}
 use Rattle.counting.proofs.twos.Goals as goal
 
