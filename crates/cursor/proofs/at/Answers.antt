@@ -2,10 +2,9 @@
 use Prim.Native.Nat.{ℕ, ◌-◌}
 use mathlib.Core.Path.{sym, subst}
 use native.Mathlib.Omega.{arith}
-use borrow.Author.Rules.{rules}
 use Rattle.cursor.specs.Cursor.{TwoAt}
 use Rattle.cursor.proofs.Order.{past}
-use Rattle.cursor.proofs.Number.{count_is, count_le}
+use Rattle.cursor.proofs.Number.{count_is}
 use Rattle.cursor.proofs.Placed.{two_placed}
 use Rattle.cursor.proofs.at.Goals as goal
 

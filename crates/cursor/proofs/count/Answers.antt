@@ -1,6 +1,5 @@
 -- `cursor::count` meets its contract. Assumes nothing.
 use native.Mathlib.Omega.{arith}
-use borrow.Author.Rules.{rules}
 use Rattle.cursor.proofs.Number.{count_is, count_le}
 use Rattle.cursor.proofs.count.Goals as goal
 

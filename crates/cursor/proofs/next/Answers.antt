@@ -2,7 +2,6 @@
 use mathlib.Core.Path.{sym, ◌∙◌}
 use Rattle.cursor.proofs.Order.{two_more, two_over, two_last, third_more, second_more, first_more, to_twos}
 use Rattle.cursor.proofs.Following.{next_is}
-use borrow.Author.Rules.{rules}
 use Rattle.cursor.proofs.next.Goals as goal
 
 pub returns-then-v-n : goal.returns-then-v-n

@@ -1,6 +1,5 @@
 -- `cursor::number_of_two` meets its contract. Assumes nothing.
 use native.Mathlib.Omega.{arith}
-use borrow.Author.Rules.{rules}
 use Rattle.cursor.proofs.Number.{twos_le}
 use Rattle.cursor.proofs.number_of_two.Goals as goal
 
