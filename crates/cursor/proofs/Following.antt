@@ -55,13 +55,15 @@ number_is n (s ∷ ss) (suc k) h d = go (stands_at n (places_of n (get_or ss k [
 
 -- ## No two subsets have the same places
 
-before_itself : (s : List ℕ) → Before s s → ⊥
-before_itself (p ∷ s) (here h) = omega arith
-before_itself (p ∷ s) (there h) = before_itself s h
+before_apart : (s t : List ℕ) → Before s t → s ≡ t → ⊥
+before_apart (p ∷ s) [] h e = elim h [ ]
+before_apart [] t h e = elim h [ ]
+before_apart (p ∷ s) (q ∷ t) (here h) e = let k : p ≡ q = cc in omega arith
+before_apart (p ∷ s) (q ∷ t) (there h) e = let k : s ≡ t = cc in before_apart s t h k
 
 precedes_itself : (s : List ℕ) → Precedes s s → ⊥
 precedes_itself s (larger h) = omega arith
-precedes_itself s (earlier e h) = before_itself s h
+precedes_itself s (earlier e h) = before_apart s s h refl
 
 each_at : (P : List ℕ → Type 0) (ss : List (List ℕ)) → Each P ss → (k : ℕ) → k < length ss → P (get_or ss k [])
 each_at P [] h k z = absurd (omega arith)

@@ -9,7 +9,7 @@ use lib.ListN.{length}
 use borrow.Author.Tests.{ltb-true, ltb-false, le-ltb, eqb-true, eqb-false, eq-eqb, not-false}
 use Rattle.laws.specs.Below.{either, any_below}
 use Rattle.laws.proofs.Below.{true_false, and_true, and_never, either_false, any_none, none_any, any_found}
-use Rattle.refusal.specs.Fault.{Fault, none, fault, refuse, ◌then◌}
+use Rattle.refusal.specs.Fault.{Fault, none, fault, refuse}
 use Rattle.refusal.specs.Answer.{Outcome, finished, unless}
 use Rattle.refusal.proofs.Faults.{refuse_none, none_refuse, then_none, none_then, by_refuse, by_then, unless_none, unless_fault, finished_none, refused_fault}
 use Rattle.pool.specs.Faults.{shuffle_fault}

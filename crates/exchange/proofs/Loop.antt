@@ -155,6 +155,7 @@ without-most c (s ∷ S) = go (meets s c) (without-most c S)
 
 without_less : (c : List ℕ) (S : List (List ℕ)) → Memᴰ c S → Each Meeting S → length (without c S) < length S
 unfolding without
+without_less c [] x'' h = elim x'' [ ]
 without_less c (s ∷ S) (Memᴰ.head e) h =
     let q : meets s c ≡ true = rw e h.0 in
     rw q (omega (arith, without-most c S))

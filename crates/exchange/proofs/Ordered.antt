@@ -153,6 +153,7 @@ subsets-mem (suc (suc l)) n k s h q m = elim (dec_le k (suc l)) [
 
 -- the number under which it stands
 pub mem_at : (xs : List (List ℕ)) (s : List ℕ) → Memᴰ s xs → (i : ℕ) × (i < length xs) × (get_or xs i [] ≡ s)
+mem_at [] s x' = elim x' [ ]
 mem_at (x ∷ xs) s (Memᴰ.head e) = (0, omega arith, sym e)
 mem_at (x ∷ xs) s (Memᴰ.tail m) = let r = mem_at xs s m in (suc r.0, omega (arith, r.1), r.2)
 

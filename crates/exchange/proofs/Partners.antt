@@ -55,11 +55,13 @@ absent (e ∷ es) none i h = elim (same? i e.donor) [
 
 named : (es : List Edge) (e : Edge) → Memᴰ e es → 1 ≤ times e.donor (from es)
 unfolding times
+named [] e x' = elim x' [ ]
 named (d ∷ es) e (Memᴰ.head q) = omega (arith, one_eq e.donor d.donor (ap (λ (x : Edge). x.donor) q))
 named (d ∷ es) e (Memᴰ.tail k) = omega (arith, named es e k)
 
 present : (es : List Edge) (none : ℕ) (e : Edge) → Memᴰ e es → NoneTwice (from es) → recipient_by es none e.donor ≡ e.patient
 unfolding recipient_by times
+present [] none e x'' o = elim x'' [ ]
 present (d ∷ es) none e (Memᴰ.head q) o =
     rw (eq-eqb e.donor d.donor (ap (λ (x : Edge). x.donor) q)) (ap (λ (x : Edge). x.patient) (sym q))
 present (d ∷ es) none e (Memᴰ.tail k) o = elim (same? e.donor d.donor) [
@@ -76,6 +78,7 @@ found (e ∷ es) i h = elim (same? i e.donor) [
 ]
 
 mem_turned : (e : Edge) (es : List Edge) → Memᴰ e es → Memᴰ (turned e) (map turned es)
+mem_turned e [] x' = elim x' [ ]
 mem_turned e (d ∷ es) (Memᴰ.head q) = Memᴰ.head (ap (λ (x : Edge). turned x) q)
 mem_turned e (d ∷ es) (Memᴰ.tail k) = Memᴰ.tail (mem_turned e es k)
 
@@ -92,6 +95,7 @@ twice [] = refl
 twice (e ∷ es) = ap (λ (l : List Edge). e ∷ l) (twice es)
 
 each_mem : {A : Type 0} (P : A → Type 0) (x : A) (xs : List A) → Memᴰ x xs → Each P xs → P x
+each_mem {A = A} P x [] x3 h = elim x3 [ ]
 each_mem P x (y ∷ xs) (Memᴰ.head e) h = rw e h.0
 each_mem P x (y ∷ xs) (Memᴰ.tail k) h = each_mem P x xs k h.1
 
@@ -220,11 +224,14 @@ record Step (c : List ℕ) (i j : ℕ) : Type 0 where
 along_place : (xs : List ℕ) (e : Edge) → Memᴰ e (along xs)
     → (k : ℕ) × (suc k < length xs) × (get_or xs k 0 ≡ e.donor) × (get_or xs (suc k) 0 ≡ e.patient)
 unfolding along
+along_place [] e x' = elim x' [ ]
+along_place (a ∷ []) e x4 = elim x4 [ ]
 along_place (a ∷ b ∷ xs) e (Memᴰ.head q) = (0, omega arith, ap (λ (x : Edge). x.donor) (sym q), ap (λ (x : Edge). x.patient) (sym q))
 along_place (a ∷ b ∷ xs) e (Memᴰ.tail k) = let r = along_place (b ∷ xs) e k in (suc r.0, omega (arith, r.1), r.2, r.3)
 
 edge_place : (c : List ℕ) (e : Edge) → Memᴰ e (edges c) → Step c e.donor e.patient
 unfolding edges next
+edge_place [] e m = elim m [ ]
 edge_place (a ∷ c) e m =
     let r = along_place (a ∷ c ++ (a ∷ [])) e m in
     let h : r.0 < length (a ∷ c) = omega (arith, r.1, length-append (a ∷ c) (a ∷ [])) in
@@ -238,11 +245,13 @@ edge_place (a ∷ c) e m =
 
 mem_all : (e : Edge) (c : List ℕ) (cs : List (List ℕ)) → Memᴰ c cs → Memᴰ e (edges c) → Memᴰ e (flat_map edges cs)
 unfolding flat_map
+mem_all e c [] x'' k = elim x'' [ ]
 mem_all e c (d ∷ cs) (Memᴰ.head q) k = Memᴰ.append_left (flat_map edges cs) (rw q at k)
 mem_all e c (d ∷ cs) (Memᴰ.tail m) k = Memᴰ.append_right (edges d) (mem_all e c cs m k)
 
 all_place : (e : Edge) (cs : List (List ℕ)) → Memᴰ e (flat_map edges cs) → (c : List ℕ) × Memᴰ c cs × Memᴰ e (edges c)
 unfolding flat_map
+all_place e [] k = elim k [ ]
 all_place e (c ∷ cs) k = elim (Memᴰ.append_cases (edges c) k) [
   | inl m ↦ (c, Memᴰ.head refl, m)
   | inr m ↦ let r = all_place e cs m in (r.0, Memᴰ.tail r.1, r.2)
@@ -426,6 +435,7 @@ unfolding pairs_at
 pairs_long s c = length-map c (λ (p : ℕ). get_or s p 0)
 
 mem_mapped : (f : List ℕ → List ℕ) (d : List ℕ) (cs : List (List ℕ)) → Memᴰ d (map f cs) → (c : List ℕ) × Memᴰ c cs × (d ≡ f c)
+mem_mapped f d [] x' = elim x' [ ]
 mem_mapped f d (c ∷ cs) (Memᴰ.head q) = (c, Memᴰ.head refl, q)
 mem_mapped f d (c ∷ cs) (Memᴰ.tail k) = let r = mem_mapped f d cs k in (r.0, Memᴰ.tail r.1, r.2)
 

@@ -3,7 +3,7 @@ use Prim.Native.Nat.{ℕ, zero, suc, ◌+◌, ◌≤◌, ◌<◌}
 use mathlib.Core.Bool.{Bool, true, false, cond}
 use mathlib.Core.List.Memᴰ
 use mathlib.Core.List.{List, [], ◌∷◌, ◌++◌, map, Memᴰ}
-use mathlib.Core.Path.{◌≡◌, refl, ap}
+use mathlib.Core.Path.{◌≡◌, refl, sym, ap, subst}
 use native.Mathlib.Omega.{arith}
 use native.Mathlib.Decide.{dec_lt}
 use lib.Dec.{ltb}
@@ -101,7 +101,7 @@ rising_mem s p (suc c) r h = go s r h (λ t e g. rising_mem t (suc p) c e g)
 
     tail : (q : ℕ) (t : List ℕ) → Rising (p + suc c) (q ∷ t) → Rising (suc p + c) t
     tail q [] r = tt
-    tail q (u ∷ t) r = rw bound r.1
+    tail q (u ∷ t) r = subst (λ x. Rising x (u ∷ t)) (sym bound) r.1
 
     next : (q : ℕ) (t : List ℕ) → Rising (p + suc c) (q ∷ t) → (u : ℕ) (v : List ℕ) → t ≡ u ∷ v → q < u
     next q [] r u v e = let z : ◌≡◌ {A = ℕ} 0 1 = cc in absurd (omega arith)
@@ -113,7 +113,7 @@ rising_mem s p (suc c) r h = go s r h (λ t e g. rising_mem t (suc p) c e g)
     go [] r h ih = Memᴰ.head refl
     go (q ∷ t) r h ih = elim (dec_lt p q) [
       | yes z ↦ Memᴰ.append_right (map (λ (s : List ℕ). p ∷ s) (ascending (length t) (suc p) c))
-          (ih (q ∷ t) (rw bound r) (λ u v e. omega (arith, head_same q u t v e)))
+          (ih (q ∷ t) (subst (λ x. Rising x (q ∷ t)) (sym bound) r) (λ u v e. omega (arith, head_same q u t v e)))
       | no z ↦
           let e : q ≡ p = omega (arith, h q t refl) in
           let k : Memᴰ (p ∷ t) (map (λ (s : List ℕ). p ∷ s) (ascending (length t) (suc p) c)) =

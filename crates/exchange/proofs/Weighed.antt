@@ -85,6 +85,7 @@ first_of_first g c (d ∷ ds) = go (ltb (g c) (g d)) refl (first_of_first g (con
 
 first_of_each : (g : List ℕ → ℕ) (c : List ℕ) (ds : List (List ℕ)) (x : List ℕ) → Memᴰ x ds → g x ≤ g (first_of g c ds)
 unfolding first_of
+first_of_each g c [] x x3 = elim x3 [ ]
 first_of_each g c (d ∷ ds) x (Memᴰ.head e) = go (ltb (g c) (g d)) refl (first_of_first g (cond (ltb (g c) (g d)) d c) ds)
   where
     go : (b : Bool) → ltb (g c) (g d) ≡ b → g (cond b d c) ≤ g (first_of g (cond (ltb (g c) (g d)) d c) ds)
@@ -95,6 +96,7 @@ first_of_each g c (d ∷ ds) x (Memᴰ.tail m) = first_of_each g (cond (ltb (g c
 
 pub heaviest_each : (g : List ℕ → ℕ) (cs : List (List ℕ)) (x : List ℕ) → Memᴰ x cs → g x ≤ g (heaviest g cs)
 unfolding heaviest
+heaviest_each g [] x x3 = elim x3 [ ]
 heaviest_each g (c ∷ cs) x (Memᴰ.head e) = rw e (first_of_first g c cs)
 heaviest_each g (c ∷ cs) x (Memᴰ.tail m) = first_of_each g c cs x m
 
