@@ -1,13 +1,8 @@
 -- `checks::among` meets its contract. The loop's invariant: none of the ids passed is this one. Assumes nothing.
-use Prim.Native.Nat.{ℕ, ◌-◌, ◌≤◌}
+use Prim.Native.Nat.{ℕ}
 use mathlib.Core.Path.{◌≡◌, refl, sym, ap, ◌∙◌}
-use mathlib.Core.Bool.{Bool, false}
-use mathlib.Core.List.{List}
 use native.Mathlib.Omega.{arith}
-use borrow.Author.Rules.{rules}
 use borrow.Author.Tests.{eq-eqb, ne_eqb}
-use lib.Dec.{eqb}
-use lib.ListN.{get_or}
 use Rattle.laws.specs.Below.{any_below}
 use Rattle.laws.proofs.Below.{any_hit, any_more}
 use Rattle.checks.proofs.among.Invariants.{same}

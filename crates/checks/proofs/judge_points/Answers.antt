@@ -1,24 +1,18 @@
 -- `checks::judge_points` meets its contract: document 01's points, which version 1 is weighed by, pass. Assumes nothing.
-use mathlib.Core.Path.{◌≡◌, sym, ap, ◌∙◌}
+use mathlib.Core.Path.{sym, ap, ◌∙◌}
 use native.Mathlib.Omega.{arith}
-use borrow.Author.Rules.{rules}
 use Rattle.refusal.specs.Number.{fault_at}
 use Rattle.pool.specs.Points.{document_points, points_of}
 use Rattle.pool.specs.Faults.{points_fault}
 use Rattle.pool.proofs.Points.{has_second, second_count, second_points_lem, document_sound, points_none}
 use Rattle.checks.proofs.judge_points.Goals as goal
 
--- the version, where the test holds
-second : (c : goal.Then-has_points) → c.args.version ≡ 2
-second c = has_second _ (sym c.has_points.ensures ∙ c.if-has_points.true)
-
 pub own-requires : goal.own-requires
-own-requires c = omega (arith, c.requires, second_count _ (second c))
+own-requires c = omega (arith, c.requires, second_count c.args.version (has_second c.args.version (sym c.has_points.ensures ∙ c.if-has_points.true)))
 
 pub returns-then-has_points : goal.returns-then-has_points
 returns-then-has_points c o =
-    let own = c in
-    c.judge.ensures o ∙ ap (points_fault o) (own.own.ensures ∙ sym (second_points_lem _ _ (second own)))
+    c.judge.ensures o ∙ ap (points_fault o) (c.own.ensures ∙ sym (second_points_lem _ _ (has_second _ (sym c.has_points.ensures ∙ c.if-has_points.true))))
 
 pub returns-else-has_points : goal.returns-else-has_points
 unfolding fault_at points_of

@@ -1,5 +1,4 @@
 -- `checks::pair` meets its contract. Assumes nothing.
-use borrow.Author.Rules.{rules}
 use Rattle.checks.proofs.Found.{pair_group, pair_again, pair_sound}
 use Rattle.checks.proofs.pair.Goals as goal
 

@@ -1,13 +1,8 @@
 -- `checks::pairs` meets its contract. The loop's invariant: the pairs passed have no fault. Assumes nothing.
-use Prim.Native.Nat.{ℕ, ◌-◌, ◌≤◌}
-use mathlib.Core.Path.{◌≡◌, refl}
-use mathlib.Core.List.{List}
+use mathlib.Core.Path.{refl}
 use native.Mathlib.Omega.{arith}
-use borrow.Author.Rules.{rules}
-use Rattle.refusal.specs.Fault.{none, first_below}
+use Rattle.refusal.specs.Fault.{first_below}
 use Rattle.refusal.proofs.Faults.{first_more, sound_none}
-use Rattle.pool.specs.Tables.{fields, pair_in}
-use Rattle.pool.specs.Faults.{pair_fault}
 use Rattle.checks.proofs.Found.{agree_in, pairs_before, before_fits, pairs_found, pairs_sound}
 use Rattle.checks.proofs.pairs.Goals as goal
 

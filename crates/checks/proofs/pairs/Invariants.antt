@@ -1,14 +1,10 @@
 -- `checks::pairs` meets its contract. The loop's invariant: the pairs passed have no fault. Assumes nothing.
 use Prim.Native.Nat.{ℕ, ◌-◌, ◌≤◌}
-use mathlib.Core.Path.{◌≡◌, refl}
+use mathlib.Core.Path.{◌≡◌}
 use mathlib.Core.List.{List}
-use native.Mathlib.Omega.{arith}
-use borrow.Author.Rules.{rules}
 use Rattle.refusal.specs.Fault.{none, first_below}
-use Rattle.refusal.proofs.Faults.{first_more, sound_none}
 use Rattle.pool.specs.Tables.{fields, pair_in}
 use Rattle.pool.specs.Faults.{pair_fault}
-use Rattle.checks.proofs.Found.{agree_in, pairs_before, before_fits, pairs_found, pairs_sound}
 use Rattle.checks.proofs.pairs.Given as goal
 
 abbrev pub invariant-loop-i : goal.invariant-loop-i

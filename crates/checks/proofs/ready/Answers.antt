@@ -1,17 +1,15 @@
 -- `checks::ready` meets its contract. Assumes nothing.
 use mathlib.Core.Path.{refl, sym, ◌∙◌}
-use borrow.Author.Rules.{rules}
-use borrow.Author.Tests.{not-true, not-false}
 use Rattle.refusal.proofs.Faults.{sound_none}
 use Rattle.pool.proofs.Reading.{tables_passed}
 use Rattle.checks.proofs.Found.{before_version, before_many, before_tables, before_points}
 use Rattle.checks.proofs.ready.Goals as goal
 
 pub returns-then-not-known : goal.returns-then-not-known
-returns-then-not-known c = before_version _ _ _ _ (sym c.known.ensures ∙ not-true _ c.if-not-known.true)
+returns-then-not-known c = before_version _ _ _ _ (sym c.known.ensures ∙ c.if-not-known.true)
 
 pub returns-then-n-gt200 : goal.returns-then-n-gt200
-returns-then-n-gt200 c = before_many _ _ _ _ (sym c.known.ensures ∙ not-false _ c.if-not-known.false) c.if-n-gt200.true
+returns-then-n-gt200 c = before_many _ _ _ _ (sym c.known.ensures ∙ c.if-not-known.false) c.if-n-gt200.true
 
 pub judge_points-requires : goal.judge_points-requires
 judge_points-requires c =
@@ -23,7 +21,7 @@ pub returns-in-Faulty : goal.returns-in-Faulty
 returns-in-Faulty c =
     let d = c in
     let few = d in
-    before_tables _ _ _ _ (sym few.known.ensures ∙ not-false _ few.if-not-known.false) few.if-n-gt200.false d.tables.result
+    before_tables _ _ _ _ (sym few.known.ensures ∙ few.if-not-known.false) few.if-n-gt200.false d.tables.result
     (d.tables.ensures _ refl) _ c.in-Faulty.is
 
 pub returns-in-Sound : goal.returns-in-Sound
@@ -31,5 +29,5 @@ returns-in-Sound c =
     let told = c in
     let d = told in
     let few = d in
-    before_points _ _ _ _ (sym few.known.ensures ∙ not-false _ few.if-not-known.false) few.if-n-gt200.false d.tables.result
+    before_points _ _ _ _ (sym few.known.ensures ∙ few.if-not-known.false) few.if-n-gt200.false d.tables.result
     (d.tables.ensures _ refl) told.in-Sound.is c.judge_points.result (c.judge_points.ensures 0)

@@ -1,7 +1,6 @@
 -- `checks::room` meets its contract: the lesser of the first and the room of the rest, seven times. Assumes nothing.
 use Prim.Native.Nat.{ℕ, min}
 use mathlib.Core.Path.{◌≡◌, ap, ◌∙◌}
-use borrow.Author.Rules.{rules}
 use Rattle.checks.proofs.room.Goals as goal
 
 -- the lesser of x and the room of the rest

@@ -1,6 +1,5 @@
 -- `checks::tables` meets its contract. Assumes nothing.
 use native.Mathlib.Omega.{arith}
-use borrow.Author.Rules.{rules}
 use Rattle.checks.proofs.Found.{space_short, points_short, tables_sound}
 use Rattle.checks.proofs.tables.Goals as goal
 

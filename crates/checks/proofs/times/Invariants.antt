@@ -1,16 +1,11 @@
 -- `checks::times` meets its contract. The loop's invariant: `count` is how often v stands among the numbers passed. Assumes nothing.
 use Prim.Native.Nat.{ℕ, ◌-◌, ◌≤◌}
-use mathlib.Core.Path.{◌≡◌, refl, ap, ◌∙◌}
+use mathlib.Core.Path.{◌≡◌}
 use mathlib.Core.Bool.{Bool}
 use mathlib.Core.List.{List}
-use mathlib.Core.Logic.{⊎_elim}
-use native.Mathlib.Omega.{arith}
-use borrow.Author.Rules.{rules}
-use borrow.Author.Tests.{eq-eqb, ne_eqb}
 use lib.Dec.{eqb}
 use lib.ListN.{get_or}
 use Rattle.laws.specs.Below.{count_below}
-use Rattle.laws.proofs.Below.{count_hit, count_miss}
 use Rattle.checks.proofs.times.Given as goal
 
 -- does v stand at k?

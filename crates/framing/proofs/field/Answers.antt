@@ -1,6 +1,5 @@
 -- `framing::field` meets its contract. Assumes nothing.
 use mathlib.Core.Path.{sym, ◌∙◌}
-use borrow.Author.Rules.{rules}
 use Rattle.refusal.specs.Number.{fault_at}
 use Rattle.pool.proofs.Fields.{field_none}
 use Rattle.framing.proofs.Fields.{no_start, other_tag, other_length, no_value}

@@ -48,11 +48,10 @@ overflow_mul-x c =
 pub overflow_cast-x : goal.overflow_cast-x
 overflow_cast-x c = record { fits = byte_fits _ (c.type_inv.b _).fits }
 
--- ??
--- add-x-2 : tie.Need-overflow-add-x-2 invariant-loop decreases-loop
--- add-x-2 c =
---     let l = c.before.before.loop in
---     record { fits = fits (c.before.before.before.args.k - l.left) l.x _ (omega arith) l.invariant.1.below (c.shared-slice-known.given _).fits }
+pub overflow_add-x-in-loop-left : goal.overflow_add-x-in-loop-left
+overflow_add-x-in-loop-left c =
+    let l = c.loop-left in
+    record { fits = fits (c.args.k - l.left) l.x _ (omega arith) l.invariant.1.below (c.type_inv.b _).fits }
 
 pub loop-left-preserved : goal.loop-left-preserved
 loop-left-preserved c =

@@ -1,15 +1,8 @@
 -- `framing::number` meets its contract. The loop's invariant: x is the number in the k - left bytes passed. Assumes nothing.
-use Prim.Native.Nat.{ℕ, ◌+◌, ◌-◌, ◌*◌, ◌^◌, ◌≤◌, ◌<◌}
-use mathlib.Core.Path.{◌≡◌, refl, sym, ap, ◌∙◌}
+use Prim.Native.Nat.{ℕ, ◌-◌, ◌^◌, ◌≤◌, ◌<◌}
+use mathlib.Core.Path.{◌≡◌}
 use mathlib.Core.List.{List}
-use native.Mathlib.Nat.{pow-le-pow_right, pow-suc}
-use native.Mathlib.Numerals.{add-one}
-use native.Mathlib.Omega.{arith}
-use lib.Arith.{digits_lt}
-use lib.Dec.{lit<}
-use lib.ListN.{get_or}
 use Rattle.laws.specs.Digits.{big_endian}
-use Rattle.laws.proofs.Digits.{big_endian_more}
 use Rattle.framing.proofs.number.Given as goal
 
 -- x is the number in i bytes

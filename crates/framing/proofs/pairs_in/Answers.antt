@@ -1,5 +1,4 @@
 -- `framing::pairs_in` meets its contract. Assumes nothing.
-use borrow.Author.Rules.{rules}
 use Rattle.pool.specs.Sheet.{pairs_in}
 use Rattle.framing.proofs.pairs_in.Goals as goal
 
