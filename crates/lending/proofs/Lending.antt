@@ -1,11 +1,12 @@
 -- What a walk lends for a call, and how it comes back.
 --     local_out, local_back      a struct in a local is lent as a `&κ mut T`; it is back in memory, at its last value
---     LentAgain, again-out, again-back      a `&κ mut [T]` is lent again, at any list that it has come to hold
---     LentShared, shared-out, shared_back      a `&κ mut [T]` is lent as a `&κ' [T]`; it comes back as it was
---     array-out, array_back      an array in a local is lent as a `&κ mut [T]`; it is back in memory, at the last list
---     Row, row_val, row-tells, row_makes, row_typed, row_field      an array of a declared struct by value: its row, its machine value and their laws
+--     LentAgain, again_out, again_back      a `&κ mut [T]` is lent again, at any list that it has come to hold
+--     LentShared, shared_out, shared_out_free, shared_back      a `&κ mut [T]` is lent as a `&κ' [T]`; it comes back as it was. A shared slice has no ghost name. It is
+--                                made by T's law of sharing, with tokens whose lifetimes' meet is within κ', which come back; and with no token where T can be copied
+--     array_out, array_back      an array in a local is lent as a `&κ mut [T]`; it is back in memory, at the last list
+--     Row, row_val, row_tells, row_makes, row_typed, row_field      an array of a declared struct by value: its row, its machine value and their laws
 --     says_two, says_three      a goal P ∗ (⌜φ⌝ ∗ ⌜ψ⌝), as a contract of two clauses has it: φ and ψ are shown, and P is left; the same for three
--- A `&κ mut T` is lent again by the toolchain's own lends-again and comes-back. Assumes `Logic`.
+-- A `&κ mut T` is lent again by the toolchain's own lends_again and comes_back. Assumes `Logic`.
 use mathlib.Core.Path.{◌≡◌, refl, sym, ◌∙◌, ap, subst}
 use Prim.Native.Nat.{ℕ, zero, suc, ◌-◌, ◌*◌, ◌<◌, ◌≤◌, ◌^◌}
 use native.Mathlib.Nat.{mul-le-mul_right}
@@ -14,20 +15,21 @@ use mathlib.Core.List.{List, [], ◌∷◌, map}
 use lib.ListN.{length, length-map}
 use lib.Dec.{T as Holds}
 use seplogic.Ra.Ura.{Ura}
-use seplogic.Ra.TreeShare.{full_share}
+use base.Fraction.{full_share}
 use mir.Syntax.{Lifetime, Ty, Local, local, ty_unit}
 use mir.Val.{Val, vptr, has_ty, WT}
 use base.Logic.{SProp, ent, sep, ex, emp, via, assoc∗, comm∗, mono_l, emp∗}
-use base.Fml.{Lft, GName, Share, Fml, fsep, fat, flft, fdead, fres, fobs, fauth, flent, fobor}
-use types.Logic.{Logic, sem}
+use base.Fml.{Lft, GName, Share, Fml, Incl, fsep, fat, flft, fdead, fres, fobs, fauth, flent, fobor, fhide}
+use ghost.Rules.{Toks, span}
+use types.Logic.{Logic, sem, lfts}
 use contract.Monad.{fact, fact_i}
-use types.Kit.{Item, Step, step, prop, ‵, ◌⊛◌, some, later, ◌$◌, ◌∵◌, !, qed, by, move, rewrite, use1, use2, use3, drop, split, pick, feq_i, fsplit, fjoin, fpick, fpack, frame, await, updating, now as at_once, show, done}
+use types.Kit.{Item, Step, step, prop, ‵, raw, ◌⊛◌, some, later, ◌$◌, ◌∵◌, !, qed, by, move, rewrite, use1, use2, use3, drop, split, pick, feq_i, fsplit, fjoin, fpick, fpack, frame, await, updating, now as at_once, show, done}
 use types.SemTy.{cells, Arr, Body}
-use types.Share.{arr_parts}
+use types.Share.{parts, arr_parts}
 use types.Tokens.{lent_back}
 use denote.RattleType.{RattleType}
 use denote.Shadow.{shadow, pure_l, pure_i}
-use denote.Memory.{mem, shares, cell_at, lone, part_at, part_of}
+use denote.Memory.{mem, shares, shared_of, cell_at, lone, part_at, part_of}
 use denote.Laws.{Is, Tells, Makes}
 use denote.Array.{Array, each, array_vals, Array-Tells, Array-Makes, Array-Lawful}
 use denote.ArrayMemory.{Single, Array-apart, Array-whole}
@@ -36,8 +38,11 @@ use denote.Struct.Declared.{Declared}
 use denote.Struct.Declared as D
 use denote.Struct.Laws as LL
 use denote.Steps.{only}
-use denote.Ref.{MutBor, MutRef}
-use denote.Slice.{slice_val, MutSlice, ShrSlice, heres, Room, finally, shr_slice_at, mut_slice_at, coded_holeys}
+use denote.Ref.{Bor, MutBor, MutRef}
+use denote.Slice.{slice_val, MutSlice, ShrSlice, heres, Room, finally, shr_slice_at, mut_slice_at, coded_holeys, elements_shared}
+use denote.Lends.{Lent, Lent-map}
+use denote.Shares.{SharesAsFrom}
+use denote.Copied.{Copied, each_lends}
 use denote.Lend.{Held, lends_slice, slice_back, lends_ref, ref_back, lends_shr_slice}
 use borrow.Table.OneValue.{part_in, part_out}
 use denote.Index.{row, whole_out, whole_in, opens_slice, closes_slice}
@@ -46,20 +51,20 @@ module _ {M : Type 1} {𝓤 : Ura M} (𝓛 : Logic 𝓤) (R : RattleType) where
   open 𝓛 use {H, A}
 
   pub local_out : (ℓ : Lifetime) (κ : Lft) (h : R.Denot) (vs : List Val) (b o : ℕ)
-      → ent 𝓤 (sep 𝓤 (sem 𝓛 (cell_at full_share R.mir vs b o)) (sem 𝓛 (R.own h vs)))
+      → ent 𝓤 (sep 𝓤 (sem 𝓛 (cell_at full_share R.mir vs b o)) (sem 𝓛 (R.own_val h vs)))
       (H.⇛ (ex 𝓤 (λ (γ : GName). sep 𝓤 (sem 𝓛 ((MutRef ℓ κ R).own_val (record { ref_ptr = (b, o); ghost_name = γ; now = h }) (vptr b o ∷ []))) (A.lent κ (Body (mem R) b o γ)))))
   unfolding part_of
   local_out ℓ κ h vs b o =
-      qed 𝓛 (‵ (cell_at full_share R.mir vs b o) ∷ ‵ (R.own h vs) ∷ []) ∵ fjoin ! $ fpack ! (List Val) (λ us. fsep (cell_at full_share R.mir us b o) (R.own h us)) vs $ by ! (lends_ref 𝓛 R ℓ κ h b o)
+      qed 𝓛 (‵ (cell_at full_share R.mir vs b o) ∷ ‵ (R.own_val h vs) ∷ []) ∵ fjoin ! $ fpack ! (List Val) (λ us. fsep (cell_at full_share R.mir us b o) (R.own_val h us)) vs $ by ! (lends_ref 𝓛 R ℓ κ h b o)
 
   pub local_back : (κ : Lft) (γ : GName) (h : R.Denot) (b o : ℕ)
       → ent 𝓤 (sep 𝓤 (A.dead κ) (sep 𝓤 (A.lent κ (Body (mem R) b o γ)) (A.res γ (R.coded.code h))))
-      (H.⇛ (ex 𝓤 (λ (vs : List Val). sep 𝓤 (sem 𝓛 (cell_at full_share R.mir vs b o)) (sem 𝓛 (R.own h vs)))))
+      (H.⇛ (ex 𝓤 (λ (vs : List Val). sep 𝓤 (sem 𝓛 (cell_at full_share R.mir vs b o)) (sem 𝓛 (R.own_val h vs)))))
   unfolding part_of
   local_back κ γ h b o =
       qed 𝓛 (‵ (fdead κ) ∷ ‵ (flent κ (Body (mem R) b o γ)) ∷ ‵ (fres γ (R.coded.code h)) ∷ []) ∵ updating ! $
       use3 𝓛 (later (‵ ((mem R).own_at h b o))) (ref_back 𝓛 R κ γ h b o) $ await ! tt $ fpick ! (λ vs. fsplit ! $ at_once ! $
-      show ! (λ (us : List Val). sep 𝓤 (sem 𝓛 (cell_at full_share R.mir us b o)) (sem 𝓛 (R.own h us))) vs $ done !)
+      show ! (λ (us : List Val). sep 𝓤 (sem 𝓛 (cell_at full_share R.mir us b o)) (sem 𝓛 (R.own_val h us))) vs $ done !)
 
 module _ (R : RattleType) (κ κ' : Lft) (q : Share) (γ : GName) (b o : ℕ) where
   abbrev pub at_list : GName → List R.Denot → MutBor (List R.Denot)
@@ -91,22 +96,45 @@ module _ (R : RattleType) (κ κ' : Lft) (q : Share) (γ : GName) (b o : ℕ) wh
         move ! (1 ∷ []) $ fsplit ! $ move ! (1 ∷ []) $ fsplit ! $ move ! (3 ∷ 2 ∷ 0 ∷ 1 ∷ []) $ closes_slice ! tt R ys zs e b o $ at_once ! $
         fjoin ! $ pure_i ! (mut_slice_at R (at_list γ zs) vs) (tt, (tt, tt)) (v ∙ ap (λ (m : ℕ). slice_val (b, o) m ∷ []) (sym e), subst (Room R) (sym e) room) $ fjoin ! $ done !
 
+  abbrev pub shared_list : List R.Denot → Bor (List R.Denot)
+  shared_list ys = record { ref_ptr = (b, o); now = ys }
+
   abbrev pub LentShared : List R.Denot → Fml
   LentShared ys = fsep (flent κ' ((arr_parts (shares R) (length ys)).part full_share ys b o)) (fsep (fobor κ q (Held R (length ys) b o γ)) (fsep (fobs γ ((coded_holeys R).code (heres R ys))) (fauth γ ((coded_holeys R).code (heres R ys)))))
 
   module _ {M : Type 1} {𝓤 : Ura M} (𝓛 : Logic 𝓤) (ℓ ℓ' : Lifetime) (vs : List Val) (ys : List R.Denot) where
     open 𝓛 use {H, A}
 
-    pub shared_out : ent 𝓤 (sep 𝓤 (sem 𝓛 ((MutSlice ℓ κ R).own_val (at_list γ ys) vs)) (A.lft κ q))
-        (H.⇛ (ex 𝓤 (λ (γ₁ : GName). sep 𝓤 (sem 𝓛 ((ShrSlice ℓ' κ' R).own_val (at_list γ₁ ys) vs)) (sem 𝓛 (LentShared ys)))))
-    shared_out =
-        qed 𝓛 (‵ ((MutSlice ℓ κ R).own_val (at_list γ ys) vs) ∷ ‵ (flft κ q) ∷ []) ∵ updating ! $ fsplit ! $ pure_l ! (shr_slice_at R (at_list γ ys) vs) (λ p. fsplit ! $ opens_slice ! tt R ys b o $
+    pub shared_out : (l : Lft) → SharesAsFrom 𝓛 full_share R (shared_of R) l → (ts : Toks) → Incl (span ts) l → Incl (span ts) κ'
+        → ent 𝓤 (sep 𝓤 (sem 𝓛 ((MutSlice ℓ κ R).own_val (at_list γ ys) vs)) (sep 𝓤 (A.lft κ q) (lfts 𝓛 ts)))
+        (H.⇛ (sep 𝓤 (sem 𝓛 ((ShrSlice ℓ' κ' R).own_val (shared_list ys) vs)) (sep 𝓤 (sem 𝓛 (LentShared ys)) (lfts 𝓛 ts))))
+    shared_out l law ts inc sp =
+        qed 𝓛 (‵ ((MutSlice ℓ κ R).own_val (at_list γ ys) vs) ∷ ‵ (flft κ q) ∷ raw (lfts 𝓛 ts) ∷ []) ∵ updating ! $ fsplit ! $ pure_l ! (mut_slice_at R (at_list γ ys) vs) (λ p. fsplit ! $ opens_slice ! tt R ys b o $
+        -- [the elements; the open borrow at κ; obs γ; auth γ; the tokens]
+        feq_i ! ℕ (length ys) (length ys) refl $ fjoin ! $ move ! (0 ∷ 4 ∷ []) $
+        use2 𝓛 (later ((‵ ((ShrSlice ℓ' κ' R).own_val (shared_list ys) (slice_val (b, o) (length ys) ∷ [])) ⊛ ‵ (flent κ' ((arr_parts (shares R) (length ys)).part full_share ys b o))) ⊛ raw (lfts 𝓛 ts)))
+        (lends_shr_slice 𝓛 R ℓ' κ' full_share ys b o p.1 l law ts inc sp) $ await ! tt $ split ! $ split ! $
+        rewrite ! 0 (λ (us : List Val). ‵ ((ShrSlice ℓ' κ' R).own_val (shared_list ys) us)) (sym p.0) refl $
+        -- [the new slice; the lender's part at κ'; the tokens; the open borrow at κ; obs γ; auth γ]
+        at_once ! $ frame ! $ move ! (3 ∷ 4 ∷ []) $ fjoin ! $ move ! (3 ∷ 0 ∷ []) $ fjoin ! $ move ! (1 ∷ 0 ∷ []) $ fjoin ! $ done !)
+
+    elements_lent : Copied 𝓛 R → Lent 𝓛 ((arr_parts (shares R) (length ys)).part full_share ys b o) (elements_shared R ys b o)
+    elements_lent c =
+        let P : Fml = (arr_parts (shares R) (length ys)).part full_share ys b o in
+        let G : Fml = parts (mem R) (shares R) full_share ys b o in
+        Lent-map 𝓛 P G (elements_shared R ys b o) (qed 𝓛 (‵ P ∷ []) {P = sem 𝓛 G} (fsplit ! $ drop ! $ done !))
+        (qed 𝓛 (‵ G ∷ []) {P = sem 𝓛 P} (feq_i ! ℕ (length ys) (length ys) refl $ done !)) (each_lends 𝓛 R c full_share ys b o)
+
+    pub shared_out_free : Copied 𝓛 R
+        → ent 𝓤 (sep 𝓤 (sem 𝓛 ((MutSlice ℓ κ R).own_val (at_list γ ys) vs)) (A.lft κ q))
+        (H.⇛ (sep 𝓤 (sem 𝓛 ((ShrSlice ℓ' κ' R).own_val (shared_list ys) vs)) (sem 𝓛 (LentShared ys))))
+    shared_out_free c =
+        qed 𝓛 (‵ ((MutSlice ℓ κ R).own_val (at_list γ ys) vs) ∷ ‵ (flft κ q) ∷ []) ∵ updating ! $ fsplit ! $ pure_l ! (mut_slice_at R (at_list γ ys) vs) (λ p. fsplit ! $ opens_slice ! tt R ys b o $
         feq_i ! ℕ (length ys) (length ys) refl $ fjoin ! $
-        use1 𝓛 (later (some (λ (γ₁ : GName). ‵ ((ShrSlice ℓ' κ' R).own_val (at_list γ₁ ys) (slice_val (b, o) (length ys) ∷ [])) ⊛ ‵ (flent κ' ((arr_parts (shares R) (length ys)).part full_share ys b o)))))
-        (lends_shr_slice 𝓛 R ℓ' κ' full_share ys b o p.1) $ await ! tt $ pick ! (λ γ₁. split ! $
-        rewrite ! 0 (λ (us : List Val). ‵ ((ShrSlice ℓ' κ' R).own_val (at_list γ₁ ys) us)) (sym p.0) refl $
-        at_once ! $ show ! (λ (γ' : GName). sep 𝓤 (sem 𝓛 ((ShrSlice ℓ' κ' R).own_val (at_list γ' ys) vs)) (sem 𝓛 (LentShared ys))) γ₁ $ frame ! $
-        move ! (2 ∷ 3 ∷ []) $ fjoin ! $ move ! (2 ∷ 0 ∷ []) $ fjoin ! $ move ! (1 ∷ 0 ∷ []) $ fjoin ! $ done !))
+        use1 𝓛 (later (‵ (fhide (elements_shared R ys b o κ')) ⊛ ‵ (flent κ' ((arr_parts (shares R) (length ys)).part full_share ys b o)))) (elements_lent c κ') $ await ! tt $ split ! $
+        -- [what the shared elements hold; the lender's part at κ'; the open borrow at κ; obs γ; auth γ]
+        pure_i ! (shr_slice_at R (shared_list ys) vs) (tt, (tt, tt)) p $ fjoin ! $
+        at_once ! $ frame ! $ move ! (2 ∷ 3 ∷ []) $ fjoin ! $ move ! (2 ∷ 0 ∷ []) $ fjoin ! $ move ! (1 ∷ 0 ∷ []) $ fjoin ! $ done !)
 
     pub shared_back : vs ≡ slice_val (b, o) (length ys) ∷ [] → Room R (length ys)
         → ent 𝓤 (sep 𝓤 (A.dead κ') (sem 𝓛 (LentShared ys))) (H.⇛ (sep 𝓤 (sem 𝓛 ((MutSlice ℓ κ R).own_val (at_list γ ys) vs)) (A.lft κ q)))
@@ -118,7 +146,7 @@ module _ (R : RattleType) (κ κ' : Lft) (q : Share) (γ : GName) (b o : ℕ) wh
 
 -- the reference r under another name, at another value
 abbrev pub renamed : {X : Type 0} → MutBor X → GName → X → MutBor X
-renamed r δ y = record { ref_ptr = r.ptr; ghost_name = δ; now = y }
+renamed r δ y = record { ref_ptr = r.ref_ptr; ghost_name = δ; now = y }
 
 -- the type of a function's local
 abbrev pub ty_of : List Local → ℕ → Ty
@@ -190,7 +218,7 @@ module _ (T : Declared) (L : LL.Laws T) (n : ℕ) where
   pub row_tells : Tells Row (Is Row) (array_vals (LL.vals T L))
   row_tells = Array-Tells (D.row T) (LL.vals T L) (LL.tells T L) n
 
-  each_of : (l : List T.D) (us : List Val) → shadow (each _ (Struct (D.shape T)).own_val (map T.to l) us) → shadow (each T.D (D.row T).own l us)
+  each_of : (l : List T.D) (us : List Val) → shadow (each _ (Struct (D.shape T)).own_val (map T.to l) us) → shadow (each T.D (D.row T).own_val l us)
   each_of [] [] s = tt
   each_of [] (u ∷ us) s = absurd s
   each_of (x ∷ l) [] s = absurd s

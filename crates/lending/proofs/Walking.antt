@@ -1,4 +1,4 @@
--- What walks use of the toolchain's logic, gathered. Assumes nothing.
+-- What walks use of the toolchain's logic, gathered. The laws that a walk takes for granted are `Logic`. Assumes nothing.
 pub use mathlib.Core.Path.{◌≡◌, refl, sym, ◌∙◌, ap, subst}
 pub use mathlib.Core.Bool.{Bool}
 pub use mathlib.Core.Logic.{⊎_elim}
@@ -14,7 +14,7 @@ pub use lib.WfN.{lt-wf_rel as Nat·lt-wfRel}
 pub use lib.Dec.{T as Holds, lit<}
 pub use borrow.Author.Tests.{lt-ltb, le-ltb}
 pub use seplogic.Ra.Ura.{Ura}
-pub use seplogic.Ra.TreeShare.{full_share}
+pub use base.Fraction.{full_share}
 pub use mir.Syntax.{named, ty_unit, ty_bool, ty_ptr, w8, w16, w32, w64}
 pub use mir.Val.{Val, vunit, vbool, vint, vptr, has_ty, WT}
 pub use base.Logic.{SProp, ent, id⊢, via, emp, fst∗}
@@ -26,9 +26,10 @@ unfoldable pub use prog.Wp.{after_turn}
 pub use ghost.Atoms.{Atoms}
 pub use contract.Monad.{Fun, fact}
 pub use contract.Lifetimes.{AllOutlive}
-pub use contract.Running.{given_of, tables}
+pub use contract.Running.{tables}
 unfoldable pub use contract.Running.{tables_of}
-pub use types.Kit.{Given, ‵, raw, some, later, ◌⊛◌, ⋆, Item, Sq, runs, any_q, at_ret, ◌$◌, ◌∵◌, !, qed, by, move, keep, drop, use1, use2, use3, cut}
+pub use types.Logic.{Logic, sem, lfts}
+pub use types.Kit.{‵, raw, some, later, ◌⊛◌, ⋆, Item, Sq, runs, any_q, at_ret, ◌$◌, ◌∵◌, !, qed, by, move, keep, drop, use1, use2, use3, cut}
 pub use types.Kit.{split, join, pick, rewrite, fsplit, fsplit3, fjoin, fjoin3, feq_i, feq_l, suffices, frame, await, done}
 pub use types.Run.{look, init, store, forget, stop, hop, fld, from, load, lit, addr, unit_lit, of_opd, bin, and_then, no_more, land, assigns}
 pub use types.Run.{assigns_last, first, stays, leaves_loop, blocks, exec, Below, again, loops, returns, enter, alloc1, alloc0, params1, pass1, pass0}
@@ -62,5 +63,5 @@ pub use denote.Triple.Walked.{says, needs, Stays, stay_dropped, stay_ref, stay_s
 pub use denote.Triple.Walked.{walked, walk_Meets}
 pub use denote.Exit.{yes}
 pub use Rattle.lending.proofs.Lending.{renamed, ty_of, less_fits, local_out, local_back, LentAgain, again_out, again_back, LentShared}
-pub use Rattle.lending.proofs.Lending.{shared_out, shared_back, array_out, array_back, Row, row_val, row_tells, row_makes, row_typed, row_field}
+pub use Rattle.lending.proofs.Lending.{shared_out, shared_out_free, shared_back, array_out, array_back, Row, row_val, row_tells, row_makes, row_typed, row_field}
 pub use Rattle.lending.proofs.Lending.{place_fits, says_two, says_three}
