@@ -97,9 +97,9 @@ pub fn print_plan(
     rounds: u64,
     out: &mut [u8],
 ) -> Printing
-    ensures fact_1 { let p = printed n cycles weight ids donors recipients comparisons products rounds in
+    ensures equals { let p = printed n cycles weight ids donors recipients comparisons products rounds in
         outcome (answer_of result) out.new ≡ printing_plan p out.old }
-    ensures fact_2 { let p = printed n cycles weight ids donors recipients comparisons products rounds in
+    ensures rightly { let p = printed n cycles weight ids donors recipients comparisons products rounds in
         PrintsPlan p out.old (outcome (answer_of result) out.new) }
 {
     match judge(
@@ -132,8 +132,8 @@ pub fn print_plan(
 
 // Prints `REFUSED`, any number and a place into the lent buffer.
 pub fn print_refused(number: u32, place: usize, out: &mut [u8]) -> Printing
-    ensures fact_1 { outcome (answer_of result) out.new ≡ printing_refusal number place out.old }
-    ensures fact_2 { PrintsRefused number place out.old (outcome (answer_of result) out.new) }
+    ensures equals { outcome (answer_of result) out.new ≡ printing_refusal number place out.old }
+    ensures rightly { PrintsRefused number place out.old (outcome (answer_of result) out.new) }
 {
     let numbers = [number as u64, place as u64];
     if out.len() < text::line_length(b"REFUSED", &numbers) {
@@ -144,8 +144,8 @@ pub fn print_refused(number: u32, place: usize, out: &mut [u8]) -> Printing
 
 // Prints a refusal and its place into the lent buffer.
 pub fn print_refusal(why: Refusal, place: usize, out: &mut [u8]) -> Printing
-    ensures fact_1 { outcome (answer_of result) out.new ≡ printing_refusal (number_of why) place out.old }
-    ensures fact_2 { PrintsRefusal (number_of why) place out.old (outcome (answer_of result) out.new) }
+    ensures equals { outcome (answer_of result) out.new ≡ printing_refusal (number_of why) place out.old }
+    ensures rightly { PrintsRefusal (number_of why) place out.old (outcome (answer_of result) out.new) }
 {
     print_refused(refusal::number(why) as u32, place, out)
 }

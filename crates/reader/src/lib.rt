@@ -99,10 +99,10 @@ pub fn read(
     patient_antibodies: &mut [u64],
     shuffle: &mut [u16],
 ) -> Reading
-    ensures fact_1 { let t = mut_lent_tables points ids donor_blood patient_blood donor_age patient_age
+    ensures equals { let t = mut_lent_tables points ids donor_blood patient_blood donor_age patient_age
         donor_antigens patient_antigens patient_antibodies shuffle in
         outcome (answer_of result) t.exit ≡ reading sheet.now t.entry }
-    ensures fact_2 { let t = mut_lent_tables points ids donor_blood patient_blood donor_age patient_age
+    ensures rightly { let t = mut_lent_tables points ids donor_blood patient_blood donor_age patient_age
         donor_antigens patient_antigens patient_antibodies shuffle in
         ReadsRightly sheet.now t.entry (outcome (answer_of result) t.exit) }
 {

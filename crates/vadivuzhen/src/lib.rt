@@ -50,15 +50,15 @@ pub extern "C" fn vadivuzhen_read(
     patient_antibodies: &mut [u64],
     shuffle: &mut [u16],
 ) -> ReadAnswer
-    ensures fact_1 { let t = lent_tables points ids donor_blood patient_blood donor_age patient_age
+    ensures numbers { let t = lent_tables points ids donor_blood patient_blood donor_age patient_age
         donor_antigens patient_antigens patient_antibodies shuffle in
         let due = reading sheet.now t.entry in
         (result ≡ read_numbers due.answer) × Numbered due.answer }
-    ensures fact_2 { let t = lent_tables points ids donor_blood patient_blood donor_age patient_age
+    ensures lent { let t = lent_tables points ids donor_blood patient_blood donor_age patient_age
         donor_antigens patient_antigens patient_antibodies shuffle in
         let due = reading sheet.now t.entry in
         t.exit ≡ due.lent }
-    ensures fact_3 { let t = lent_tables points ids donor_blood patient_blood donor_age patient_age
+    ensures rightly { let t = lent_tables points ids donor_blood patient_blood donor_age patient_age
         donor_antigens patient_antigens patient_antibodies shuffle in
         let due = reading sheet.now t.entry in
         ReadsRightly sheet.now t.entry due }
@@ -96,15 +96,15 @@ pub extern "C" fn vadivuzhen_write(
     shuffle: &[u16],
     out: &mut [u8],
 ) -> WriteAnswer
-    ensures fact_1 { let t = lent_tables points ids donor_blood patient_blood donor_age patient_age
+    ensures numbers { let t = lent_tables points ids donor_blood patient_blood donor_age patient_age
         donor_antigens patient_antigens patient_antibodies shuffle in
         let due = writing version n t.entry out.old in
         (result ≡ write_numbers due.answer) × NumberedAt0 due.answer }
-    ensures fact_2 { let t = lent_tables points ids donor_blood patient_blood donor_age patient_age
+    ensures lent { let t = lent_tables points ids donor_blood patient_blood donor_age patient_age
         donor_antigens patient_antigens patient_antibodies shuffle in
         let due = writing version n t.entry out.old in
         out.new ≡ due.lent }
-    ensures fact_3 { let t = lent_tables points ids donor_blood patient_blood donor_age patient_age
+    ensures rightly { let t = lent_tables points ids donor_blood patient_blood donor_age patient_age
         donor_antigens patient_antigens patient_antibodies shuffle in
         let due = writing version n t.entry out.old in
         WritesRightly version n t.entry out.old due }
@@ -130,11 +130,11 @@ pub extern "C" fn vadivuzhen_write(
 // Joins the second sheet to the first, as one sheet in the lent buffer.
 #[unsafe(no_mangle)]
 pub extern "C" fn vadivuzhen_join(first: &[u8], second: &[u8], out: &mut [u8]) -> JoinAnswer
-    ensures fact_1 { let due = joining first.now second.now out.old in
+    ensures numbers { let due = joining first.now second.now out.old in
         (result ≡ join_numbers due.answer) × Numbered due.answer }
-    ensures fact_2 { let due = joining first.now second.now out.old in
+    ensures lent { let due = joining first.now second.now out.old in
         out.new ≡ due.lent }
-    ensures fact_3 { let due = joining first.now second.now out.old in
+    ensures rightly { let due = joining first.now second.now out.old in
         JoinsRightly first.now second.now out.old due }
 {
     numbers::join_numbers(joining::join(first, second, out))
@@ -157,17 +157,17 @@ pub extern "C" fn vadivuzhen_build(
     compatibilities: &mut [u8],
     weights: &mut [u16],
 ) -> BuildAnswer
-    ensures fact_1 { let f = lent_fields ids donor_blood patient_blood donor_age patient_age
+    ensures numbers { let f = lent_fields ids donor_blood patient_blood donor_age patient_age
         donor_antigens patient_antigens patient_antibodies in
         let g = lent_graph compatibilities weights in
         let due = building version n points.now f.entry g.entry in
         (result ≡ build_numbers due.answer) × NumberedAt0 due.answer }
-    ensures fact_2 { let f = lent_fields ids donor_blood patient_blood donor_age patient_age
+    ensures lent { let f = lent_fields ids donor_blood patient_blood donor_age patient_age
         donor_antigens patient_antigens patient_antibodies in
         let g = lent_graph compatibilities weights in
         let due = building version n points.now f.entry g.entry in
         g.exit ≡ due.lent }
-    ensures fact_3 { let f = lent_fields ids donor_blood patient_blood donor_age patient_age
+    ensures rightly { let f = lent_fields ids donor_blood patient_blood donor_age patient_age
         donor_antigens patient_antigens patient_antibodies in
         let g = lent_graph compatibilities weights in
         let due = building version n points.now f.entry g.entry in
@@ -198,13 +198,13 @@ pub extern "C" fn vadivuzhen_start(
     points: &mut [u16],
     count: &mut usize,
 ) -> LiveAnswer
-    ensures fact_1 { let b = lent_beginning count points in
+    ensures numbers { let b = lent_beginning count points in
         let due = starting (namedPoints given) b.entry in
         (result ≡ live_numbers due.answer) × NumberedAt0 due.answer }
-    ensures fact_2 { let b = lent_beginning count points in
+    ensures lent { let b = lent_beginning count points in
         let due = starting (namedPoints given) b.entry in
         b.exit ≡ due.lent }
-    ensures fact_3 { let b = lent_beginning count points in
+    ensures rightly { let b = lent_beginning count points in
         let due = starting (namedPoints given) b.entry in
         StartsRightly (namedPoints given) b.entry due }
 {
@@ -229,15 +229,15 @@ pub extern "C" fn vadivuzhen_register(
     suitable: &mut [u16],
     pair: Pair,
 ) -> LiveAnswer
-    ensures fact_1 { let l = lent_live count points ids donor_blood patient_blood donor_age patient_age
+    ensures numbers { let l = lent_live count points ids donor_blood patient_blood donor_age patient_age
         donor_antigens patient_antigens patient_antibodies compatibilities weights suitable in
         let due = registering (named pair) l.entry in
         (result ≡ live_numbers due.answer) × NumberedAt0 due.answer }
-    ensures fact_2 { let l = lent_live count points ids donor_blood patient_blood donor_age patient_age
+    ensures lent { let l = lent_live count points ids donor_blood patient_blood donor_age patient_age
         donor_antigens patient_antigens patient_antibodies compatibilities weights suitable in
         let due = registering (named pair) l.entry in
         l.exit ≡ due.lent }
-    ensures fact_3 { let l = lent_live count points ids donor_blood patient_blood donor_age patient_age
+    ensures rightly { let l = lent_live count points ids donor_blood patient_blood donor_age patient_age
         donor_antigens patient_antigens patient_antibodies compatibilities weights suitable in
         let due = registering (named pair) l.entry in
         RegistersRightly (named pair) l.entry due }
@@ -279,15 +279,15 @@ pub extern "C" fn vadivuzhen_withdraw(
     suitable: &mut [u16],
     id: u32,
 ) -> LiveAnswer
-    ensures fact_1 { let l = lent_live count points ids donor_blood patient_blood donor_age patient_age
+    ensures numbers { let l = lent_live count points ids donor_blood patient_blood donor_age patient_age
         donor_antigens patient_antigens patient_antibodies compatibilities weights suitable in
         let due = withdrawing id l.entry in
         (result ≡ live_numbers due.answer) × NumberedAt0 due.answer }
-    ensures fact_2 { let l = lent_live count points ids donor_blood patient_blood donor_age patient_age
+    ensures lent { let l = lent_live count points ids donor_blood patient_blood donor_age patient_age
         donor_antigens patient_antigens patient_antibodies compatibilities weights suitable in
         let due = withdrawing id l.entry in
         l.exit ≡ due.lent }
-    ensures fact_3 { let l = lent_live count points ids donor_blood patient_blood donor_age patient_age
+    ensures rightly { let l = lent_live count points ids donor_blood patient_blood donor_age patient_age
         donor_antigens patient_antigens patient_antibodies compatibilities weights suitable in
         let due = withdrawing id l.entry in
         WithdrawsRightly id l.entry due }
@@ -325,15 +325,15 @@ pub extern "C" fn vadivuzhen_plan(
     recipients: &mut [u16],
     records: &mut [Cycle],
 ) -> PlanAnswer
-    ensures fact_1 { let a = request n floor m.now w.now shuffle.now in
+    ensures numbers { let a = request n floor m.now w.now shuffle.now in
         let t = lent_plan weights choices donors recipients records in
         let due = planning a t.entry in
         (result ≡ plan_numbers due.answer) × NumberedAt0 due.answer }
-    ensures fact_2 { let a = request n floor m.now w.now shuffle.now in
+    ensures lent { let a = request n floor m.now w.now shuffle.now in
         let t = lent_plan weights choices donors recipients records in
         let due = planning a t.entry in
         t.exit ≡ due.lent }
-    ensures fact_3 { let a = request n floor m.now w.now shuffle.now in
+    ensures rightly { let a = request n floor m.now w.now shuffle.now in
         let t = lent_plan weights choices donors recipients records in
         let due = planning a t.entry in
         PlansRightly a t.entry due }
@@ -358,13 +358,13 @@ pub extern "C" fn vadivuzhen_print_plan(
     rounds: u64,
     out: &mut [u8],
 ) -> PrintAnswer
-    ensures fact_1 { let p = printed_plan n cycles weight ids.now donors.now recipients.now comparisons products rounds in
+    ensures numbers { let p = printed_plan n cycles weight ids.now donors.now recipients.now comparisons products rounds in
         let due = printing_plan p out.old in
         (result ≡ print_numbers due.answer) × NumberedAt0 due.answer }
-    ensures fact_2 { let p = printed_plan n cycles weight ids.now donors.now recipients.now comparisons products rounds in
+    ensures lent { let p = printed_plan n cycles weight ids.now donors.now recipients.now comparisons products rounds in
         let due = printing_plan p out.old in
         out.new ≡ due.lent }
-    ensures fact_3 { let p = printed_plan n cycles weight ids.now donors.now recipients.now comparisons products rounds in
+    ensures rightly { let p = printed_plan n cycles weight ids.now donors.now recipients.now comparisons products rounds in
         let due = printing_plan p out.old in
         PrintsPlan p out.old due }
 {
@@ -386,11 +386,11 @@ pub extern "C" fn vadivuzhen_print_plan(
 // Prints `REFUSED`, any number and a place into the lent buffer.
 #[unsafe(no_mangle)]
 pub extern "C" fn vadivuzhen_print_refusal(number: u32, place: usize, out: &mut [u8]) -> PrintAnswer
-    ensures fact_1 { let due = printing_refusal number place out.old in
+    ensures numbers { let due = printing_refusal number place out.old in
         (result ≡ print_numbers due.answer) × NumberedAt0 due.answer }
-    ensures fact_2 { let due = printing_refusal number place out.old in
+    ensures lent { let due = printing_refusal number place out.old in
         out.new ≡ due.lent }
-    ensures fact_3 { let due = printing_refusal number place out.old in
+    ensures rightly { let due = printing_refusal number place out.old in
         PrintsRefused number place out.old due }
 {
     numbers::print_numbers(printout::print_refused(number, place, out))

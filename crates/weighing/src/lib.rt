@@ -93,11 +93,11 @@ pub fn build(
     compatibilities: &mut [u8],
     weights: &mut [u16],
 ) -> Building
-    ensures fact_1 { let f = lent_fields ids donor_blood patient_blood donor_age patient_age donor_antigens patient_antigens patient_antibodies in
+    ensures equals { let f = lent_fields ids donor_blood patient_blood donor_age patient_age donor_antigens patient_antigens patient_antibodies in
         let g = lent_graph compatibilities weights in
         let p = points.now in
         outcome (answer_of result) g.exit ≡ building version n p f.entry g.entry }
-    ensures fact_2 { let f = lent_fields ids donor_blood patient_blood donor_age patient_age donor_antigens patient_antigens patient_antibodies in
+    ensures rightly { let f = lent_fields ids donor_blood patient_blood donor_age patient_age donor_antigens patient_antigens patient_antibodies in
         let g = lent_graph compatibilities weights in
         let p = points.now in
         BuildsRightly version n p f.entry g.entry (outcome (answer_of result) g.exit) }

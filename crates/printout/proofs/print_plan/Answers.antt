@@ -32,7 +32,7 @@ returns-in-Faulty c =
     }
     in
     let e = answered_fault p c.args.out.now c.judge.result c.judge.ensures _ c.in-Faulty.is in
-    record { fact_1 = e; fact_2 = prints_plan p c.args.out.now typed e }
+    record { equals = e; rightly = prints_plan p c.args.out.now typed e }
 
 pub returns-in-Sound : goal.returns-in-Sound
 returns-in-Sound c =
@@ -52,4 +52,4 @@ returns-in-Sound c =
     }
     in
     let e = answered_printed p c.args.out.now c.judge.result c.judge.ensures c.in-Sound.is c.put_plan.ensures in
-    record { fact_1 = e; fact_2 = prints_plan p c.args.out.now typed e }
+    record { equals = e; rightly = prints_plan p c.args.out.now typed e }

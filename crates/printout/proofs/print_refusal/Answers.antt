@@ -8,5 +8,5 @@ use Rattle.printout.proofs.print_refusal.Goals as goal
 
 pub returns : goal.returns
 returns c =
-    let e = c.print_refused.ensures.fact_1 ∙ ap (λ (k : ℕ). printing_refusal k c.args.place c.args.out.now) c.number.ensures in
-    record { fact_1 = e; fact_2 = prints_refusal _ c.args.place c.args.out.now c.ranges.place.fits e (omega (arith, c.number.ensures)) }
+    let e = c.print_refused.ensures.equals ∙ ap (λ (k : ℕ). printing_refusal k c.args.place c.args.out.now) c.number.ensures in
+    record { equals = e; rightly = prints_refusal _ c.args.place c.args.out.now c.ranges.place.fits e (omega (arith, c.number.ensures)) }

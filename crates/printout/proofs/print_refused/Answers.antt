@@ -9,7 +9,7 @@ unfolding refusal_text
 returns-then-out-line_length c =
     let e =
     refusal_short c.args.number c.args.place c.args.out.now (omega (arith, c.if-out-line_length.true, c.line_length.ensures.0)) in
-    record { fact_1 = e; fact_2 = prints_refused c.args.number c.args.place c.args.out.now c.ranges.place.fits e c.ranges.number.fits }
+    record { equals = e; rightly = prints_refused c.args.number c.args.place c.args.out.now c.ranges.place.fits e c.ranges.number.fits }
 
 pub returns : goal.returns
 unfolding refusal_text
@@ -17,4 +17,4 @@ returns c =
     let e =
     refusal_put c.args.number c.args.place c.args.out.now
     (omega (arith, c.line_length.ensures.0, c.if-out-line_length.false)) c.put_line.ensures in
-    record { fact_1 = e; fact_2 = prints_refused c.args.number c.args.place c.args.out.now c.ranges.place.fits e c.ranges.number.fits }
+    record { equals = e; rightly = prints_refused c.args.number c.args.place c.args.out.now c.ranges.place.fits e c.ranges.number.fits }

@@ -38,7 +38,7 @@ returns-in-Refused c =
     refl in
     let e = c.in-Refused.is in
     let w = refused_leaves _ lent _ answers _ _ e in
-    record { fact_1 = w; fact_2 = rightly _ lent w }
+    record { equals = w; rightly = rightly _ lent w }
 
 pub returns-in-Pairs : goal.returns-in-Pairs
 unfolding room field_room
@@ -54,4 +54,4 @@ returns-in-Pairs c =
     (sym (c.lesser-space.ensures ∙ ap (λ k. min k (length c.args.shuffle.now)) c.room-held.ensures))
     refl in
     let w = finished_rightly _ lent _ answers _ _ c.in-Pairs.is _ c.fill.ensures in
-    record { fact_1 = w.0; fact_2 = w.1 }
+    record { equals = w.0; rightly = w.1 }

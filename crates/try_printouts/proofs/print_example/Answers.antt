@@ -12,11 +12,11 @@ example = printed_plan 2 1 2900 (11 ∷ 12 ∷ []) (1 ∷ 0 ∷ []) (1 ∷ 0 ∷
 pub slice_bounds-print-end : goal.slice_bounds-print-end
 slice_bounds-print-end c =
     let p = c.print_plan in
-    omega (arith, length_within p.result p.ensures.fact_2.within c.in-Length.n c.in-Length.is)
+    omega (arith, length_within p.result p.ensures.rightly.within c.in-Length.n c.in-Length.is)
 
 pub expect-requires : goal.expect-requires
 expect-requires c =
     let p = c.print_plan in
     never_refused {k = length (plan_text example)} p.result
-    (p.ensures.fact_2.prints (record { ids = omega arith; donors = omega arith; recipients = omega arith }, omega arith)) c.in-Refused.field-0
+    (p.ensures.rightly.prints (record { ids = omega arith; donors = omega arith; recipients = omega arith }, omega arith)) c.in-Refused.field-0
     c.in-Refused.is

@@ -34,7 +34,7 @@ returns-in-Faulty c =
     in
     let g = graph a.compatibilities.now a.weights.now in
     let e = call_refused a.version a.n a.points.now f g c.judge.result c.judge.ensures _ c.in-Faulty.is in
-    record { fact_1 = e; fact_2 = rightly a.version a.n a.points.now f g _ _ e }
+    record { equals = e; rightly = rightly a.version a.n a.points.now f g _ _ e }
 
 pub returns-in-Sound : goal.returns-in-Sound
 returns-in-Sound c =
@@ -48,4 +48,4 @@ returns-in-Sound c =
     call_built a.version a.n a.points.now f g c.judge.result c.judge.ensures c.in-Sound.is (named c.points_of.result) c.points_of.ensures _
     c.fill.ensures
     in
-    record { fact_1 = e; fact_2 = rightly a.version a.n a.points.now f g _ _ e }
+    record { equals = e; rightly = rightly a.version a.n a.points.now f g _ _ e }
