@@ -15,7 +15,6 @@ use Rattle.greedy.specs.Rounds.{join, by_halves, choosing, clear, clearing_tally
 use Rattle.exchange.specs.Subsets.{ascending, subsets, each_first, orders, cycles, along, edges, product_of, sum_of, weigh, first_of, heaviest, pairs_at, best_cycle, subset_weight, evaluation_tally}
 use Rattle.exchange.specs.Resolution.{resolved, recipient_by, donor_by, recipient_table, donor_table, total}
 use Rattle.exchange.specs.Planning.{left_by, planned_by, plan_from}
-use Rattle.exchange.specs.Algorithm1 as Algorithm1
 use Rattle.text.specs.Text.{digits_within, decimal, line}
 use Rattle.partners.specs.Pairs.{partner, pair_line, pair_lines}
 use Rattle.printout.specs.Printed.{plan_text}

@@ -21,7 +21,7 @@ use Rattle.donation.proofs.Points.{present_weighs}
 use Rattle.graph.specs.Graph.{Graph}
 use Rattle.weighing.specs.Promises.{Plannable}
 use Rattle.weighing.proofs.Promised.{rightly}
-use Rattle.exchange.specs.Subsets.{cycles, entry, pairs_at}
+use Rattle.exchange.specs.Subsets.{entry, pairs_at}
 use Rattle.exchange.specs.Resolution.{recipient_table, donor_table}
 use Rattle.exchange.specs.Input.{Input, no_floor, request}
 use Rattle.exchange.specs.Planning.{planned_by, plan_from}
