@@ -1,7 +1,7 @@
 -- What stands before the pairs, the pairs and the shuffle, written one after another, are a sheet. Assumes nothing.
 use mathlib.Core.Path.{◌≡◌, ◌∙◌}
 use mathlib.Core.Bool.{true, false}
-use mathlib.Core.List.{List, [], ◌++◌, append_assoc, append-nil, flat_map}
+use mathlib.Core.List.{List, ◌++◌, append_assoc, append-nil, flat_map}
 use Prim.Native.Nat.{ℕ, ◌≤◌}
 use native.Mathlib.Nat.{zero-add}
 use native.Mathlib.Omega.{arith}
