@@ -9,7 +9,7 @@ use lib.ListN.{length, get_or, take, set, length-set}
 use lib.Seq.{take_all, take-suc-set}
 use Rattle.greedy.specs.Tally as Tallies
 use Rattle.greedy.specs.Tally.{raise, next_round}
-use Rattle.greedy.specs.Rounds.{Chosen, clear, clear_before, clearing_tally, clearing_tally_before, Left, left, rounds}
+use Rattle.greedy.specs.Rounds.{Chosen, clear_before, clearing_tally_before, Left, left, rounds}
 use Rattle.greedy.proofs.Choosing.{choosing-tally}
 use Rattle.greedy.proofs.Tallied.{clear-length}
 use Rattle.exchange.specs.Subsets.{up_to_three, order, subset_count}
