@@ -1,0 +1,32 @@
+-- `keeping::ids` meets its contract. The loop's invariant: the ids passed have no fault. Assumes nothing.
+use mathlib.Core.Path.{refl, sym, ◌∙◌}
+use native.Mathlib.Omega.{arith}
+use Rattle.refusal.specs.Fault.{first_below}
+use Rattle.refusal.specs.Number.{fault_at}
+use Rattle.refusal.proofs.Faults.{first_more, first_hit, passed_all, fault_refuse, none_refuse}
+use Rattle.pool.specs.Faults.{id_fault}
+use Rattle.keeping.proofs.ids.Goals as goal
+
+pub loop-i-init : goal.loop-i-init
+unfolding first_below
+loop-i-init c = (omega arith, refl)
+
+pub returns-then-among : goal.returns-then-among
+unfolding fault_at id_fault
+returns-then-among c =
+    let a = c in
+    let t = a in
+    let l = t.loop-i in
+    sym (first_hit _ _ l.i t.loop-i-test.true l.invariant.1 (fault_refuse 7 0 _ (sym a.among.ensures ∙ c.if-among.true)))
+
+pub loop-i-preserved : goal.loop-i-preserved
+unfolding id_fault
+loop-i-preserved c =
+    let a = c in
+    let l = a.loop-i in
+    (omega arith, first_more l.i _ l.invariant.1 (none_refuse 7 0 _ (sym a.among.ensures ∙ c.if-among.false)))
+
+pub returns : goal.returns
+returns c =
+    let l = c.loop-i in
+    passed_all _ _ l.i (omega arith) l.invariant.1
