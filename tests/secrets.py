@@ -275,7 +275,7 @@ def plain(sources):
         if source.tables != CONSTANTS.get(crate, []):
             yield f'{crate}: has the constant tables {source.tables}'
         for use in source.uses:
-            if not re.fullmatch(r'(gates|cursor)::\w+', use):
+            if not re.fullmatch(r'(gates|cursor)::(\w+|\{\w+(, \w+)*\})', use):
                 yield f'{crate}: uses {use}'
         for clause in source.clauses:
             if not whole(clause):
@@ -548,10 +548,10 @@ CHEATS = [
      plain, 'evaluation: two calls, or takes a field, by ).'),
     ('clearing', 'a pattern', [('    let first = gates::product(', '    let SecretPlaces { u, v, w } = choice;\n    let first = gates::product(')], plain, 'clearing: weight_after binds by a pattern'),
 
-    ('evaluation', 'code behind a clause', [('ghost use mathlib.Core.Path.{_≡_};\n', 'ghost use mathlib.Core.Path.{_≡_}; fn evil(w: &[u16]) -> bool { w[0] == 0 }\n')],
-     plain, 'evaluation: a clause has more on its line, or goes on: ghost use mathlib.Core.Path.{_'),
-    ('evaluation', 'code between the lines of a clause', [('    requires { ⌜ Evaluating (upToThree n) (now m) (now w) (now s) (now weights) t ⌝ }\n', '    requires { ⌜ Evaluating (upToThree n) (now m) (now w) (now s) (now weights) t ⌝\n    }\n')],
-     plain, 'evaluation: a clause has more on its line, or goes on: requires { ⌜ Evaluating (upToT'),
+    ('evaluation', 'code behind a clause', [('ghost use Rattle.evaluation.specs.Preconditions.{Evaluating};\n', 'ghost use Rattle.evaluation.specs.Preconditions.{Evaluating}; fn evil(w: &[u16]) -> bool { w[0] == 0 }\n')],
+     plain, 'evaluation: a clause has more on its line, or goes on: ghost use Rattle.evaluation.spe'),
+    ('evaluation', 'code between the lines of a clause', [('    requires { Evaluating (up_to_three n) m.now w.now s.now weights.old t }\n', '    requires { Evaluating (up_to_three n) m.now w.now s.now weights.old t\n    }\n')],
+     plain, 'evaluation: a clause has more on its line, or goes on: requires { Evaluating (up_to_th'),
     ('choosing', 'a constant', [('// A winner: its weight', 'const MOST: usize = 9;\n\n// A winner: its weight')],
      plain, 'choosing: has more than uses, structs and functions: const MOST: usize = 9;'),
     ('choosing', 'a constant table', [('// A winner: its weight', 'const MOST: [u32; 201] = [' + '0, ' * 201 + '];\n\n// A winner: its weight')], plain, "choosing: has the constant tables ['MOST']"),
