@@ -112,10 +112,10 @@ fn judge(first: &[u8], second: &[u8], space: usize) -> Found
 
 // Joins the second sheet to the first, as one sheet in the lent buffer.
 pub fn join(first: &[u8], second: &[u8], out: &mut [u8]) -> Joining
-    ensures fact_1 { let a = first.now in
+    ensures equals { let a = first.now in
         let b = second.now in
         outcome (answer_of result) out.new ≡ joining a b out.old }
-    ensures fact_2 { let a = first.now in
+    ensures rightly { let a = first.now in
         let b = second.now in
         JoinsRightly a b out.old (outcome (answer_of result) out.new) }
 {

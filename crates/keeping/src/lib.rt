@@ -36,9 +36,9 @@ fn put_points(given: Points, points: &mut [u16])
 
 // Starts a pool with no pairs, whatever the count was, and with these points.
 pub fn start(given: Points, points: &mut [u16], count: &mut usize) -> Change
-    ensures fact_1 { let b = lent_beginning count points in
+    ensures equals { let b = lent_beginning count points in
         outcome (answer_of result) b.exit ≡ starting (named given) b.entry }
-    ensures fact_2 { let b = lent_beginning count points in
+    ensures rightly { let b = lent_beginning count points in
         StartsRightly (named given) b.entry (outcome (answer_of result) b.exit) }
 {
     match points::judge(given) {

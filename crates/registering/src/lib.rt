@@ -228,10 +228,10 @@ pub fn register(
     suitable: &mut [u16],
     pair: Pair,
 ) -> Change
-    ensures fact_1 { let l = lent_live count points ids donor_blood patient_blood donor_age patient_age
+    ensures equals { let l = lent_live count points ids donor_blood patient_blood donor_age patient_age
         donor_antigens patient_antigens patient_antibodies compatibilities weights suitable in
         outcome (answer_of result) l.exit ≡ registering (named pair) l.entry }
-    ensures fact_2 { let l = lent_live count points ids donor_blood patient_blood donor_age patient_age
+    ensures rightly { let l = lent_live count points ids donor_blood patient_blood donor_age patient_age
         donor_antigens patient_antigens patient_antibodies compatibilities weights suitable in
         RegistersRightly (named pair) l.entry (outcome (answer_of result) l.exit) }
 {

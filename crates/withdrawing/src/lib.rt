@@ -52,15 +52,15 @@ fn take_out(
     requires { let f = mut_fields_now ids donor_blood patient_blood donor_age patient_age
         donor_antigens patient_antigens patient_antibodies in
         OneOf a n f (graph_now compatibilities weights) suitable.old }
-    ensures fact_1 { let f = mut_lent_fields ids donor_blood patient_blood donor_age patient_age
+    ensures fields { let f = mut_lent_fields ids donor_blood patient_blood donor_age patient_age
         donor_antigens patient_antigens patient_antibodies in
         let g = lent_graph compatibilities weights in
         f.exit ≡ without_pair a n f.entry }
-    ensures fact_2 { let f = mut_lent_fields ids donor_blood patient_blood donor_age patient_age
+    ensures graph { let f = mut_lent_fields ids donor_blood patient_blood donor_age patient_age
         donor_antigens patient_antigens patient_antibodies in
         let g = lent_graph compatibilities weights in
         g.exit ≡ graph (without_row a n g.entry.compatibilities) (without_row a n g.entry.weights) }
-    ensures fact_3 { let f = mut_lent_fields ids donor_blood patient_blood donor_age patient_age
+    ensures numbers { let f = mut_lent_fields ids donor_blood patient_blood donor_age patient_age
         donor_antigens patient_antigens patient_antibodies in
         let g = lent_graph compatibilities weights in
         suitable.new ≡ with_numbers (n - 1) (without_row a n g.entry.compatibilities) suitable.old }
@@ -96,10 +96,10 @@ pub fn withdraw(
     suitable: &mut [u16],
     id: u32,
 ) -> Change
-    ensures fact_1 { let l = lent_live count points ids donor_blood patient_blood donor_age patient_age
+    ensures equals { let l = lent_live count points ids donor_blood patient_blood donor_age patient_age
         donor_antigens patient_antigens patient_antibodies compatibilities weights suitable in
         outcome (answer_of result) l.exit ≡ withdrawing id l.entry }
-    ensures fact_2 { let l = lent_live count points ids donor_blood patient_blood donor_age patient_age
+    ensures rightly { let l = lent_live count points ids donor_blood patient_blood donor_age patient_age
         donor_antigens patient_antigens patient_antibodies compatibilities weights suitable in
         WithdrawsRightly id l.entry (outcome (answer_of result) l.exit) }
 {

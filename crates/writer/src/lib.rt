@@ -194,10 +194,10 @@ pub fn write(
     shuffle: &[u16],
     out: &mut [u8],
 ) -> Writing
-    ensures fact_1 { let t = lent_tables points ids donor_blood patient_blood donor_age patient_age
+    ensures equals { let t = lent_tables points ids donor_blood patient_blood donor_age patient_age
         donor_antigens patient_antigens patient_antibodies shuffle in
         outcome (answer_of result) out.new ≡ writing version n t.entry out.old }
-    ensures fact_2 { let t = lent_tables points ids donor_blood patient_blood donor_age patient_age
+    ensures rightly { let t = lent_tables points ids donor_blood patient_blood donor_age patient_age
         donor_antigens patient_antigens patient_antibodies shuffle in
         WritesRightly version n t.entry out.old (outcome (answer_of result) out.new) }
 {

@@ -28,7 +28,7 @@ returns-in-Fault c =
     let s = c.args in
     let e =
     answered_fault s.first.now s.second.now s.out.now _ _ (found_fault_lem _ c.judge.ensures _ _ c.in-Fault.is) in
-    record { fact_1 = e; fact_2 = answered_rightly _ _ _ first-bytes second-bytes _ _ e }
+    record { equals = e; rightly = answered_rightly _ _ _ first-bytes second-bytes _ _ e }
 
 pub returns-in-Nothing : goal.returns-in-Nothing
 returns-in-Nothing c =
@@ -42,4 +42,4 @@ returns-in-Nothing c =
     nothing_none _ c.judge.ensures c.in-Nothing.is in
     let s = c.args in
     let e = answered_joined s.first.now s.second.now s.out.now passed _ _ c.put_joined.ensures.0 c.put_joined.ensures.1 in
-    record { fact_1 = e; fact_2 = answered_rightly _ _ _ first-bytes second-bytes _ _ e }
+    record { equals = e; rightly = answered_rightly _ _ _ first-bytes second-bytes _ _ e }

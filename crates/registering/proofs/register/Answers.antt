@@ -58,7 +58,7 @@ returns-in-Faulty c =
     let pool = live a.count.now a.points.now f (graph a.compatibilities.now a.weights.now) a.suitable.now in
     let shortest = lesser_pairs pool c.room-held.result c.lesser-space.result c.room-held.ensures c.lesser-space.ensures in
     let e = call_refused _ pool c.lesser-space.result shortest c.judge.result (c.judge.ensures _ _ _) _ c.in-Faulty.is in
-    record { fact_1 = e; fact_2 = rightly_registered _ _ _ e }
+    record { equals = e; rightly = rightly_registered _ _ _ e }
 
 pub returns-in-Sound : goal.returns-in-Sound
 unfolding field_room
@@ -71,4 +71,4 @@ returns-in-Sound c =
     let pool = live a.count.now a.points.now f (graph a.compatibilities.now a.weights.now) a.suitable.now in
     let shortest = lesser_pairs pool c.room-held.result c.lesser-space.result c.room-held.ensures c.lesser-space.ensures in
     let e = call_registered _ pool c.lesser-space.result shortest c.judge.result (c.judge.ensures _ _ _) c.in-Sound.is _ c.add.ensures in
-    record { fact_1 = e; fact_2 = rightly_registered _ _ _ e }
+    record { equals = e; rightly = rightly_registered _ _ _ e }

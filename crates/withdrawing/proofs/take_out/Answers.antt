@@ -61,7 +61,7 @@ pub returns : goal.returns
 unfolding without_pair
 returns c =
     record {
-      fact_1 =
+      fields =
           λ k.
           record {
             ids = c.without_entry_u32.ensures k;
@@ -73,6 +73,6 @@ returns c =
             patient_antigens = c.without_entry_u64-2.ensures k;
             patient_antibodies = c.without_entry_u64-3.ensures k;
           };
-      fact_2 = ap₂ graph c.without_row_u8.ensures c.without_row_u16.ensures;
-      fact_3 = c.take_out.ensures;
+      graph = ap₂ graph c.without_row_u8.ensures c.without_row_u16.ensures;
+      numbers = c.take_out.ensures;
     }

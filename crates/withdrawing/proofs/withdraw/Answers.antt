@@ -29,7 +29,7 @@ returns-in-Faulty c =
     let shortest = lesser_pairs lent c.room-held.result c.lesser-space.result c.room-held.ensures c.lesser-space.ensures in
     let found = found-stored lent c.lesser-space.result c.judge.result shortest c.judge.ensures in
     let e = call_refused a.id lent c.judge.result found _ c.in-Faulty.is in
-    record { fact_1 = e; fact_2 = rightly_withdrawn _ _ _ e }
+    record { equals = e; rightly = rightly_withdrawn _ _ _ e }
 
 pub place_of-at-requires : goal.place_of-at-requires
 unfolding field_room
@@ -54,7 +54,7 @@ returns-then-at-n c =
     let shortest = lesser_pairs lent c.room-held.result c.lesser-space.result c.room-held.ensures c.lesser-space.ensures in
     let found = found-stored lent c.lesser-space.result c.judge.result shortest c.judge.ensures in
     let e = call_unknown a.id lent c.judge.result found c.in-Sound.is c.place_of-at.result c.place_of-at.ensures c.if-at-n.true in
-    record { fact_1 = e; fact_2 = rightly_withdrawn _ _ _ e }
+    record { equals = e; rightly = rightly_withdrawn _ _ _ e }
 
 pub take_out-requires : goal.take_out-requires
 unfolding field_room
@@ -93,7 +93,7 @@ returns c =
     let found = found-stored lent c.lesser-space.result c.judge.result shortest c.judge.ensures in
     let w = c.take_out.ensures in
     let e =
-    call_withdrawn a.id lent c.judge.result found c.in-Sound.is c.place_of-at.result c.place_of-at.ensures c.if-at-n.false _ _ _ w.fact_1
-    w.fact_2 w.fact_3
+    call_withdrawn a.id lent c.judge.result found c.in-Sound.is c.place_of-at.result c.place_of-at.ensures c.if-at-n.false _ _ _ w.fields
+    w.graph w.numbers
     in
-    record { fact_1 = e; fact_2 = rightly_withdrawn _ _ _ e }
+    record { equals = e; rightly = rightly_withdrawn _ _ _ e }

@@ -12,7 +12,7 @@ returns-in-Faulty c =
     (fields c.args.ids.now c.args.donor_blood.now c.args.patient_blood.now c.args.donor_age.now c.args.patient_age.now
     c.args.donor_antigens.now c.args.patient_antigens.now c.args.patient_antibodies.now) c.args.shuffle.now in
     let e = answered_fault c.args.version c.args.n given c.args.out.now c.judge.result c.judge.ensures _ c.in-Faulty.is in
-    record { fact_1 = e; fact_2 = answered_rightly c.args.version c.args.n given c.args.out.now _ _ e }
+    record { equals = e; rightly = answered_rightly c.args.version c.args.n given c.args.out.now _ _ e }
 
 pub sheet_length-length-requires : goal.sheet_length-length-requires
 sheet_length-length-requires c =
@@ -33,7 +33,7 @@ returns-then-out-length c =
     let e =
     answered_short c.args.version c.args.n given c.args.out.now c.judge.result c.judge.ensures c.in-Sound.is
     c.sheet_length-length.result c.sheet_length-length.ensures.0 (omega (arith, c.sheet_length-length.ensures, c.if-out-length.true)) in
-    record { fact_1 = e; fact_2 = answered_rightly c.args.version c.args.n given c.args.out.now _ _ e }
+    record { equals = e; rightly = answered_rightly c.args.version c.args.n given c.args.out.now _ _ e }
 
 pub put_sheet-requires : goal.put_sheet-requires
 put_sheet-requires c =
@@ -55,4 +55,4 @@ returns c =
     let e =
     answered_written c.args.version c.args.n given c.args.out.now c.judge.result c.judge.ensures c.in-Sound.is
     c.sheet_length-length.result c.sheet_length-length.ensures.0 _ (omega (arith, c.if-out-length.false)) c.put_sheet.ensures in
-    record { fact_1 = e; fact_2 = answered_rightly c.args.version c.args.n given c.args.out.now _ _ e }
+    record { equals = e; rightly = answered_rightly c.args.version c.args.n given c.args.out.now _ _ e }
