@@ -678,7 +678,8 @@ def tried(cheats):
     """Of each of these cheats, in a copy of the tree: its text, whether every edit fits, and what the compiler says."""
     with tempfile.TemporaryDirectory() as folder:
         copy = pathlib.Path(folder)
-        shutil.copytree(top / 'crates', copy / 'crates', ignore=shutil.ignore_patterns('out'))
+        # with what the checker keeps of the crates, so that those below a cheat need not be proved again
+        shutil.copytree(top / 'crates', copy / 'crates')
         shutil.copy(top / 'crates.txt', copy / 'crates.txt')
         outcomes = []
         for crate, what, edits, by, words in cheats:
@@ -693,9 +694,9 @@ def tried(cheats):
         return outcomes
 
 
-half = len(CHEATS) // 2
-with concurrent.futures.ThreadPoolExecutor(2) as pool:
-    outcomes = sum(pool.map(tried, (CHEATS[:half], CHEATS[half:])), [])
+size = -(-len(CHEATS) // 4)
+with concurrent.futures.ThreadPoolExecutor(4) as pool:
+    outcomes = sum(pool.map(tried, [CHEATS[k:k + size] for k in range(0, len(CHEATS), size)]), [])
 refusing = set()
 for (crate, what, edits, by, words), (cheat, fits, taken, said) in zip(CHEATS, outcomes):
     check(fits, f'{crate}: {what}: the edit does not fit')
