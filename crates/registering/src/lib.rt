@@ -7,7 +7,7 @@ ghost use Rattle.refusal.specs.Fault.{◌then◌};
 ghost use Rattle.refusal.specs.Answer.{outcome};
 ghost use Rattle.refusal.specs.Number.{fault_at};
 ghost use Rattle.pool.specs.Tables.{fields, pair_in};
-ghost use Rattle.pool.specs.Lent.{fields_now, lent_fields};
+ghost use Rattle.pool.specs.Lent.{mut_fields_now, mut_lent_fields};
 ghost use Rattle.pool.specs.Faultless.{FieldsHold};
 ghost use Rattle.graph.specs.Lent.{graph_now, lent_graph};
 ghost use Rattle.checks.specs.Preconditions.{TablesHaveRoom};
@@ -139,10 +139,10 @@ fn put_pair(
     patient_antibodies: &mut [u64],
     pair: Pair,
 )
-    requires { let f = fields_now ids donor_blood patient_blood donor_age patient_age
+    requires { let f = mut_fields_now ids donor_blood patient_blood donor_age patient_age
         donor_antigens patient_antigens patient_antibodies in
         FieldsHold (at + 1) f }
-    ensures { let f = lent_fields ids donor_blood patient_blood donor_age patient_age
+    ensures { let f = mut_lent_fields ids donor_blood patient_blood donor_age patient_age
         donor_antigens patient_antigens patient_antibodies in
         f.exit ≡ with_pair at (named pair) f.entry }
 {
@@ -174,10 +174,10 @@ fn add(
     suitable: &mut [u16],
     pair: Pair,
 )
-    requires { let f = fields_now ids donor_blood patient_blood donor_age patient_age
+    requires { let f = mut_fields_now ids donor_blood patient_blood donor_age patient_age
         donor_antigens patient_antigens patient_antibodies in
         Registrable (named pair) (live n points.now f (graph_now compatibilities weights) suitable.old) }
-    ensures { let f = lent_fields ids donor_blood patient_blood donor_age patient_age
+    ensures { let f = mut_lent_fields ids donor_blood patient_blood donor_age patient_age
         donor_antigens patient_antigens patient_antibodies in
         let g = lent_graph compatibilities weights in
         let l = live n points.now f.entry g.entry suitable.old in

@@ -5,7 +5,7 @@
 ghost use Rattle.std.specs.Prelude.{◌≡◌, ◌-◌, ◌≤◌, length};
 ghost use Rattle.refusal.specs.Answer.{outcome};
 ghost use Rattle.pool.specs.Tables.{item_in};
-ghost use Rattle.pool.specs.Lent.{fields_now, lent_fields};
+ghost use Rattle.pool.specs.Lent.{mut_fields_now, mut_lent_fields};
 ghost use Rattle.graph.specs.Graph.{graph};
 ghost use Rattle.graph.specs.Lent.{graph_now, lent_graph};
 ghost use Rattle.live.specs.Suitable.{with_numbers};
@@ -49,18 +49,18 @@ fn take_out(
     weights: &mut [u16],
     suitable: &mut [u16],
 )
-    requires { let f = fields_now ids donor_blood patient_blood donor_age patient_age
+    requires { let f = mut_fields_now ids donor_blood patient_blood donor_age patient_age
         donor_antigens patient_antigens patient_antibodies in
         OneOf a n f (graph_now compatibilities weights) suitable.old }
-    ensures fact_1 { let f = lent_fields ids donor_blood patient_blood donor_age patient_age
+    ensures fact_1 { let f = mut_lent_fields ids donor_blood patient_blood donor_age patient_age
         donor_antigens patient_antigens patient_antibodies in
         let g = lent_graph compatibilities weights in
         f.exit ≡ without_pair a n f.entry }
-    ensures fact_2 { let f = lent_fields ids donor_blood patient_blood donor_age patient_age
+    ensures fact_2 { let f = mut_lent_fields ids donor_blood patient_blood donor_age patient_age
         donor_antigens patient_antigens patient_antibodies in
         let g = lent_graph compatibilities weights in
         g.exit ≡ graph (without_row a n g.entry.compatibilities) (without_row a n g.entry.weights) }
-    ensures fact_3 { let f = lent_fields ids donor_blood patient_blood donor_age patient_age
+    ensures fact_3 { let f = mut_lent_fields ids donor_blood patient_blood donor_age patient_age
         donor_antigens patient_antigens patient_antibodies in
         let g = lent_graph compatibilities weights in
         suitable.new ≡ with_numbers (n - 1) (without_row a n g.entry.compatibilities) suitable.old }
