@@ -1,17 +1,18 @@
--- Planning's five lent tables as a contract has them: one value, with what was lent (`.entry`) and what is left (`.exit`). Assumes nothing.
+-- Planning's five lent tables as a contract has them: one value, with what was lent (`.entry`) and what is left (`.exit`). All five are lent to be
+-- changed. Assumes nothing.
 use Rattle.std.specs.Prelude.{List}
-use Rattle.std.specs.Borrow.{Bor}
+use Rattle.std.specs.Borrow.{MutBor}
 use denote.Triple.Both.{Both}
-use Rattle.pool.specs.Lent.{Slice}
+use Rattle.pool.specs.Lent.{MutSlice}
 use Rattle.cycle.specs.declared.Cycle.{Cycle}
 use Rattle.exchange.specs.Planning.{Lent, lent}
 
 -- the lent records, at entry and exit
 abbrev pub RecordSlice : Type 0
-RecordSlice = Both (Bor (List Cycle)) (Bor (List Cycle))
+RecordSlice = Both (MutBor (List Cycle)) (MutBor (List Cycle))
 
 -- weights, choices, donors, recipients and records
-abbrev pub lent_plan : Slice → Slice → Slice → Slice → RecordSlice → Both Lent Lent
+abbrev pub lent_plan : MutSlice → MutSlice → MutSlice → MutSlice → RecordSlice → Both Lent Lent
 lent_plan a b c d e =
     record {
       entry = lent a.entry.now b.entry.now c.entry.now d.entry.now e.entry.now;

@@ -1,6 +1,4 @@
--- `Stepped`: evaluation and all rounds. `MadePlan`: the plan from checked input. `Answered`: the answer and what it leaves. `Recorded`: the call that
--- writes the records to a lent table.
+-- `Stepped`: evaluation and all rounds. `MadePlan`: the plan from checked input. `Answered`: the answer and what it leaves.
 pub mod Stepped
 pub mod MadePlan
 pub mod Answered
-pub mod Recorded

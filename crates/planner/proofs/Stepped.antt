@@ -13,7 +13,6 @@ use Rattle.exchange.specs.Planning.{round_count, left_by}
 use Rattle.gates.specs.Counting.{counted}
 use Rattle.gates.specs.declared.Tally.{Tally}
 use Rattle.cursor.proofs.Number.{count_le}
-use Rattle.evaluation.specs.Preconditions.{Evaluating}
 use Rattle.evaluation.proofs.AllWeights.{evaluating_le}
 use Rattle.rounds.specs.Preconditions.{Rounding}
 use Rattle.planner.specs.Preconditions.{Stepping}
@@ -21,17 +20,6 @@ use Rattle.planner.specs.Preconditions.{Stepping}
 module _ (n f : ℕ) (M W s weights choices : List ℕ) (asked : Stepping (request n f M W s) weights choices) (zeros : Tally) (none : counted zeros ≡ Tallies.tally 0 0 0) where
   few : subset_count (up_to_three n) ≤ 1333333
   few = count_le n asked.readable.few
-
-  pub asks_evaluate : Evaluating (up_to_three n) M W s weights zeros
-  asks_evaluate = record {
-    readable = asked.readable;
-    shuffled = asked.shuffled;
-    whole = asked.whole;
-    room = record {
-      comparisons = omega (arith, few, asked.whole, ap (λ (x : Tallies.Tally). x.comparisons) none);
-      products = omega (arith, few, asked.whole, ap (λ (x : Tallies.Tally). x.products) none);
-    };
-  }
 
   module _ (evaluated : List ℕ) (t : Tally)
       (e : (evaluated ≡ map (subset_weight (entry M n) (entry W n) s) (order (up_to_three n))) × (counted t ≡ evaluation_tally (order (up_to_three n)) (counted zeros))) where

@@ -1,0 +1,13 @@
+-- `validation::edges` meets its contract. The loop's invariant: no row passed has a weightless edge. Assumes nothing.
+use Prim.Native.Nat.{◌-◌, ◌≤◌}
+use mathlib.Core.Bool.{false}
+use mathlib.Core.Path.{◌≡◌}
+use Rattle.laws.specs.Below.{any_below}
+use Rattle.validation.proofs.Faults.{light}
+use Rattle.validation.proofs.edges.Given as goal
+
+abbrev pub invariant-loop-i : goal.invariant-loop-i
+invariant-loop-i l = (l.i ≤ l.n) × (any_below l.i (light l.n l.m l.w) ≡ false)
+
+abbrev pub decreases-loop-i : goal.decreases-loop-i
+decreases-loop-i l = l.n - l.i
