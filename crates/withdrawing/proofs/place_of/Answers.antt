@@ -20,9 +20,8 @@ returns-then-ids-at c =
 
 pub loop-at-preserved : goal.loop-at-preserved
 loop-at-preserved c =
-    let at-loop = c in
-    let s = at-loop.args in
-    let l = at-loop.loop-at in
+    let s = c.args in
+    let l = c.loop-at in
     (omega arith, l.invariant.1, any_more l.at (same (item_in s.ids.now) s.id) l.invariant.2 (ne_eqb _ _ c.if-ids-at.false))
 
 pub returns : goal.returns
