@@ -1,5 +1,5 @@
 -- An accepted sheet has at most 200 pairs. Assumes nothing.
-use mathlib.Core.Path.{◌≡◌, refl, ap}
+use mathlib.Core.Path.{◌≡◌, ap}
 use mathlib.Core.List.{List}
 use Prim.Native.Nat.{ℕ, ◌≤◌}
 use Rattle.pool.specs.Tables.{Tables}

@@ -8,7 +8,6 @@ use Rattle.pool.proofs.Joined.{length_joined}
 use Rattle.appending.proofs.Pieces.{pieces_written}
 use Rattle.appending.proofs.put_joined.Goals as goal
 
--- ## What each call requires; the buffer keeps its length
 pub put_points-requires : goal.put_points-requires
 put_points-requires c =
     let first-version : c.version_in-version.result ≡ version_in c.args.first.now =

@@ -21,14 +21,14 @@ returns-then-n-m-gt200 c =
 
 pub returns-then-space-sheet_length : goal.returns-then-space-sheet_length
 returns-then-space-sheet_length c =
-    let together : let c = c in c.sheet_length.result ≡ sheet_length (version_in c.args.first.now) (c.pairs_in-n.result + c.pairs_in-m.result) =
+    let together : c.sheet_length.result ≡ sheet_length (version_in c.args.first.now) (c.pairs_in-n.result + c.pairs_in-m.result) =
     c.sheet_length.ensures.0 ∙ ap (λ v. sheet_length v (c.pairs_in-n.result + c.pairs_in-m.result)) c.version_in.ensures in
     both_short _ _ _ _ c.differ.ensures c.in-Sound.is _ c.shared.ensures c.if-shared.false _ _
     c.pairs_in-n.ensures c.pairs_in-m.ensures (omega (arith, c.if-n-m-gt200.false)) (omega (arith, together, c.if-space-sheet_length.true))
 
 pub returns : goal.returns
 returns c =
-    let together : let c = c in c.sheet_length.result ≡ sheet_length (version_in c.args.first.now) (c.pairs_in-n.result + c.pairs_in-m.result) =
+    let together : c.sheet_length.result ≡ sheet_length (version_in c.args.first.now) (c.pairs_in-n.result + c.pairs_in-m.result) =
     c.sheet_length.ensures.0 ∙ ap (λ v. sheet_length v (c.pairs_in-n.result + c.pairs_in-m.result)) c.version_in.ensures in
     both_sound _ _ _ _ c.differ.ensures c.in-Sound.is _ c.shared.ensures c.if-shared.false _ _
     c.pairs_in-n.ensures c.pairs_in-m.ensures (omega (arith, c.if-n-m-gt200.false)) (omega (arith, together, c.if-space-sheet_length.false))

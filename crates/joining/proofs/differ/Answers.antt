@@ -57,14 +57,14 @@ returns-then-number c =
     sym c.version_in-version.ensures ∙ c.if-version-version_in.false ∙ c.version_in.ensures in
     let many : c.point_count-count.result ≡ point_count (version_in c.args.first.now) =
     c.point_count-count.ensures ∙ ap point_count c.version_in-version.ensures in
-    let differs : let l = c in differs_at l.args.first.now l.args.second.now l.loop-k.k ≡ not (eqb c.number.result c.number-in-loop-k.result) =
+    let differs : differs_at c.args.first.now c.args.second.now c.loop-k.k ≡ not (eqb c.number.result c.number-in-loop-k.result) =
     ap not (ap₂ eqb (sym c.number.ensures) (sym c.number-in-loop-k.ensures)) in
     differ_point _ _ same _ many c.loop-k.k c.loop-k-test.true (differs ∙ ap not (ne_eqb _ _ c.if-number.true))
 
 pub loop-k-preserved : goal.loop-k-preserved
 unfolding number_at
 loop-k-preserved c =
-    let differs : let l = c in differs_at l.args.first.now l.args.second.now l.loop-k.k ≡ not (eqb c.number.result c.number-in-loop-k.result) =
+    let differs : differs_at c.args.first.now c.args.second.now c.loop-k.k ≡ not (eqb c.number.result c.number-in-loop-k.result) =
     ap not (ap₂ eqb (sym c.number.ensures) (sym c.number-in-loop-k.ensures)) in
     (omega (arith, c.loop-k-test.true), c.loop-k.invariant.1, any_more c.loop-k.k _ c.loop-k.invariant.2 (differs ∙ ap not (eq-eqb _ _ c.if-number.false)))
 

@@ -12,7 +12,7 @@ use Rattle.joining.proofs.join.Goals as goal
 
 pub put_joined-requires : goal.put_joined-requires
 put_joined-requires c =
-    let passed : let s = c.args in join_fault s.first.now s.second.now (length s.out.now) ≡ none =
+    let passed : join_fault c.args.first.now c.args.second.now (length c.args.out.now) ≡ none =
     nothing_none _ c.judge.ensures c.in-Nothing.is in
     let p = join_passed _ _ _ passed in
     (p.0, rw (length_joined _ _) at p.1)
@@ -38,7 +38,7 @@ returns-in-Nothing c =
     let second-bytes : EntriesBelow 256 c.args.second.now =
     λ j.
     (c.type_inv.second j).fits in
-    let passed : let s = c.args in join_fault s.first.now s.second.now (length s.out.now) ≡ none =
+    let passed : join_fault c.args.first.now c.args.second.now (length c.args.out.now) ≡ none =
     nothing_none _ c.judge.ensures c.in-Nothing.is in
     let s = c.args in
     let e = answered_joined s.first.now s.second.now s.out.now passed _ _ c.put_joined.ensures.0 c.put_joined.ensures.1 in

@@ -48,7 +48,7 @@ unfolding pair_at
 returns-then-among c =
     let due : c.pair_place.result ≡ pair_due c.args.second.now c.loop-j.j =
     c.pair_place.ensures.0 ∙ ap (λ v. pair_place v c.loop-j.j) c.version_in-version.ensures in
-    let found : let c = c in let s = c.args in c.among.result ≡ again s.first.now c.pairs_in-n.result s.second.now c.loop-j.j =
+    let found : c.among.result ≡ again c.args.first.now c.pairs_in-n.result c.args.second.now c.loop-j.j =
     c.among.ensures
     ∙ any_cong _ _ _
     (λ i k. ap₂ eqb
@@ -68,7 +68,7 @@ unfolding pair_at
 loop-j-preserved c =
     let due : c.pair_place.result ≡ pair_due c.args.second.now c.loop-j.j =
     c.pair_place.ensures.0 ∙ ap (λ v. pair_place v c.loop-j.j) c.version_in-version.ensures in
-    let found : let c = c in let s = c.args in c.among.result ≡ again s.first.now c.pairs_in-n.result s.second.now c.loop-j.j =
+    let found : c.among.result ≡ again c.args.first.now c.pairs_in-n.result c.args.second.now c.loop-j.j =
     c.among.ensures
     ∙ any_cong _ _ _
     (λ i k. ap₂ eqb

@@ -8,8 +8,6 @@ use Rattle.pool.proofs.Rooms.{room_hold}
 use Rattle.reader.proofs.Columns.{column, own_points, numbers}
 use Rattle.reader.proofs.fill.Goals as goal
 
--- ## What each call requires
-
 pub fill_numbers-requires : goal.fill_numbers-requires
 fill_numbers-requires c =
     let v = c.args.version in
@@ -63,7 +61,6 @@ fill_numbers-requires-2 c =
     let held = room_hold _ _ _ c.requires.held c.requires.held_points in
     omega (arith, c.requires.few, c.requires.whole, held.shuffle, c.pair_place.ensures)
 
--- ## What the calls leave
 pub returns : goal.returns
 unfolding filled_tables filled_fields pool_of pair_at
 returns c =

@@ -11,9 +11,6 @@ use Rattle.scan.specs.Answers.{found_fault}
 use Rattle.scan.proofs.Sheet.{nothing_none, found_fault_lem, at_head, at_points, at_pairs, at_shuffle, left_over, nothing_over}
 use Rattle.scan.proofs.check.Goals as goal
 
--- ## What is known past each match
-
--- ## The needs
 pub returns-in-Faulty : goal.returns-in-Faulty
 unfolding found_fault
 returns-in-Faulty c = at_head _ (faulty_fault 0 _ c.head.ensures _ c.in-Faulty.is)
