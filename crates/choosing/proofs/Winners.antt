@@ -8,7 +8,7 @@ use lib.Dec.{ltb}
 use lib.ListN.{length, get_or, take, drop}
 use Rattle.greedy.specs.Rounds.{Winner, winner, join}
 use Rattle.greedy.specs.Tally.{raise}
-use Rattle.exchange.specs.Subsets.{up_to_three, subset_count}
+use Rattle.exchange.specs.Subsets.{up_to_three}
 use Rattle.gates.specs.Counting.{counted, Raised, TallyRoom}
 use Rattle.gates.specs.Secrets.{value_of}
 use Rattle.gates.specs.declared.Secret.{Secret}
@@ -57,14 +57,8 @@ module _ (n i : ℕ) (p : Places) (asked : Standing (up_to_three n) i p) where
 -- ## A part
 
 module _ (n : ℕ) (ws : List ℕ) (i : ℕ) (p : Places) (t : Tally) (asked : Part (up_to_three n) ws i p t) where
-  first_in : i < subset_count (up_to_three n)
-  first_in = omega (arith, asked.some, asked.within)
-
   pub index_few : i + length ws ≤ 1333333
   index_few = omega (arith, asked.within, count_le n asked.few)
-
-  pub asks_single : Standing (up_to_three n) i p
-  asks_single = record { few = asked.few; within = first_in; there = asked.there }
 
   -- one weight
   pub one-weight : length ws ≤ 1 → (w : Secret) → value_of w ≡ get_or ws 0 0
@@ -117,12 +111,6 @@ module _ (n : ℕ) (ws : List ℕ) (i : ℕ) (p : Places) (t : Tally) (asked : P
         right_products : r.tally.products ≡ l.tally.products + 5 * (length (right_of ws) - 1)
         right_products =
             ap (λ (w : Winner). w.tally.products) er.0 ∙ won_products (i + length ws / 2) (right_of ws) (counted l.tally) asks_right.some
-
-        pub left-room : TallyRoom 1 5 l.tally
-        left-room = record {
-          comparisons = omega (arith, asked.room.comparisons, left_comparisons);
-          products = omega (arith, asked.room.products, left_products);
-        }
 
         pub join-room : TallyRoom 1 5 r.tally
         join-room = record {

@@ -1,9 +1,8 @@
 -- Is a place one of three: the readout of a choice. Assumes nothing.
-use Prim.Native.Nat.{ℕ, ◌-◌, ◌≤◌}
+use Prim.Native.Nat.{ℕ, ◌-◌}
 use mathlib.Core.Bool.{Bool, true, false, ◌||◌}
 use mathlib.Core.List.{[], ◌∷◌}
 use mathlib.Core.Path.{◌≡◌, refl, ap}
-use native.Mathlib.Omega.{arith}
 use mir.Val.{bool_byte}
 use lib.Dec.{eqb}
 use Rattle.laws.specs.Below.{either, one}
@@ -19,10 +18,6 @@ by_or false true true = refl
 by_or false true false = refl
 by_or false false true = refl
 by_or false false false = refl
-
-pub byte_le : (b : Bool) → bool_byte b ≤ 1
-byte_le true = omega arith
-byte_le false = omega arith
 
 pub readout_is : (p u v w : ℕ) → 1 - bool_byte (eqb p u || eqb p v || eqb p w) ≡ 1 - one (among p (u ∷ v ∷ w ∷ []))
 unfolding among

@@ -7,9 +7,9 @@ use native.Mathlib.Omega.{arith}
 use lib.ListN.{length, set, take, length-take}
 use lib.Seq.{take-suc}
 use Rattle.laws.specs.Lent.{filled}
-use Rattle.laws.proofs.Lent.{length-filled, filled_next}
+use Rattle.laws.proofs.Lent.{filled_next}
 use Rattle.cycle.specs.declared.Cycle.{Cycle}
-use Rattle.records.specs.Copying.{record_at, Puttable, Writable}
+use Rattle.records.specs.Copying.{record_at, Writable}
 
 -- a loop that writes the records: k of them are written
 pub record Written (cycles : ℕ) (records old out : List Cycle) (k : ℕ) : Type 0 where
@@ -21,12 +21,6 @@ unfolding filled
 written_none cycles records old = record { upto = zero-le; holds = refl }
 
 module _ {cycles k : ℕ} {records old out : List Cycle} where
-  pub written_long : Writable cycles old → Written cycles records old out k → length out ≡ length old
-  written_long w t = ap length t.holds ∙ length-filled (take k records) old (rw length-take (omega (arith, w.room, t.upto)))
-
-  pub written_asks : Writable cycles old → Written cycles records old out k → k < cycles → Puttable k out
-  written_asks w t l = record { one = omega (arith, w.held); within = omega (arith, w.room, written_long w t) }
-
   pub written_next : {new : List Cycle} → Writable cycles old → length records ≡ 100 → Written cycles records old out k → k < cycles
       → new ≡ set out k (record_at records k) → Written cycles records old new (k + 1)
   written_next w h t l e =

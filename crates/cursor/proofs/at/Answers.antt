@@ -8,13 +8,6 @@ use Rattle.cursor.proofs.Number.{count_is}
 use Rattle.cursor.proofs.Placed.{two_placed}
 use Rattle.cursor.proofs.at.Goals as goal
 
--- ??
--- add-if2 : tie.Need-overflow-add-if2
--- add-if2 c =
---     let triples = c.before.before in
---     let start = triples.before.before.before in
---     record { fits = omega (arith, triples.triples.ensures.1, c.twos.ensures.1, count_is start.args.n, count_le _ start.requires.0) }
-
 pub returns-then-k-triples-2 : goal.returns-then-k-triples-2
 returns-then-k-triples-2 c =
     let else1 = c in

@@ -12,10 +12,6 @@ overflow_mul-result c = record { fits = omega (arith, row _ _ _ c.requires.0 c.r
 pub overflow_add-result : goal.overflow_add-result
 overflow_add-result c = record { fits = omega (arith, row _ _ _ c.requires.0 c.requires.1, square_le _ c.requires.2) }
 
--- ??
--- mul-result-2 : tie.Need-overflow-mul-result-2
--- mul-result-2 c = omega (arith, row _ _ _ c.requires.0 c.requires.1, square_le _ c.requires.2)
-
 pub bounds-w-i : goal.bounds-w-i
 bounds-w-i c = omega (arith, row _ _ _ c.requires.0 c.requires.1, c.requires.3)
 

@@ -2,9 +2,5 @@
 use Rattle.gates.proofs.Readout.{readout_is}
 use Rattle.gates.proofs.demux_readout.Goals as goal
 
--- ??
--- sub-t12 : tie.Need-overflow-sub-t12
--- sub-t12 c = search (rules, byte_le)
-
 pub returns : goal.returns
 returns c = readout_is _ _ _ _

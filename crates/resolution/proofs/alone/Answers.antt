@@ -11,10 +11,6 @@ use Rattle.resolution.proofs.alone.Goals as goal
 pub loop-i-init : goal.loop-i-init
 loop-i-init c = (omega arith, filling_none _ _)
 
--- ??
--- mul-partners : tie.Need-overflow-mul-partners invariant-loop decreases-loop
--- mul-partners c = record { fits = omega (arith, c.before.loop.invariant.1.kept, c.before.before.requires.1) }
-
 pub overflow_add-i : goal.overflow_add-i
 overflow_add-i c = record { fits = omega (arith, c.loop-i.invariant.1.kept, c.requires.1) }
 

@@ -18,18 +18,8 @@ pub loop-k-init : goal.loop-k-init
 loop-k-init c =
     begins _ _ _ _ _ _ _ c.requires _ _ _ c.alone.ensures c.alone-2.ensures c.none-resolved.ensures
 
--- ??
--- mul-resolve-one : tie.Need-overflow-mul-resolve-one invariant-loop decreases-loop
--- mul-resolve-one c =
---     let after-slice-known4 = c.before.before.before in
---     record { fits = omega (arith, turns_few _ _ _ _ _ _ _ after-slice-known4.requires _ _ _ _ c.before.loop.invariant c.loop-test.true) }
-
 pub bounds-choices-k : goal.bounds-choices-k
 bounds-choices-k c = c.loop-k-test.true
-
--- ??
--- cast-resolve-one : tie.Need-overflow-cast-resolve-one invariant-loop decreases-loop
--- cast-resolve-one c = record { fits = omega (arith, c.shared-slice-known5.given c.before.before.loop.k) }
 
 pub resolve_one-resolved-requires : goal.resolve_one-resolved-requires
 resolve_one-resolved-requires c =
