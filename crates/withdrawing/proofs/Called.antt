@@ -28,10 +28,10 @@ use Rattle.withdrawing.specs.Preconditions.{OneOf}
 use Rattle.withdrawing.proofs.Places.{same, place_there, none_there}
 
 -- what `judge` found, of tables of which the shortest has so many entries
-pub found-stored : (l : Live) (space : ℕ) (found : Verdict) → space ≡ pair_room l
-    → fault_at 0 found ≡ stored_fault l.count space l.graph.compatibilities (length l.graph.weights) l.points l.suitable
-    → fault_at 0 found ≡ kept_fault l
-found-stored l space found r e = rw r at e
+pub found-stored : (l : Live) (space : ℕ) (judged : Verdict) → space ≡ pair_room l
+    → fault_at 0 judged ≡ stored_fault l.count space l.graph.compatibilities (length l.graph.weights) l.points l.suitable
+    → fault_at 0 judged ≡ kept_fault l
+found-stored l space judged r e = rw r at e
 
 module _ (x : ℕ) (l : Live) (found : Verdict) (e : fault_at 0 found ≡ kept_fault l) where
   pub call_refused : (why : Refusal) → found ≡ Faulty why → outcome (answer_of (Refused why)) l ≡ withdrawing x l

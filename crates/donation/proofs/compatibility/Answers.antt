@@ -11,16 +11,14 @@ returns-then-i-j c = simp (eq-eqb _ _ c.if-i-j.true)
 pub returns-then-share_bit : goal.returns-then-share_bit
 unfolding one
 returns-then-share_bit c =
-    let d = c in
     simp
-    (ne_eqb _ _ d.if-i-j.false, sym d.suits.ensures ∙ d.if-suits.true, sym c.share_bit.ensures ∙ c.if-share_bit.true)
+    (ne_eqb _ _ c.if-i-j.false, sym c.suits.ensures ∙ c.if-suits.true, sym c.share_bit.ensures ∙ c.if-share_bit.true)
 
 pub returns-then-suits : goal.returns-then-suits
 unfolding one
 returns-then-suits c =
-    let d = c in
     simp
-    (ne_eqb _ _ d.if-i-j.false, sym d.suits.ensures ∙ d.if-suits.true, sym c.share_bit.ensures ∙ c.if-share_bit.false)
+    (ne_eqb _ _ c.if-i-j.false, sym c.suits.ensures ∙ c.if-suits.true, sym c.share_bit.ensures ∙ c.if-share_bit.false)
 
 pub returns : goal.returns
 unfolding one

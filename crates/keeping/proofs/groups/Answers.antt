@@ -13,16 +13,13 @@ loop-i-init c = (omega arith, refl)
 pub returns-in-Faulty : goal.returns-in-Faulty
 unfolding fault_at
 returns-in-Faulty c =
-    let d = c in
-    let t = d in
-    let l = t.loop-i in
-    sym (first_hit _ _ l.i t.loop-i-test.true l.invariant.1 (faulty_fault 0 d.groups.result (d.groups.ensures 0) _ c.in-Faulty.is))
+    let l = c.loop-i in
+    sym (first_hit _ _ l.i c.loop-i-test.true l.invariant.1 (faulty_fault 0 c.groups.result (c.groups.ensures 0) _ c.in-Faulty.is))
 
 pub loop-i-preserved : goal.loop-i-preserved
 loop-i-preserved c =
-    let d = c in
-    let l = d.loop-i in
-    (omega arith, first_more l.i _ l.invariant.1 (sound_none 0 d.groups.result (d.groups.ensures 0) c.in-Sound.is))
+    let l = c.loop-i in
+    (omega arith, first_more l.i _ l.invariant.1 (sound_none 0 c.groups.result (c.groups.ensures 0) c.in-Sound.is))
 
 pub returns : goal.returns
 returns c =

@@ -14,17 +14,14 @@ loop-i-init c = (omega arith, refl)
 pub returns-then-among : goal.returns-then-among
 unfolding fault_at id_fault
 returns-then-among c =
-    let a = c in
-    let t = a in
-    let l = t.loop-i in
-    sym (first_hit _ _ l.i t.loop-i-test.true l.invariant.1 (fault_refuse 7 0 _ (sym a.among.ensures ∙ c.if-among.true)))
+    let l = c.loop-i in
+    sym (first_hit _ _ l.i c.loop-i-test.true l.invariant.1 (fault_refuse 7 0 _ (sym c.among.ensures ∙ c.if-among.true)))
 
 pub loop-i-preserved : goal.loop-i-preserved
 unfolding id_fault
 loop-i-preserved c =
-    let a = c in
-    let l = a.loop-i in
-    (omega arith, first_more l.i _ l.invariant.1 (none_refuse 7 0 _ (sym a.among.ensures ∙ c.if-among.false)))
+    let l = c.loop-i in
+    (omega arith, first_more l.i _ l.invariant.1 (none_refuse 7 0 _ (sym c.among.ensures ∙ c.if-among.false)))
 
 pub returns : goal.returns
 returns c =

@@ -8,11 +8,8 @@ returns-then-n-gt200 c = sizes_many _ _ _ _ _ c.if-n-gt200.true
 
 pub returns-in-Faulty : goal.returns-in-Faulty
 returns-in-Faulty c =
-    let t = c in
-    sizes_tables _ _ _ _ _ t.if-n-gt200.false t.tables.result (t.tables.ensures _ refl) _ c.in-Faulty.is
+    sizes_tables _ _ _ _ _ c.if-n-gt200.false c.tables.result (c.tables.ensures _ refl) _ c.in-Faulty.is
 
 pub returns : goal.returns
 returns c =
-    let told = c in
-    let t = told in
-    sizes_rows _ _ _ _ _ t.if-n-gt200.false t.tables.result (t.tables.ensures _ refl) told.in-Sound.is c.rows.result c.rows.ensures
+    sizes_rows _ _ _ _ _ c.if-n-gt200.false c.tables.result (c.tables.ensures _ refl) c.in-Sound.is c.rows.result c.rows.ensures

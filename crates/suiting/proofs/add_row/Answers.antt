@@ -20,23 +20,20 @@ bounds-compatibilities-start c =
 
 pub overflow_add-counts : goal.overflow_add-counts
 overflow_add-counts c =
-    let t = c in
-    let l = t.loop-j in
+    let l = c.loop-j in
     let v = l.invariant in
-    omega (arith, row_few _ _ _ _ v.1 l.j t.loop-j-test.true l.counts v.2 c.one_of.result c.one_of.ensures)
+    omega (arith, row_few _ _ _ _ v.1 l.j c.loop-j-test.true l.counts v.2 c.one_of.result c.one_of.ensures)
 
 pub bounds-counts-j-in-loop-j : goal.bounds-counts-j-in-loop-j
 bounds-counts-j-in-loop-j c =
-    let t = c in
-    let v = t.loop-j.invariant in
-    omega (arith, t.loop-j-test.true, v.1.tables.numbers, v.2.kept)
+    let v = c.loop-j.invariant in
+    omega (arith, c.loop-j-test.true, v.1.tables.numbers, v.2.kept)
 
 pub loop-j-preserved : goal.loop-j-preserved
 loop-j-preserved c =
-    let t = c in
-    let l = t.loop-j in
+    let l = c.loop-j in
     let v = l.invariant in
-    (omega arith, v.1, row_more _ _ _ _ v.1 l.j t.loop-j-test.true l.counts v.2 c.one_of.result c.one_of.ensures)
+    (omega arith, v.1, row_more _ _ _ _ v.1 l.j c.loop-j-test.true l.counts v.2 c.one_of.result c.one_of.ensures)
 
 pub returns : goal.returns
 returns c =

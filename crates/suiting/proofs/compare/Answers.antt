@@ -16,11 +16,10 @@ loop-j-init c = (omega arith, c.requires.n_in_bounds, c.requires.n_in_bounds_2, 
 pub returns-then-suitable-j : goal.returns-then-suitable-j
 unfolding fault_at
 returns-then-suitable-j c =
-    let t = c in
-    let l = t.loop-j in
-    let s = t.args in
+    let l = c.loop-j in
+    let s = c.args in
     let other : item_in s.suitable.now l.j ≡ item_in s.counts.now l.j → ⊥ = c.if-suitable-j.true in
-    sym (first_hit _ _ l.j t.loop-j-test.true l.invariant.3 (fault_refuse 10 0 _ (ap not (ne_eqb _ _ other))))
+    sym (first_hit _ _ l.j c.loop-j-test.true l.invariant.3 (fault_refuse 10 0 _ (ap not (ne_eqb _ _ other))))
 
 pub loop-j-preserved : goal.loop-j-preserved
 loop-j-preserved c =
