@@ -1,5 +1,5 @@
 -- Tables that planning does not refuse, and what it makes of them. Assumes nothing.
-use mathlib.Core.Path.{◌≡◌, sym, ap, ◌∙◌}
+use mathlib.Core.Path.{◌≡◌, ap, ◌∙◌}
 use mathlib.Core.List.{List}
 use Prim.Native.Nat.{ℕ, ◌*◌, ◌≤◌}
 use native.Mathlib.Omega.{arith}
@@ -9,7 +9,6 @@ use lib.ListN.{length}
 use Rattle.refusal.specs.Answer.{Outcome, outcome, finished}
 use Rattle.refusal.specs.declared.Refusal.{Refusal}
 use Rattle.refusal.proofs.Faults.{unless_none, finished_none}
-use Rattle.cycle.specs.declared.Cycle.{Cycle}
 use Rattle.exchange.specs.Subsets.{up_to_three, subset_count}
 use Rattle.exchange.specs.Input.{Request, input_of, no_floor, request}
 use Rattle.exchange.specs.Planning.{Lent, Plan, plan_from, filled_lent, planning}
@@ -23,13 +22,7 @@ use Rattle.planner.specs.declared.Planned.{Planned}
 use Rattle.planner.specs.declared.Planning.{Planning}
 use Rattle.planner.specs.declared.Planning.TheVariants.{Made, Refused}
 use Rattle.answers.specs.Most.{most}
-use Rattle.buffers.specs.Preconditions.{FaultlessTables, no_records, Recorded, Partnered}
-
--- ## The records, which are lent and not kept
-
-pub recorded : (a : Request) (lends left : List Cycle → Lent) (old new : List Cycle) (x : Planning) → old ≡ no_records
-    → PlansRightly a (lends old) (outcome (Planner.answer_of x) (left new)) → Recorded a lends left (Planner.answer_of x)
-recorded a lends left old new x e h = record { records = new; rightly = rw (sym e) h }
+use Rattle.buffers.specs.Preconditions.{FaultlessTables, Partnered}
 
 -- ## Tables for 40 pairs
 

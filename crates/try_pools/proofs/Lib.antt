@@ -1,2 +1,0 @@
--- `Lent`: planning with records that a function lends.
-pub mod Lent
