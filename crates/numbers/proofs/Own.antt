@@ -12,25 +12,18 @@ use Rattle.pool.specs.Calls.{head}
 use Rattle.exchange.specs.Planning.{Plan, plan}
 use Rattle.reader.specs.Answers as Reader
 use Rattle.reader.specs.declared.Reading.{Reading}
-use Rattle.reader.specs.declared.Reading.TheVariants as Reading
 use Rattle.writer.specs.Answers as Writer
 use Rattle.writer.specs.declared.Writing.{Writing}
-use Rattle.writer.specs.declared.Writing.TheVariants as Writing
 use Rattle.joining.specs.Answers as Joiner
 use Rattle.joining.specs.declared.Joining.{Joining}
-use Rattle.joining.specs.declared.Joining.TheVariants as Joining
 use Rattle.weighing.specs.Answers as Weighing
 use Rattle.weighing.specs.declared.Building.{Building}
-use Rattle.weighing.specs.declared.Building.TheVariants as Building
 use Rattle.live.specs.Answers as Live
 use Rattle.live.specs.declared.Change.{Change}
-use Rattle.live.specs.declared.Change.TheVariants as Change
 use Rattle.planner.specs.Answers as Planner
 use Rattle.planner.specs.declared.Planning.{Planning}
-use Rattle.planner.specs.declared.Planning.TheVariants as Planning
 use Rattle.printout.specs.Answers as Printout
 use Rattle.printout.specs.declared.Printing.{Printing}
-use Rattle.printout.specs.declared.Printing.TheVariants as Printing
 use Rattle.numbers.specs.declared.PlanAnswer.{PlanAnswer}
 use Rattle.numbers.specs.Numbers.{read_numbers, write_numbers, join_numbers, build_numbers, live_numbers, plan_numbers, print_numbers}
 use Rattle.numbers.specs.Promises.{Numbered, NumberedAt0, Own, OneAnswer}

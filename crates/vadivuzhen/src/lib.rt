@@ -2,7 +2,7 @@
 #![tactic(auto)]
 
 ghost use Rattle.std.specs.Prelude.{◌≡◌};
-ghost use Rattle.pool.specs.Lent.{lent_fields, lent_tables};
+ghost use Rattle.pool.specs.Lent.{lent_fields, lent_tables, mut_lent_tables};
 ghost use Rattle.pool.specs.Calls.{reading, writing};
 ghost use Rattle.pool.specs.Promises.{ReadsRightly, WritesRightly};
 ghost use Rattle.pool.specs.Joining.{joining};
@@ -10,7 +10,7 @@ ghost use Rattle.pool.specs.Joinable.{JoinsRightly};
 ghost use Rattle.graph.specs.Lent.{lent_graph};
 ghost use Rattle.weighing.specs.Building.{building};
 ghost use Rattle.weighing.specs.Promises.{BuildsRightly};
-ghost use Rattle.points.specs.Named.{named as namedPoints};
+ghost use Rattle.points.specs.Named.{named as named_points};
 ghost use Rattle.live.specs.Calls.{starting, registering, withdrawing};
 ghost use Rattle.live.specs.Answers.{named};
 ghost use Rattle.live.specs.Lent.{lent_beginning, lent_live};
@@ -50,15 +50,15 @@ pub extern "C" fn vadivuzhen_read(
     patient_antibodies: &mut [u64],
     shuffle: &mut [u16],
 ) -> ReadAnswer
-    ensures numbers { let t = lent_tables points ids donor_blood patient_blood donor_age patient_age
+    ensures numbers { let t = mut_lent_tables points ids donor_blood patient_blood donor_age patient_age
         donor_antigens patient_antigens patient_antibodies shuffle in
         let due = reading sheet.now t.entry in
         (result ≡ read_numbers due.answer) × Numbered due.answer }
-    ensures lent { let t = lent_tables points ids donor_blood patient_blood donor_age patient_age
+    ensures lent { let t = mut_lent_tables points ids donor_blood patient_blood donor_age patient_age
         donor_antigens patient_antigens patient_antibodies shuffle in
         let due = reading sheet.now t.entry in
         t.exit ≡ due.lent }
-    ensures rightly { let t = lent_tables points ids donor_blood patient_blood donor_age patient_age
+    ensures rightly { let t = mut_lent_tables points ids donor_blood patient_blood donor_age patient_age
         donor_antigens patient_antigens patient_antibodies shuffle in
         let due = reading sheet.now t.entry in
         ReadsRightly sheet.now t.entry due }
@@ -199,14 +199,14 @@ pub extern "C" fn vadivuzhen_start(
     count: &mut usize,
 ) -> LiveAnswer
     ensures numbers { let b = lent_beginning count points in
-        let due = starting (namedPoints given) b.entry in
+        let due = starting (named_points given) b.entry in
         (result ≡ live_numbers due.answer) × NumberedAt0 due.answer }
     ensures lent { let b = lent_beginning count points in
-        let due = starting (namedPoints given) b.entry in
+        let due = starting (named_points given) b.entry in
         b.exit ≡ due.lent }
     ensures rightly { let b = lent_beginning count points in
-        let due = starting (namedPoints given) b.entry in
-        StartsRightly (namedPoints given) b.entry due }
+        let due = starting (named_points given) b.entry in
+        StartsRightly (named_points given) b.entry due }
 {
     numbers::live_numbers(keeping::start(given, points, count))
 }

@@ -1,6 +1,5 @@
 -- `numbers::build_numbers` meets its contract. Assumes nothing.
 use Rattle.numbers.proofs.Given.{build_refused, build_finished}
-use borrow.Author.Rules.{rules}
 use Rattle.numbers.proofs.build_numbers.Goals as goal
 
 pub returns-in-Refused : goal.returns-in-Refused

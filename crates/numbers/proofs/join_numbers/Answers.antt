@@ -1,6 +1,5 @@
 -- `numbers::join_numbers` meets its contract. Assumes nothing.
 use Rattle.numbers.proofs.Given.{join_refused, join_finished}
-use borrow.Author.Rules.{rules}
 use Rattle.numbers.proofs.join_numbers.Goals as goal
 
 pub returns-in-Refused : goal.returns-in-Refused

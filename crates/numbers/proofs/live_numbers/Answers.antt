@@ -1,6 +1,5 @@
 -- `numbers::live_numbers` meets its contract. Assumes nothing.
 use Rattle.numbers.proofs.Given.{live_refused, live_finished}
-use borrow.Author.Rules.{rules}
 use Rattle.numbers.proofs.live_numbers.Goals as goal
 
 pub returns-in-Refused : goal.returns-in-Refused

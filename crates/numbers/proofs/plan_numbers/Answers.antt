@@ -1,6 +1,5 @@
 -- `numbers::plan_numbers` meets its contract. Assumes nothing.
 use Rattle.numbers.proofs.Given.{plan_refused, plan_made}
-use borrow.Author.Rules.{rules}
 use Rattle.numbers.proofs.plan_numbers.Goals as goal
 
 pub returns-in-Refused : goal.returns-in-Refused

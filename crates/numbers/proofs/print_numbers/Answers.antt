@@ -1,6 +1,5 @@
 -- `numbers::print_numbers` meets its contract. Assumes nothing.
 use Rattle.numbers.proofs.Given.{print_refused, print_finished}
-use borrow.Author.Rules.{rules}
 use Rattle.numbers.proofs.print_numbers.Goals as goal
 
 pub returns-in-Refused : goal.returns-in-Refused

@@ -1,6 +1,5 @@
 -- `numbers::read_numbers` meets its contract. Assumes nothing.
 use Rattle.numbers.proofs.Given.{read_refused, read_finished}
-use borrow.Author.Rules.{rules}
 use Rattle.numbers.proofs.read_numbers.Goals as goal
 
 pub returns-in-Refused : goal.returns-in-Refused

@@ -1,6 +1,5 @@
 -- `numbers::write_numbers` meets its contract. Assumes nothing.
 use Rattle.numbers.proofs.Given.{write_refused, write_finished}
-use borrow.Author.Rules.{rules}
 use Rattle.numbers.proofs.write_numbers.Goals as goal
 
 pub returns-in-Refused : goal.returns-in-Refused

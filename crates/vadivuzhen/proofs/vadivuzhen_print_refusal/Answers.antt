@@ -1,0 +1,13 @@
+-- `vadivuzhen::vadivuzhen_print_refusal` meets its contract: it answers what `print_refused` answered, in numbers. Assumes nothing.
+use Rattle.printout.specs.Promises.{PrintsRefused}
+use Rattle.numbers.specs.Numbers.{print_numbers}
+use Rattle.numbers.specs.Promises.{NumberedAt0}
+use Rattle.numbers.proofs.Own.{print_numbered}
+use Rattle.vadivuzhen.proofs.Exported.{kept}
+use Rattle.vadivuzhen.proofs.vadivuzhen_print_refusal.Goals as goal
+
+pub returns : goal.returns
+returns c =
+    let w = c.print_refused in
+    let k = kept print_numbers NumberedAt0 (PrintsRefused _ _ _) c.print_numbers.ensures (print_numbered w.result) w.ensures.equals w.ensures.rightly in
+    record { numbers = k.0; lent = k.1.0; rightly = k.1.1 }

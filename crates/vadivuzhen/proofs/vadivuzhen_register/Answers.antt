@@ -1,0 +1,10 @@
+-- `vadivuzhen::vadivuzhen_register` meets its contract: it answers what `register` answered, in numbers. Assumes nothing.
+use Rattle.numbers.proofs.Own.{live_numbered}
+use Rattle.vadivuzhen.proofs.Exported.{kept_registered}
+use Rattle.vadivuzhen.proofs.vadivuzhen_register.Goals as goal
+
+pub returns : goal.returns
+returns c =
+    let w = c.register-answer in
+    let k = kept_registered c.live_numbers.ensures (live_numbered w.result) w.ensures.equals w.ensures.rightly in
+    record { numbers = k.0; lent = k.1.0; rightly = k.1.1 }
