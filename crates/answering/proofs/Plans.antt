@@ -23,11 +23,9 @@ use Rattle.printout.specs.Answers.{answer_of as Printout·answerOf}
 use Rattle.partners.specs.Preconditions.{PlanTablesHold}
 use Rattle.printout.specs.Promises.{plan_room, PrintsPlan}
 use Rattle.printout.specs.declared.Printing.{Printing}
-use Rattle.printout.specs.declared.Printing.TheVariants as Printing
 use Rattle.printout.specs.declared.Printing.TheVariants.{Length}
 use Rattle.planner.specs.Answers.{plan_in}
 use Rattle.planner.specs.declared.Planned.{Planned}
-use Rattle.planner.specs.declared.Planning.TheVariants.{Refused}
 use Rattle.answers.specs.Most.{most}
 use Rattle.answers.specs.Answering.{plan_by, putting}
 use Rattle.buffers.specs.Preconditions.{Partnered}
