@@ -44,7 +44,7 @@ def code_of(name):
 def carries(name):
     """The fields and variants of a crate's types that have a type of another crate, each with that crate."""
     code = code_of(name)
-    brought = {item: other for other, item in re.findall(r'^use (\w+)::(\w+);', code, re.M)}
+    brought = {item: other for other, items in re.findall(r'^use (\w+)::(\w+|\{[^}]*\});', code, re.M) for item in re.findall(r'\w+', items)}
     bodies = ''.join(re.findall(r'^pub (?:struct|enum) \w+ \{\n(.*?)^\}', code, re.M | re.S))
     return [(field, brought[item]) for field, kinds in re.findall(r'(\w+)(?:: |\()([^\n]*)', bodies) for item in re.findall(r'\w+', kinds) if item in brought]
 

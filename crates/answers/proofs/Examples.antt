@@ -24,8 +24,8 @@ use Rattle.answers.specs.Examples.{ExampleAnswered, RegistryAnswered, TripleAnsw
 pub example_answered : ExampleAnswered
 unfolding answer_text or_refusal printed_plan_of plan_by plan_text pair_lines pair_line partner line decimal digits_within flat_map flatten table either any_below
     count_below one big_endian refuse only ◌then◌ first_below known_version has_points points_of heaviestEdge points_size number_at version_in pairs_in pair_at
-    group_fault id_fault pair_fault shuffle_fault version_fault points_fault field_fault head_fault points_field_fault pair_field_fault shuffle_field_fault end_fault sheet_fault room_fault blood_table suits has share_bit compatibility document_points mismatches
-    mismatch_points age_points weight among meets raise next_round join by_halves choosing clear clearing_tally rounds ascending subsets each_first orders
+    group_fault id_fault pair_fault shuffle_fault version_fault points_fault field_fault head_fault points_field_fault pair_field_fault shuffle_field_fault end_fault sheet_fault room_fault blood_table suits has share_bit compatibility
+    document_points mismatches mismatch_points age_points weight among meets raise next_round join by_halves choosing clear clearing_tally rounds ascending subsets each_first orders
     cycles along edges product_of sum_of weigh first_of heaviest pairs_at best_cycle subset_weight evaluation_tally resolved recipient_by donor_by
     recipient_table donor_table total left_by planned_by plan_from
 example_answered = refl
@@ -33,8 +33,8 @@ example_answered = refl
 pub registry_answered : RegistryAnswered
 unfolding answer_text or_refusal printed_plan_of plan_by plan_text pair_lines pair_line partner line decimal digits_within flat_map flatten table either any_below
     count_below one big_endian refuse only ◌then◌ first_below known_version has_points points_of heaviestEdge points_size number_at version_in pairs_in pair_at
-    group_fault id_fault pair_fault shuffle_fault version_fault points_fault field_fault head_fault points_field_fault pair_field_fault shuffle_field_fault end_fault sheet_fault room_fault blood_table suits has share_bit compatibility document_points mismatches
-    mismatch_points age_points weight among meets raise next_round join by_halves choosing clear clearing_tally rounds ascending subsets each_first orders
+    group_fault id_fault pair_fault shuffle_fault version_fault points_fault field_fault head_fault points_field_fault pair_field_fault shuffle_field_fault end_fault sheet_fault room_fault blood_table suits has share_bit compatibility
+    document_points mismatches mismatch_points age_points weight among meets raise next_round join by_halves choosing clear clearing_tally rounds ascending subsets each_first orders
     cycles along edges product_of sum_of weigh first_of heaviest pairs_at best_cycle subset_weight evaluation_tally resolved recipient_by donor_by
     recipient_table donor_table total left_by planned_by plan_from
 registry_answered = refl
@@ -42,8 +42,8 @@ registry_answered = refl
 pub triple_answered : TripleAnswered
 unfolding answer_text or_refusal printed_plan_of plan_by plan_text pair_lines pair_line partner line decimal digits_within flat_map flatten table either any_below
     count_below one big_endian refuse only ◌then◌ first_below known_version has_points points_of heaviestEdge points_size number_at version_in pairs_in pair_at
-    group_fault id_fault pair_fault shuffle_fault version_fault points_fault field_fault head_fault points_field_fault pair_field_fault shuffle_field_fault end_fault sheet_fault room_fault blood_table suits has share_bit compatibility document_points mismatches
-    mismatch_points age_points weight among meets raise next_round join by_halves choosing clear clearing_tally rounds ascending subsets each_first orders
+    group_fault id_fault pair_fault shuffle_fault version_fault points_fault field_fault head_fault points_field_fault pair_field_fault shuffle_field_fault end_fault sheet_fault room_fault blood_table suits has share_bit compatibility
+    document_points mismatches mismatch_points age_points weight among meets raise next_round join by_halves choosing clear clearing_tally rounds ascending subsets each_first orders
     cycles along edges product_of sum_of weigh first_of heaviest pairs_at best_cycle subset_weight evaluation_tally resolved recipient_by donor_by
     recipient_table donor_table total left_by planned_by plan_from
 triple_answered = refl

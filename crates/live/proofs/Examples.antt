@@ -20,8 +20,8 @@ use Rattle.live.specs.Examples.{LiveRun, NumbersRun}
 runs : LiveRun × NumbersRun
 unfolding table either any_below count_below one filled stored refuse ◌then◌ first_below unless document_points has_points point_count points_of heaviest field_room pair_in
     group_fault id_fault points_fault room_fault tables_fault blood_table suits has share_bit compatibility mismatches mismatch_points age_points weight in_rows
-    filled_graph pair_room ones_in with_numbers start_fault graph_fault sizes_fault numbers_fault stored_fault range_fault like_fault more_fault register_fault withdraw_fault in_order starting with_pair registered registering place_of up without_entry
-    without_row without_pair without_at withdrawing does after trace takes_out withdrawn_in staying brought_in held
+    filled_graph pair_room ones_in with_numbers start_fault graph_fault sizes_fault numbers_fault stored_fault range_fault like_fault more_fault register_fault withdraw_fault in_order starting with_pair registered registering place_of up
+    without_entry without_row without_pair without_at withdrawing does after trace takes_out withdrawn_in staying brought_in held
 runs = (
   record { start = refl; three = refl; two = refl; moved = refl; answers = refl; ids = refl; holds = refl },
   record { three = refl; two = refl; again = refl; withdrawn = refl; registered = refl; registers = refl; withdraws = refl },
