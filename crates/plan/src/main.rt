@@ -21,17 +21,26 @@ fn read_sheet<R: Read>(from: &mut R, sheet: &mut [u8]) -> Input
     while size < sheet.len() {
         match from.read(&mut sheet[size..]) {
             Ok(0) => {
-                return Input { size: size, whole: true };
+                return Input {
+                    size: size,
+                    whole: true,
+                };
             }
             Ok(more) => {
                 size += more;
             }
             Err(_) => {
-                return Input { size: size, whole: false };
+                return Input {
+                    size: size,
+                    whole: false,
+                };
             }
         }
     }
-    Input { size: size, whole: true }
+    Input {
+        size: size,
+        whole: true,
+    }
 }
 
 fn main(rt: HostRuntime) {
