@@ -9,7 +9,7 @@ import subprocess
 import sys
 import time
 
-from closing import check, close
+from closing import built, check, close
 from sheets import DOCUMENT, MOST_READ, bytes_read, damaged, registry, sheet_of, two_pairs, whole
 
 top = pathlib.Path(__file__).resolve().parent.parent
@@ -17,7 +17,7 @@ examples = top / 'examples'
 sys.path.insert(0, str(examples))
 import make  # noqa: E402
 
-PLAN = top / 'target' / 'bin' / 'plan'
+PLAN = built('plan')
 BUILT = top / 'trial' / 'target'
 RUST = BUILT / 'release' / 'examples' / 'plan'
 

@@ -3,15 +3,13 @@ answer, number and place. Before them the sheets that request W-205 speaks of, w
 
 usage: sheets.py [SEED [COUNT]]      the seed is printed, so that a failure can be run again"""
 import os
-import pathlib
 import random
 import subprocess
 import sys
 import tempfile
 
-from closing import check, close
+from closing import built, check, close
 
-LOOK = pathlib.Path(__file__).resolve().parent.parent / 'target' / 'bin' / 'look'
 BLOOD = ['O', 'A', 'B', 'AB']
 AGE = ['young', 'senior']
 # Document 01's points: base; no mismatch, 1 or 2, 3 or 4; equal ages, young donor and senior patient.
@@ -252,19 +250,20 @@ def main():
     seed = int(sys.argv[1]) if len(sys.argv) > 1 else random.randrange(2 ** 32)
     count = int(sys.argv[2]) if len(sys.argv) > 2 else 2000
     print('seed', seed)
+    look = built('look')
     draw = random.Random(seed)
     for what, sheet, want in by_hand():
         want = want if isinstance(want, str) else 'REFUSED %d %d\n' % want
         check(said(sheet) == want, f'{what}: the reader here says {said(sheet)[:80]!r}, due is {want[:80]!r}')
-        got = subprocess.run([LOOK], input=sheet, capture_output=True).stdout.decode()
+        got = subprocess.run([look], input=sheet, capture_output=True).stdout.decode()
         check(got == want, f'{what}: look says {got[:80]!r}, due is {want[:80]!r}')
-    got = bytes_read(LOOK, bytes(10000))
+    got = bytes_read(look, bytes(10000))
     check(got == MOST_READ, f'look reads {got} bytes of 10,000')
     answers = {}
     for _ in range(count):
         sheet = sheet_of(*whole(draw)) if draw.random() < 0.3 else damaged(draw)
         want = said(sheet)
-        run = subprocess.run([LOOK], input=sheet, capture_output=True)
+        run = subprocess.run([look], input=sheet, capture_output=True)
         got = run.stdout.decode()
         kind = want.split()[1] if want.startswith('REFUSED') else 'version 2' if '\npoints ' in want else 'version 1'
         answers[kind] = answers.get(kind, 0) + 1
