@@ -131,9 +131,9 @@ for call in re.findall(r'extern "C" fn (\w+)', code[crates / 'vadivuzhen' / 'src
 
 
 def brings(source):
-    """What a source has from modules of specs/: each name with its module."""
+    """What a source has from modules of the repository's specs/: each name with its module."""
     found = re.findall(r'^(?:ghost )?use Rattle\.(\w+)\.specs\.(?!declared)(\w+)(?: as (\w+)|\.\{(.*)\})', source, re.M)
-    return {name.split(' as ')[-1]: f'{crate}/specs/{file}' for crate, file, whole, some in found for name in [whole, *some.split(', ')] if name}
+    return {name.split(' as ')[-1]: f'{crate}/specs/{file}' for crate, file, whole, some in found if (crates / crate).is_dir() for name in [whole, *some.split(', ')] if name}
 
 
 reached, ahead = set(), []
