@@ -18,7 +18,8 @@ use Rattle.pool.specs.Calls.{Head, head, head_in, reading}
 use Rattle.pool.specs.Faultless.{TablesHold, FaultlessSheet, FaultlessPool}
 use Rattle.pool.proofs.Rooms.{hold_room}
 use Rattle.pool.proofs.Points.{points_cong}
-use Rattle.pool.proofs.Reading.{sheet_pool, tables_six, reading_none, reading_passed}
+use Rattle.pool.proofs.Reading.{sheet_pool, tables_six}
+use Rattle.pool.proofs.ReadingCall.{reading_none, reading_passed}
 use Rattle.pool.proofs.RoundTrip.{point_in_filled, pair_in_filled, faultless_filled, pool_in_filled}
 use Rattle.reader.specs.Answers.{answer_of}
 use Rattle.reader.specs.declared.Reading.{Reading}

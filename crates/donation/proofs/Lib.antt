@@ -2,6 +2,7 @@
 -- words. `Compatible`: M. `Points`: the points, and W's bounds.
 pub mod Bits
 pub mod Mismatched
+pub mod NoOtherCount
 pub mod Blood
 pub mod Compatible
 pub mod Points

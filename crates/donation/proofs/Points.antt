@@ -14,7 +14,8 @@ use Rattle.pool.proofs.Points.{sound_heaviest}
 use Rattle.donation.specs.Compatibility.{has, compatibility}
 use Rattle.donation.specs.Promises.{SameOf, CountsMismatches, EdgeExamples, SharedExamples, PatientsOwnExamples, RegistryExamples, DocumentRange}
 use Rattle.donation.specs.Weight.{young, senior, mismatches, mismatch_points, age_points, weight}
-use Rattle.donation.proofs.Mismatched.{one_sided, no_other_count}
+use Rattle.donation.proofs.Mismatched.{one_sided}
+use Rattle.donation.proofs.NoOtherCount.{no_other_count}
 use Rattle.donation.proofs.Compatible.{compatibility_same}
 
 cond-most : (most : ℕ) (t : Bool) (x y : ℕ) → x ≤ most → y ≤ most → cond t x y ≤ most

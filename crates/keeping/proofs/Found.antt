@@ -14,7 +14,7 @@ use Rattle.pool.specs.Faults.{room_fault, tables_fault}
 use Rattle.pool.proofs.Reading.{room_none}
 use Rattle.live.specs.Live.{live_version}
 use Rattle.live.specs.Faults.{graph_fault, sizes_fault}
-use Rattle.live.proofs.Faults.{graph_none}
+use Rattle.live.proofs.Sizes.{graph_none}
 
 -- ## 9 of M and W
 

@@ -18,7 +18,7 @@ use Rattle.pool.specs.Calls.{Head, head, reading, writing}
 use Rattle.pool.specs.Faultless.{KnownVersion, EachOnce, Faultless, FieldsHold, TablesHold, FaultlessPool}
 use Rattle.pool.specs.Promises.{TablesTyped}
 use Rattle.pool.proofs.Points.{points_cong}
-use Rattle.pool.proofs.Writing.{writes_rightly}
+use Rattle.pool.proofs.WritingCall.{writes_rightly}
 use Rattle.pool.proofs.RoundTrip.{pair_in_filled, point_in_filled, faultless_filled, pool_comes_back}
 use Rattle.donation.specs.Compatibility.{compatibility}
 use Rattle.donation.specs.Weight.{weight}

@@ -1,6 +1,9 @@
 -- `Faults`: what the calls check. `Tables`: the tables with a pair more or less. `Suitable`: the numbers of donors that suit. `Promised`: the promises of the calls. `Lists`: what a list of calls leaves.
 -- `Held`: the theorems on every list of calls from an empty pool. `Examples`: a list in numbers.
+pub mod Room
+pub mod Sizes
 pub mod Faults
+pub mod CallFaults
 pub mod Tables
 pub mod Suitable
 pub mod Promised

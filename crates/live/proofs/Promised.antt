@@ -21,7 +21,8 @@ use Rattle.live.specs.Live.{Live, live_version, weighed_by, pair_of}
 use Rattle.live.specs.Calls.{Beginning, beginning, in_order, starting, with_pair, registered, registering, place_of, without_at, withdrawing}
 use Rattle.live.specs.Faultless.{Kept, Registrable, Withdrawable}
 use Rattle.live.specs.Promises.{Started, StartsRightly, Registered, RegistersRightly, FirstWith, WithoutIt, WithdrawsRightly, StartsEmpty}
-use Rattle.live.proofs.Faults.{start_none, start_passed, start_fault_lem, register_none, register_passed, register_fault_lem, withdraw_none, withdraw_passed, withdraw_fault_lem}
+use Rattle.live.proofs.Faults.{start_none, start_passed, start_fault_lem}
+use Rattle.live.proofs.CallFaults.{register_none, register_passed, register_fault_lem, withdraw_none, withdraw_passed, withdraw_fault_lem}
 use Rattle.live.proofs.Tables.{filled_kept, length_rows, pair_there, pair_other, with_past, past_hold, place_found, moved_up, row_moved, row_past, pair_moved, without_past}
 use Rattle.live.proofs.Suitable.{numbers_there, numbers_past, number_true}
 

@@ -24,7 +24,8 @@ use Rattle.pool.specs.Joining.{joined_sheet, differ_fault, id_in_both, shared_fa
 use Rattle.pool.specs.Faultless.{FaultlessSheet}
 use Rattle.pool.specs.Joinable.{SamePoints, NoSharedId, pairs_together, length_together, Joinable, JoinFault, JoinsRightly, JoinedIsRead}
 use Rattle.pool.specs.Promises.{EntriesBelow}
-use Rattle.pool.proofs.Reading.{room_none, room_passed, room_fault_lem, sheet_none, sheet_passed, sheet_fault_lem, reading_none}
+use Rattle.pool.proofs.Reading.{room_none, room_passed, room_fault_lem, sheet_none, sheet_passed, sheet_fault_lem}
+use Rattle.pool.proofs.ReadingCall.{reading_none}
 use Rattle.pool.proofs.Points.{second_count, counted_second}
 use Rattle.pool.proofs.Joined.{length_joined, pool_joined, version_joined, pairs_joined, is_joined}
 

@@ -6,8 +6,11 @@ pub mod Lengths
 pub mod Rooms
 pub mod Fields
 pub mod Pairs
+pub mod PairFaults
 pub mod Reading
+pub mod ReadingCall
 pub mod Writing
+pub mod WritingCall
 pub mod Read
 pub mod Written
 pub mod RoundTrip

@@ -6,11 +6,11 @@ use native.Mathlib.Omega.{arith}
 use borrow.Author.Tests.{le-ltb, ltb-true, ltb-false, ne_eqb, eqb-true, eqb-false, not-true, not-false}
 use lib.Dec.{eqb}
 use Rattle.refusal.specs.Fault.{Fault, none, fault, refuse, ◌then◌}
-use Rattle.refusal.proofs.Faults.{then_none, none_then, refuse_none, none_refuse, by_refuse, by_then}
+use Rattle.refusal.proofs.Faults.{then_none, refuse_none, none_refuse, by_refuse, by_then}
 use Rattle.laws.specs.Below.{count_below, Once}
 use Rattle.laws.proofs.Below.{any_none, none_any, any_found, any_cong, count_cong, once_count, count_once}
 use Rattle.pool.specs.Pool.{Pair}
-use Rattle.pool.specs.Faults.{group_fault, id_fault, pair_fault, shuffle_fault}
+use Rattle.pool.specs.Faults.{group_fault, id_fault, shuffle_fault}
 use Rattle.pool.specs.Points.{point_count}
 use Rattle.pool.specs.Faultless.{InRange, EachOnce, Faultless}
 use Rattle.pool.proofs.Points.{points_cong}
@@ -62,25 +62,6 @@ module _ (o : ℕ) (id : ℕ → ℕ) (i : ℕ) where
   unfolding id_fault
   id_fault_lem P seven =
       by_refuse P 7 o _ (λ e. let f = any_found i (λ j. eqb (id j) (id i)) e in seven f.0 f.1 (eqb-true _ _ f.2))
-
--- ## 6 and 7 of pair i
-
-module _ (o : ℕ) (pair : ℕ → Pair) (i : ℕ) where
-  pub pair_none : InRange (pair i) → ((j : ℕ) → j < i → (pair j).id ≡ (pair i).id → ⊥) → pair_fault o pair i ≡ none
-  unfolding pair_fault
-  pair_none r u = none_then _ _ (groups_none o (pair i) r) ∙ id_none o (λ j. (pair j).id) i u
-
-  pub pair_passed : pair_fault o pair i ≡ none → InRange (pair i) × ((j : ℕ) → j < i → (pair j).id ≡ (pair i).id → ⊥)
-  unfolding pair_fault
-  pair_passed e =
-      let s = then_none _ _ e in
-      (groups_passed o (pair i) s.0, id_passed o (λ j. (pair j).id) i s.1)
-
-  pub pair_fault_lem : (P : ℕ → ℕ → Type 0) → ((InRange (pair i) → ⊥) → P 6 o)
-      → ((j : ℕ) → j < i → InRange (pair i) → (pair j).id ≡ (pair i).id → P 7 o) → (k p : ℕ) → pair_fault o pair i ≡ fault k p → P k p
-  unfolding pair_fault
-  pair_fault_lem P six seven =
-      by_then P _ _ (groups_fault_lem o (pair i) P six) (λ g. id_fault_lem o (λ j. (pair j).id) i P (λ j l. seven j l (groups_passed o (pair i) g)))
 
 -- ## 8
 

@@ -22,8 +22,10 @@ use Rattle.pool.proofs.Lengths.{length_sheet_in}
 use Rattle.pool.proofs.Pairs.{faultless_cong}
 use Rattle.pool.proofs.Rooms.{hold_room}
 use Rattle.pool.proofs.Points.{size_most, first_size, hold_count, count_hold}
-use Rattle.pool.proofs.Reading.{room_none, tables_none, sheet_none, sheet_pool, reading_none, reading_passed}
-use Rattle.pool.proofs.Writing.{pool_none, writing_none, writing_passed}
+use Rattle.pool.proofs.Reading.{room_none, tables_none, sheet_none, sheet_pool}
+use Rattle.pool.proofs.ReadingCall.{reading_none, reading_passed}
+use Rattle.pool.proofs.Writing.{pool_none}
+use Rattle.pool.proofs.WritingCall.{writing_none, writing_passed}
 use Rattle.pool.proofs.Read.{sheet_back}
 use Rattle.pool.proofs.Written.{Fits, pooled, written, sheet_written, says_version, says_pairs, says_pool, written_faultless}
 

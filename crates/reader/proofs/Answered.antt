@@ -13,7 +13,7 @@ use Rattle.pool.specs.Faults.{sheet_fault, tables_fault}
 use Rattle.pool.specs.Calls.{Head, head, head_in, reading}
 use Rattle.pool.specs.Promises.{ReadsRightly}
 use Rattle.pool.proofs.Rooms.{hold_room}
-use Rattle.pool.proofs.Reading.{reading_passed, reads_rightly}
+use Rattle.pool.proofs.ReadingCall.{reading_passed, reads_rightly}
 use Rattle.reader.specs.declared.Reading.{Reading}
 use Rattle.reader.specs.declared.Reading.TheVariants.{Pairs, Refused}
 use Rattle.reader.specs.Answers.{answer_of}

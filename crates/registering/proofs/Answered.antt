@@ -24,7 +24,7 @@ use Rattle.live.specs.Calls.{with_pair, registered, registering}
 use Rattle.live.specs.Answers.{answer_of}
 use Rattle.live.specs.declared.Change.TheVariants.{Done, Refused}
 use Rattle.live.specs.Faultless.{Registrable}
-use Rattle.live.proofs.Faults.{register_passed}
+use Rattle.live.proofs.CallFaults.{register_passed}
 use Rattle.live.proofs.Promised.{new_faultless}
 use Rattle.suiting.specs.Preconditions.{Countable}
 

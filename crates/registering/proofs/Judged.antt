@@ -20,7 +20,7 @@ use Rattle.pool.specs.Faults.{id_fault, room_fault}
 use Rattle.pool.proofs.Reading.{room_none}
 use Rattle.checks.specs.Preconditions.{TablesHaveRoom}
 use Rattle.live.specs.Faults.{graph_fault, stored_fault, groups_fault, range_fault, like_fault, more_fault}
-use Rattle.live.proofs.Faults.{sizes_passed}
+use Rattle.live.proofs.Sizes.{sizes_passed}
 
 -- ## 6 and 7 over all pairs: what was found of the groups of the stored ones, of the new one's, and of the stored ids
 

@@ -20,7 +20,8 @@ use Rattle.pool.specs.Calls.{writing}
 use Rattle.pool.specs.Faultless.{FaultlessPool}
 use Rattle.pool.specs.Promises.{WritesRightly}
 use Rattle.pool.proofs.Lengths.{length_sheet_in}
-use Rattle.pool.proofs.Writing.{pool_passed, writing_none, writes_rightly}
+use Rattle.pool.proofs.Writing.{pool_passed}
+use Rattle.pool.proofs.WritingCall.{writing_none, writes_rightly}
 use Rattle.writer.specs.declared.Writing.{Writing}
 use Rattle.writer.specs.declared.Writing.TheVariants.{Length, Refused}
 use Rattle.writer.specs.Answers.{answer_of}

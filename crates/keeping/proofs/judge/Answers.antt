@@ -6,7 +6,7 @@ use Rattle.refusal.proofs.Faults.{sound_none, sound_then, faulty_then}
 use Rattle.pool.specs.Points.{has_points, points_of}
 use Rattle.pool.specs.Faults.{points_fault}
 use Rattle.live.specs.Faults.{stored_fault}
-use Rattle.live.proofs.Faults.{sizes_passed}
+use Rattle.live.proofs.Sizes.{sizes_passed}
 use Rattle.keeping.proofs.judge.Goals as goal
 
 pub returns-in-Faulty : goal.returns-in-Faulty

@@ -4,7 +4,7 @@ use Rattle.pool.specs.Tables.{fields, field_room}
 use Rattle.graph.specs.Graph.{graph}
 use Rattle.weighing.proofs.Faults.{held-fields}
 use Rattle.live.specs.Live.{live}
-use Rattle.live.proofs.Faults.{room_holds, lesser_pairs}
+use Rattle.live.proofs.Sizes.{room_holds, lesser_pairs}
 use Rattle.live.proofs.Promised.{rightly_registered}
 use Rattle.registering.proofs.Answered.{call_refused, call_registrable, call_registered}
 use Rattle.registering.proofs.register.Goals as goal

@@ -1,7 +1,5 @@
 -- `rounds::all_rounds` meets its contract. Assumes nothing.
-use mathlib.Core.Path.{◌≡◌, ◌∙◌}
 use native.Mathlib.Omega.{arith}
-use lib.ListN.{length}
 use Rattle.rounds.proofs.Turns.{begins, ends, asks_choose, asks_clear, next}
 use Rattle.rounds.proofs.all_rounds.Goals as goal
 
@@ -17,8 +15,8 @@ clear-requires c =
 
 pub loop-k-preserved : goal.loop-k-preserved
 loop-k-preserved c =
-    let e : length c.choose-at.new.choices ≡ length c.args.choices.now = c.choose-at.auto.choices ∙ c.loop-k.auto.choices in
-    next _ _ _ _ _ c.requires _ _ _ _ c.loop-k.invariant (omega arith) _ _ _ c.choose-at.ensures _ _ (rw e at c.clear.ensures)
+    next _ _ _ _ _ c.requires _ _ _ _ c.loop-k.invariant (omega arith) _ _ _ c.choose-at.ensures _ _
+    (simp (c.choose-at.auto.choices, c.loop-k.auto.choices) at c.clear.ensures)
 
 pub returns : goal.returns
 returns c = ends _ _ _ _ _ c.requires _ _ _ _ c.loop-k.invariant (omega (arith, c.loop-k.invariant.upto))

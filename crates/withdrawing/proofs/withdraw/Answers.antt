@@ -2,7 +2,7 @@
 use native.Mathlib.Omega.{arith}
 use Rattle.pool.specs.Tables.{field_room}
 use Rattle.live.specs.Lent.{live_now}
-use Rattle.live.proofs.Faults.{room_holds, lesser_pairs}
+use Rattle.live.proofs.Sizes.{room_holds, lesser_pairs}
 use Rattle.live.proofs.Promised.{rightly_withdrawn}
 use Rattle.withdrawing.proofs.Called.{found-stored, call_refused, call_kept, call_unknown, call_one, call_withdrawn}
 use Rattle.withdrawing.proofs.withdraw.Goals as goal
