@@ -1,4 +1,4 @@
--- `Bits`: bits of words, as the machine's operations give them. `Mismatched`: what a mismatch is. `Blood`: the table of four by four is the rule in
+-- `Bits`: bits of words, as the machine's operations give them. `Mismatched`: what a mismatch is. `NoOtherCount`: nothing else counts them. `Blood`: the table of four by four is the rule in
 -- words. `Compatible`: M. `Points`: the points, and W's bounds.
 pub mod Bits
 pub mod Mismatched

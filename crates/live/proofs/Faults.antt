@@ -1,4 +1,4 @@
--- What the calls of a live pool check: what has none of the faults, and that each is there. Assumes nothing.
+-- What the calls of a live pool check of what is stored, and of a pair: what has none of the faults, and that each is there. Assumes nothing.
 use mathlib.Core.Path.{◌≡◌, refl, ◌∙◌}
 use Prim.Native.Nat.{ℕ, ◌+◌, ◌≤◌, ◌<◌}
 use native.Mathlib.Omega.{arith}

@@ -1,5 +1,5 @@
--- `Lengths`, `Rooms`: of fields and sheets, and of lent tables. `Points`, `Fields`, `Pairs`: each fault, and what has none. `Reading`, `Writing`: the
--- promises of the two calls. `Written`, `Read`: what is written is read back, and what was read is written back. `RoundTrip`: both, for the calls.
+-- `Lengths`, `Rooms`: of fields and sheets, and of lent tables. `Points`, `Fields`, `Pairs`, `PairFaults`: each fault, and what has none. `Reading`,
+-- `Writing`: the faults of a sheet and of a pool; `ReadingCall`, `WritingCall`: the promises of the two calls. `Written`, `Read`: what is written is read back, and what was read is written back. `RoundTrip`: both, for the calls.
 -- `Joined`, `Joining`: the sheet of two sheets, and the promise of the call. `Examples`: what is computed.
 pub mod Points
 pub mod Lengths

@@ -1,4 +1,4 @@
--- Reading's promise: every sheet with none of the faults is accepted, and no other; a refusal names a fault that is there. Assumes nothing.
+-- The faults of a sheet, and of the tables that it is read into: what has none of them, and that each is there, with none before it. Assumes nothing.
 use mathlib.Core.Path.{◌≡◌, ◌∙◌}
 use mathlib.Core.List.{List}
 use Prim.Native.Nat.{ℕ, ◌≤◌, ◌<◌}

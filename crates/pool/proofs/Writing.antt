@@ -1,4 +1,4 @@
--- Writing's promise: every pool with none of the faults is accepted, and no other; a refusal names a fault that is there. Assumes nothing.
+-- The faults of a pool: what has none of them, and that each is there, with none before it. Assumes nothing.
 use mathlib.Core.Path.{◌≡◌, refl, ◌∙◌}
 use mathlib.Core.List.{List}
 use Prim.Native.Nat.{ℕ, ◌≤◌, ◌<◌}
