@@ -1,5 +1,6 @@
--- `Room`, `Sizes`, `Faults`: what the calls check, of the tables' room, of their sizes and numbers, and of a pair; `CallFaults`: all that each call checks. `Tables`: the tables with a pair more or less. `Suitable`: the numbers of donors that suit. `Promised`: the promises of the calls. `Lists`: what a list of calls leaves.
--- `Held`: the theorems on every list of calls from an empty pool. `Examples`: a list in numbers.
+-- `Room`, `Sizes`, `Faults`: what the calls check, of the tables' room, of their sizes and numbers, and of what is stored and a pair; `CallFaults`: all that
+-- each call checks. `Tables`: the tables with a pair more or less. `Suitable`: the numbers of donors that suit. `Promised`: the promises of the calls.
+-- `Lists`: what a list of calls leaves. `Held`: the theorems on every list of calls from an empty pool. `Examples`: a list in numbers.
 pub mod Room
 pub mod Sizes
 pub mod Faults
