@@ -26,7 +26,7 @@
  *
  * docs/FORMAT.md has the sheet's bytes, what suits and what it weighs, the refusals with their places, and the printed plan.
  *
- * The archive is for x86-64 Linux, where size_t has 64 bits; of the C library it needs memcpy and memset. */
+ * The archive is for x86-64 Linux, where size_t has 64 bits; of the C library it needs memcpy, memmove and memset. */
 #ifndef VADIVUZHEN_H
 #define VADIVUZHEN_H
 

@@ -13,15 +13,23 @@ from closing import check, close
 top = pathlib.Path(__file__).resolve().parent.parent
 
 CLEAR = '        clearing::clear(n, weights, at, choices.len() - k - 1, tally);\n'
+ASKS = '''pub clear-requires : goal.clear-requires
+clear-requires c =
+    asks_clear _ _ _ _ _ c.requires _ _ _ _ c.loop-k.invariant (omega arith) _ _ _ c.choose-at.ensures
 
-# crate, function, what is changed; the changes of the code; the goal that no longer holds, or nothing where the function still means the same
+'''
+CLEARED = ' _ _\n    (simp (c.choose-at.auto.choices, c.loop-k.auto.choices) at c.clear.ensures)\n'
+
+# crate, function, what is changed; the changes of the code; the goal that no longer holds, or nothing where the function still means the same; and the
+# changes of the answers, where these name what is gone from the code
 CHANGES = [
     ('rounds', 'all_rounds', 'the rounds that are left are counted before the choice',
      [('        let at = choosing', '        let left = choices.len() - k - 1;\n        let at = choosing'), ('at, choices.len() - k - 1, tally', 'at, left, tally')],
      None),
     ('rounds', 'all_rounds', 'the weights are cleared after the last round too', [('choices.len() - k - 1', 'choices.len() - k')], 'loop-k-preserved'),
     ('rounds', 'all_rounds', 'the rounds that are done are taken for those that are left', [('choices.len() - k - 1', 'k')], 'loop-k-preserved'),
-    ('rounds', 'all_rounds', 'nothing is cleared: all is chosen by the weights of round one', [(CLEAR, '')], 'loop-k-preserved'),
+    ('rounds', 'all_rounds', 'nothing is cleared: all is chosen by the weights of round one', [(CLEAR, '')], 'loop-k-preserved',
+     (ASKS, ''), (CLEARED, ' c.loop-k.weights c.choose-at.new.tally (mathlib.Core.Path.refl, mathlib.Core.Path.refl)\n')),
     ('rounds', 'all_rounds', 'each choice is written in the place of the first',
      [('    let mut k: usize = 0;\n', '    let first: usize = 0;\n    let mut k: usize = 0;\n'), ('choices, k, tally', 'choices, first, tally')],
      'loop-k-preserved'),
@@ -58,14 +66,18 @@ def tried(crate, changes):
         shutil.copy(top / 'crates.txt', copy / 'crates.txt')
         source = copy / f'crates/{crate}/src/lib.rt'
         code = source.read_text()
+        answers = {change[1]: copy / f'crates/{crate}/proofs/{change[1]}/Answers.antt' for change in changes}
+        answered = {function: file.read_text() for function, file in answers.items()}
         proved, said = checked(copy, crate)
         outcomes = [(proved, f'{crate}: as it stands: {"" if proved else "not "}proved', said)]
-        for _, function, what, edits, goal in changes:
+        for _, function, what, edits, goal, *mended in changes:
             changed(source, code, edits)
+            changed(answers[function], answered[function], mended)
             proved, said = checked(copy, crate)
             unproved = re.findall(r'^fn (\S+): (?:not proved|no proof)', said, re.M)
             open_goals = re.findall(r'(?:`search` did not prove|error:) ([^\n]*)', said)
-            refused = not proved and 'error[' not in said and unproved == [f'{crate}::{function}'] and any(f'`{goal}`' in line for line in open_goals)
+            named = re.search(r'has no `|has no field|is not in scope', said)
+            refused = not proved and 'error[' not in said and not named and unproved == [f'{crate}::{function}'] and any(f'`{goal}`' in line for line in open_goals)
             outcomes.append((proved if goal is None else refused, f'{crate}::{function}: {what}: {"proved" if proved else "; ".join(open_goals)}', said))
     return outcomes
 
