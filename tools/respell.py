@@ -27,7 +27,7 @@ def comments_out(text):
 
 
 def snake(word):
-    return re.sub(r'(?<=[a-z0-9])([A-Z])', lambda m: '_' + m.group(1).lower(), word)
+    return re.sub(r'(?<=[A-Za-z0-9])([A-Z])', lambda m: '_' + m.group(1).lower(), word) if is_lower(word) else word
 
 
 def is_lower(word):

@@ -19,7 +19,7 @@ use Rattle.exchange.specs.Subsets.{entry}
 use Rattle.exchange.specs.Input.{Request}
 use Rattle.exchange.specs.Planning.{Lent, Plan, most_floor, lengths_of, table_fault, weightless, edge_fault, short_to_read, short_to_fill, plan_fault, planning}
 use Rattle.exchange.specs.Promises.{AnswersRightly, SoundTablesPassTenAndSeventeen}
-use Rattle.exchange.specs.Faultless.{LongEnough, Compatibility, WeightyTables, FaultlessInput, PlanFault, too_many_pairs, floor_too_high, too_short, not_aShuffle, not_compatibility, weightless_edge}
+use Rattle.exchange.specs.Faultless.{LongEnough, Compatibility, WeightyTables, FaultlessInput, PlanFault, too_many_pairs, floor_too_high, too_short, not_a_shuffle, not_compatibility, weightless_edge}
 
 module _ (n : ℕ) (M : List ℕ) where
   -- ## 10
@@ -168,7 +168,7 @@ module _ (r : Request) (t : Lent) where
       by_then P to_read _ (read_fault P (λ h. (refl, too_short few low h)))
       (λ c. by_then P to_fill _ (fill_fault P (λ h. (refl, too_short few low h)))
       (λ d. let long = long_passed c d in
-      by_then P (shuffle_fault 0 n _) _ (shuffle_fault_lem 0 n _ P (λ h. (refl, not_aShuffle few low long h)))
+      by_then P (shuffle_fault 0 n _) _ (shuffle_fault_lem 0 n _ P (λ h. (refl, not_a_shuffle few low long h)))
       (λ g. let once = shuffle_passed 0 n _ g in
       by_then P (table_fault n M) _ (table_fault_lem n M P (λ h. (refl, not_compatibility few low long once h)))
       (λ h. edge_fault_lem n M W P (λ i j a b there e. (refl, weightless_edge few low long once (table_passed n M h) i j a b there e))))))))
@@ -238,7 +238,7 @@ module _ (r : Request) (t : Lent) (sound : Compatibility r.scope.pairs r.compati
   other_fault k (too_many_pairs _) = (λ e. omega (arith, e), λ e. omega (arith, e))
   other_fault k (floor_too_high _ _) = (λ e. omega (arith, e), λ e. omega (arith, e))
   other_fault k (too_short _ _ _) = (λ e. omega (arith, e), λ e. omega (arith, e))
-  other_fault k (not_aShuffle _ _ _ _) = (λ e. omega (arith, e), λ e. omega (arith, e))
+  other_fault k (not_a_shuffle _ _ _ _) = (λ e. omega (arith, e), λ e. omega (arith, e))
   other_fault k (not_compatibility _ _ _ _ h) = absurd (h sound)
   other_fault k (weightless_edge _ _ _ _ _ i j a b there e) = absurd (omega (arith, weighty i j a b there, e))
 

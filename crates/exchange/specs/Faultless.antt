@@ -47,7 +47,7 @@ pub data PlanFault (r : Request) (t : Lent) : ℕ → Type 0 where
   too_many_pairs : 200 < r.scope.pairs → PlanFault r t 4
   floor_too_high : r.scope.pairs ≤ 200 → most_floor < r.floor → PlanFault r t 13
   too_short : r.scope.pairs ≤ 200 → r.floor ≤ most_floor → (LongEnough r t → ⊥) → PlanFault r t 9
-  not_aShuffle : r.scope.pairs ≤ 200 → r.floor ≤ most_floor → LongEnough r t → (Shuffles r → ⊥) → PlanFault r t 8
+  not_a_shuffle : r.scope.pairs ≤ 200 → r.floor ≤ most_floor → LongEnough r t → (Shuffles r → ⊥) → PlanFault r t 8
   not_compatibility :
       r.scope.pairs ≤ 200
       → r.floor ≤ most_floor

@@ -11,7 +11,7 @@ use Rattle.pool.specs.Points.{points_by, has_points, point_count}
 use Rattle.pool.specs.Sheet.{points_place, sheet_length, version_in, pairs_in, point_at, pair_at, shuffle_at, pair_due, shuffle_due}
 use Rattle.pool.specs.Faults.{head_fault, points_field_fault, pair_field_fault, shuffle_field_fault, end_fault, sheet_fault, room_fault, tables_fault}
 use Rattle.pool.specs.Faultless.{Faultless, FaultlessHead, FaultlessPoints, PointsWhereDue, FaultlessPair, FaultlessShuffle, FaultlessSheet, HeadField, PairField}
-use Rattle.pool.specs.Faultless.{Due, Forward, SheetFault, wrong_version, wrong_points, left_over, out_of_range, repeated_id, not_aShuffle}
+use Rattle.pool.specs.Faultless.{Due, Forward, SheetFault, wrong_version, wrong_points, left_over, out_of_range, repeated_id, not_a_shuffle}
 use Rattle.pool.proofs.Points.{version_none, version_passed, version_fault_lem, has_second, second_has, first_count, count_most, points_none, points_passed, points_fault_lem, sound_points}
 use Rattle.pool.proofs.Fields.{field_none, field_passed, field_fault_lem}
 use Rattle.pool.proofs.PairFaults.{pair_none, pair_passed, pair_fault_lem}
@@ -187,5 +187,5 @@ module _ (b : List ℕ) where
       (λ p. let w : Forward b (shuffle_due b) = Forward.shuffle head points (λ j k. pair_field_passed j (first_none n (pair_field_fault b) p j k)) in
       by_then P _ _
       (by_then P _ _ (field_fault_lem b _ _ _ Due.shuffle w)
-      (λ f. shuffle_fault_lem (shuffle_due b) n (shuffle_at b n) P (not_aShuffle w (field_passed b _ _ _ f))))
+      (λ f. shuffle_fault_lem (shuffle_due b) n (shuffle_at b n) P (not_a_shuffle w (field_passed b _ _ _ f))))
       (λ d. by_refuse P 5 _ _ (λ e. left_over w (shuffle_field_passed d) (ltb-true _ _ e))))))

@@ -46,7 +46,7 @@ module _ (v n : ℕ) (t : Tables) (out : List ℕ) where
       (by_then P _ _
       (λ k o e. let f = pairs_fault_lem v n (room t) t.points (pair_in t.fields) (TablesHold v n t) (tables_holding v n t) k o e in (f.0, PoolFault.pairs k f.1))
       (λ a. let p = pairs_passed v n (room t) t.points (pair_in t.fields) (TablesHold v n t) (tables_holding v n t) a in
-      shuffle_fault_lem 0 n _ P (λ h. (refl, PoolFault.not_aShuffle p.0 (λ j l. (p.1 j l, λ i k. p.2 j i k l)) h))))
+      shuffle_fault_lem 0 n _ P (λ h. (refl, PoolFault.not_a_shuffle p.0 (λ j l. (p.1 j l, λ i k. p.2 j i k l)) h))))
       (λ d. room_fault_lem P (length out) _ (λ l. (refl, PoolFault.buffer_too_short (pool_passed v n t d) (rw (length_sheet_in v n t) at l)))) k o
       (refused_fault _ _ _ _ e)
 

@@ -154,7 +154,7 @@ pub data SheetFault (b : List ℕ) : ℕ → ℕ → Type 0 where
       → InRange (pair_at b i)
       → (pair_at b j).id ≡ (pair_at b i).id
       → SheetFault b 7 (pair_due b i)
-  not_aShuffle :
+  not_a_shuffle :
       Forward b (shuffle_due b)
       → ShuffleField b
       → (EachOnce (pairs_in b) (shuffle_at b (pairs_in b)) → ⊥)
@@ -223,7 +223,7 @@ pub data PairsFault (v n : ℕ) (Hold : Type 0) (q : Points) (pair : ℕ → Pai
 -- fault k of writing a pool into a buffer of so many bytes: one of its pairs, or one that is looked for after them
 pub data PoolFault (v n : ℕ) (t : Tables) (space : ℕ) : ℕ → Type 0 where
   pairs : (k : ℕ) → PairsFault v n (TablesHold v n t) (points_of_table v t.points) (pair_in t.fields) k → PoolFault v n t space k
-  not_aShuffle :
+  not_a_shuffle :
       Ready v n (TablesHold v n t) (points_of_table v t.points)
       → NoneBefore n (pair_in t.fields)
       → (EachOnce n (item_in t.shuffle) → ⊥)
