@@ -13,7 +13,8 @@ for folder in sorted(folders):
     for file in sorted(folder.glob('*.antt')):
         name = file.relative_to(top)
         check(file.name != 'Proof.antt', f'{name}: a proof by hand')
-        for module in re.findall(r'^use (mir|prog|sound|contract|denote\.Triple)\b', file.read_text(), re.M):
+        cited = r'^(?:unfoldable )?(?:pub )?use (mir|prog|sound|contract|denote|ghost|seplogic|types|base|borrow(?!\.Author\.)|Rattle\.lending)\b'
+        for module in re.findall(cited, file.read_text(), re.M):
             check(False, f'{name}: cites {module}, how the checker reads code')
 
 close()
