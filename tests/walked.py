@@ -1,5 +1,6 @@
 """Wrong versions of the planner's and the records' loops are refused for what they mean. Each change is made in a copy of the tree, and the crate is
-checked: it must be taken by the compiler, and what stays unproved must be goals of the function that was changed, the one that is named here among them.
+checked: it must be taken by the compiler, the function that was changed alone must stay unproved, and what is said of its loop's turn must have both the
+fact that is due and the one that the wrong program has in its place.
 As controls, the copy is proved with nothing changed, and with a change of each function that leaves its meaning as it is."""
 import concurrent.futures
 import pathlib
@@ -19,28 +20,33 @@ clear-requires c =
 
 '''
 CLEARED = ' _ _\n    (simp (c.choose-at.auto.choices, c.loop-k.auto.choices) at c.clear.ensures)\n'
+NAMED = ' _ _\n    c.clear.ensures\n'
 
-# crate, function, what is changed; the changes of the code; the goal that no longer holds, or nothing where the function still means the same; and the
-# changes of the answers, where these name what is gone from the code
+# crate, function, what is changed; the changes of the code; the fact that is due after a turn of the loop and the one in its place, as the checker says
+# them, or nothing where the function still means the same; and changes of the answers, where these name what is gone from the code
 CHANGES = [
     ('rounds', 'all_rounds', 'the rounds that are left are counted before the choice',
      [('        let at = choosing', '        let left = choices.len() - k - 1;\n        let at = choosing'), ('at, choices.len() - k - 1, tally', 'at, left, tally')],
      None),
-    ('rounds', 'all_rounds', 'the weights are cleared after the last round too', [('choices.len() - k - 1', 'choices.len() - k')], 'loop-k-preserved'),
-    ('rounds', 'all_rounds', 'the rounds that are done are taken for those that are left', [('choices.len() - k - 1', 'k')], 'loop-k-preserved'),
-    ('rounds', 'all_rounds', 'nothing is cleared: all is chosen by the weights of round one', [(CLEAR, '')], 'loop-k-preserved',
-     (ASKS, ''), (CLEARED, ' c.loop-k.weights c.choose-at.new.tally (mathlib.Core.Path.refl, mathlib.Core.Path.refl)\n')),
+    ('rounds', 'all_rounds', 'the weights are cleared after the last round too', [('choices.len() - k - 1', 'choices.len() - k')],
+     ('c.clear.new.weights (Rattle.greedy.specs.Rounds.clear_before', 'clear_before (Prim.Native.Nat.◌-◌ (lib.ListN.length c.args.choices.now) c.loop-k.k)')),
+    ('rounds', 'all_rounds', 'the rounds that are done are taken for those that are left', [('choices.len() - k - 1', 'k')],
+     ('`(Prim.Native.Nat.◌-◌ (Prim.Native.Nat.◌-◌ (lib.ListN.length c.args.choices.now) c.loop-k.k) 1)`\n  (expected)', '`c.loop-k.k` (found)'), (CLEARED, NAMED)),
+    ('rounds', 'all_rounds', 'nothing is cleared: all is chosen by the weights of round one', [(CLEAR, '')],
+     ('Rattle.greedy.specs.Rounds.clear_before', '`c.args.weights.now` (found)'),
+     (ASKS, ''), (CLEARED, ' c.args.weights.now c.choose-at.new.tally (mathlib.Core.Path.refl, mathlib.Core.Path.refl)\n')),
     ('rounds', 'all_rounds', 'each choice is written in the place of the first',
      [('    let mut k: usize = 0;\n', '    let first: usize = 0;\n    let mut k: usize = 0;\n'), ('choices, k, tally', 'choices, first, tally')],
-     'loop-k-preserved'),
+     ('`c.loop-k.k` (expected)', '`0` (found)')),
     ('rounds', 'all_rounds', 'the floor is not asked: all above 0 is chosen',
      [('    let mut k: usize = 0;\n', '    let none: u32 = 0;\n    let mut k: usize = 0;\n'), ('(n, floor, weights', '(n, none, weights')],
-     'loop-k-preserved'),
+     ('`c.args.floor` (expected)', '`0` (found)')),
     ('records', 'write', 'the counter begins as a copy', [('    let mut k = 0;\n', '    let first = 0;\n    let mut k = first;\n')], None),
     ('records', 'write', 'the first record is written each time',
      [('    let mut k = 0;\n', '    let first = 0;\n    let mut k = 0;\n'), ('put(out, records, k);', 'put(out, records, first);')],
-     'loop-k-preserved'),
-    ('records', 'write', 'the last record is written each time', [('put(out, records, k);', 'put(out, records, cycles - 1);')], 'loop-k-preserved'),
+     ('`c.loop-k.k` (expected)', '`0` (found)')),
+    ('records', 'write', 'the last record is written each time', [('put(out, records, k);', 'put(out, records, cycles - 1);')],
+     ('`c.loop-k.k` (expected)', '`(Prim.Native.Nat.◌-◌ c.args.cycles 1)` (found)')),
 ]
 
 
@@ -70,15 +76,16 @@ def tried(crate, changes):
         answered = {function: file.read_text() for function, file in answers.items()}
         proved, said = checked(copy, crate)
         outcomes = [(proved, f'{crate}: as it stands: {"" if proved else "not "}proved', said)]
-        for _, function, what, edits, goal, *mended in changes:
+        for _, function, what, edits, facts, *mended in changes:
             changed(source, code, edits)
             changed(answers[function], answered[function], mended)
             proved, said = checked(copy, crate)
             unproved = re.findall(r'^fn (\S+): (?:not proved|no proof)', said, re.M)
-            open_goals = re.findall(r'(?:`search` did not prove|error:) ([^\n]*)', said)
-            named = re.search(r'has no `|has no field|is not in scope', said)
-            refused = not proved and 'error[' not in said and not named and unproved == [f'{crate}::{function}'] and any(f'`{goal}`' in line for line in open_goals)
-            outcomes.append((proved if goal is None else refused, f'{crate}::{function}: {what}: {"proved" if proved else "; ".join(open_goals)}', said))
+            # what is said of the loop's goal, up to the next error
+            turn = re.search(rf'^\./proofs/{function}/Answers\.antt:\d+:\d+: error: `loop-k-preserved`: .*?(?=^\S)', said, re.M | re.S)
+            refused = not proved and 'error[' not in said and unproved == [f'{crate}::{function}'] and turn and facts and all(fact in turn[0] for fact in facts)
+            line = 'proved' if proved else turn[0].splitlines()[0] if turn else 'not proved'
+            outcomes.append((proved if facts is None else bool(refused), f'{crate}::{function}: {what}: {line}', said))
     return outcomes
 
 
