@@ -669,10 +669,12 @@ CHEATS = [
 
 
 def compiled(folder, crate):
-    """Whether the compiler takes a crate, and what it says: its own refusals have a name in brackets, and a goal that is left open doesn't count."""
-    run = subprocess.run(['rt', 'check', '--generated', folder / 'generated'], cwd=folder / 'crates' / crate, capture_output=True, text=True)
+    """Whether the compiler takes a crate, and what it says. It reads all of the crate before one function is checked, the first, whose proof doesn't
+    count here; the compiler's own refusals have a name in brackets."""
+    first = re.search(r'^(?:pub )?fn (\w+)', texts[crate], re.M)[1]
+    run = subprocess.run(['rt', 'check', '--only', first], cwd=folder / 'crates' / crate, capture_output=True, text=True)
     said = run.stdout + run.stderr
-    return 'generated=' in said and 'error[' not in said, said
+    return 'only=1' in said and 'error[' not in said, said
 
 
 def tried(cheats):
