@@ -10,14 +10,7 @@ ghost use Rattle.pool.specs.Tables.{item_in, fields, pair_in};
 ghost use Rattle.pool.specs.Faults.{group_fault, pair_fault, points_fault, tables_fault, before_fault, pairs_fault, shuffle_fault};
 ghost use Rattle.checks.specs.Preconditions.{PairAgrees, TablesHaveRoom};
 
-use refusal::{Refusal, Verdict};
-
-// The lesser of two lengths.
-pub fn lesser(x: usize, y: usize) -> usize
-    ensures { result ≡ min x y }
-{
-    if x < y { x } else { y }
-}
+use refusal::Refusal;
 
 // How many pairs the shortest of the eight tables can hold, by their lengths.
 pub fn room(
@@ -33,29 +26,34 @@ pub fn room(
     ensures { result ≡ min ids (min donor_blood (min patient_blood (min donor_age (min patient_age
         (min donor_antigens (min patient_antigens patient_antibodies)))))) }
 {
-    let tissue = lesser(donor_antigens, lesser(patient_antigens, patient_antibodies));
-    let ages = lesser(donor_age, lesser(patient_age, tissue));
-    let bloods = lesser(donor_blood, lesser(patient_blood, ages));
-    lesser(ids, bloods)
+    let tissue = donor_antigens.min(patient_antigens.min(patient_antibodies));
+    let ages = donor_age.min(patient_age.min(tissue));
+    let bloods = donor_blood.min(patient_blood.min(ages));
+    ids.min(bloods)
 }
 
 // 6: a blood group above 3 or an age group above 1.
-pub fn groups(donor_blood: u8, patient_blood: u8, donor_age: u8, patient_age: u8) -> Verdict
+pub fn groups(
+    donor_blood: u8,
+    patient_blood: u8,
+    donor_age: u8,
+    patient_age: u8,
+) -> Result<(), Refusal>
     ensures { (o : ℕ) → fault_at o result ≡ group_fault o donor_blood patient_blood donor_age patient_age }
 {
     if donor_blood > 3 {
-        return Verdict::Faulty(Refusal::OutOfRange);
+        return Err(Refusal::OutOfRange);
     }
     if patient_blood > 3 {
-        return Verdict::Faulty(Refusal::OutOfRange);
+        return Err(Refusal::OutOfRange);
     }
     if donor_age > 1 {
-        return Verdict::Faulty(Refusal::OutOfRange);
+        return Err(Refusal::OutOfRange);
     }
     if patient_age > 1 {
-        return Verdict::Faulty(Refusal::OutOfRange);
+        return Err(Refusal::OutOfRange);
     }
-    Verdict::Sound
+    Ok(())
 }
 
 // Is this id among the first n?
@@ -63,14 +61,7 @@ pub fn among(ids: &[u32], n: usize, id: u32) -> bool
     requires { n ≤ length ids.now }
     ensures { result ≡ any_below n (λ j. eqb (get_or ids.now j 0) id) }
 {
-    let mut at: usize = 0;
-    while at < n {
-        if ids[at] == id {
-            return true;
-        }
-        at += 1;
-    }
-    false
+    ids[..n].contains(&id)
 }
 
 // 6 and 7 of pair i, whose groups are these and whose id stands at i, after those of the earlier pairs.
@@ -81,63 +72,57 @@ pub fn pair(
     patient_blood: u8,
     donor_age: u8,
     patient_age: u8,
-) -> Verdict
+) -> Result<(), Refusal>
     requires { i < length ids.now }
     ensures { (o : ℕ) (p : ℕ → Pair)
         → PairAgrees p i ids.now donor_blood patient_blood donor_age patient_age
         → fault_at o result ≡ pair_fault o p i }
 {
-    match groups(donor_blood, patient_blood, donor_age, patient_age) {
-        Verdict::Faulty(why) => Verdict::Faulty(why),
-        Verdict::Sound => {
-            if among(ids, i, ids[i]) {
-                Verdict::Faulty(Refusal::RepeatedId)
-            } else {
-                Verdict::Sound
-            }
-        }
+    groups(donor_blood, patient_blood, donor_age, patient_age)?;
+    if among(ids, i, ids[i]) {
+        Err(Refusal::RepeatedId)
+    } else {
+        Ok(())
     }
 }
 
 // 9 of n pairs and the points of a version: tables for the pairs whose shortest has `space` entries, and one of so many points.
-pub fn tables(version: u16, n: usize, space: usize, points: usize) -> Verdict
+pub fn tables(version: u16, n: usize, space: usize, points: usize) -> Result<(), Refusal>
     ensures { (l : List ℕ) → length l ≡ points → fault_at 0 result ≡ tables_fault version n space l }
 {
     if space < n {
-        return Verdict::Faulty(Refusal::TooShort);
+        return Err(Refusal::TooShort);
     }
     if points < layout::point_count(version) {
-        return Verdict::Faulty(Refusal::TooShort);
+        return Err(Refusal::TooShort);
     }
-    Verdict::Sound
+    Ok(())
 }
 
 // 14 of a pool's own points. Version 1 has none, and its table is not looked at.
-fn judge_points(version: u16, table: &[u16]) -> Verdict
+fn judge_points(version: u16, table: &[u16]) -> Result<(), Refusal>
     requires { point_count version ≤ length table.now }
     ensures { (o : ℕ) → fault_at o result ≡ points_fault o (points_of version (item_in table.now)) }
 {
     if layout::has_points(version) {
         points::judge(points::own(table))
     } else {
-        Verdict::Sound
+        Ok(())
     }
 }
 
 // What is looked at before the pairs, in a pool of n pairs in lent tables: 3, 4, 9, 14.
-fn ready(version: u16, n: usize, space: usize, points: &[u16]) -> Verdict
+fn ready(version: u16, n: usize, space: usize, points: &[u16]) -> Result<(), Refusal>
     ensures { fault_at 0 result ≡ before_fault version n space points.now }
 {
     if !layout::known(version) {
-        return Verdict::Faulty(Refusal::WrongVersion);
+        return Err(Refusal::WrongVersion);
     }
     if n > 200 {
-        return Verdict::Faulty(Refusal::TooManyPairs);
+        return Err(Refusal::TooManyPairs);
     }
-    match tables(version, n, space, points.len()) {
-        Verdict::Faulty(why) => Verdict::Faulty(why),
-        Verdict::Sound => judge_points(version, points),
-    }
+    tables(version, n, space, points.len())?;
+    judge_points(version, points)
 }
 
 // The first n pairs of lent tables, of which the shortest of all has `space` entries, and their points: 3, 4, 9, 14, then 6 and 7 pair by pair.
@@ -151,36 +136,24 @@ pub fn pairs(
     patient_blood: &[u8],
     donor_age: &[u8],
     patient_age: &[u8],
-) -> Verdict
+) -> Result<(), Refusal>
     requires { TablesHaveRoom space ids.now donor_blood.now patient_blood.now donor_age.now patient_age.now }
     ensures { (f g h : List ℕ)
         → fault_at 0 result ≡ pairs_fault version n space points.now (pair_in (fields ids.now donor_blood.now
         patient_blood.now donor_age.now patient_age.now f g h)) }
 {
-    match ready(version, n, space, points) {
-        Verdict::Faulty(why) => {
-            return Verdict::Faulty(why);
-        }
-        Verdict::Sound => {}
-    }
-    let mut i: usize = 0;
-    while i < n {
-        match pair(
+    ready(version, n, space, points)?;
+    for i in 0..n {
+        pair(
             i,
             ids,
             donor_blood[i],
             patient_blood[i],
             donor_age[i],
             patient_age[i],
-        ) {
-            Verdict::Faulty(why) => {
-                return Verdict::Faulty(why);
-            }
-            Verdict::Sound => {}
-        }
-        i += 1;
+        )?;
     }
-    Verdict::Sound
+    Ok(())
 }
 
 // How often v stands among the first n numbers.
@@ -189,27 +162,23 @@ fn times(s: &[u16], n: usize, v: usize) -> usize
     ensures { result ≡ count_below n (λ j. eqb (get_or s.now j 0) v) }
 {
     let mut count: usize = 0;
-    let mut j: usize = 0;
-    while j < n {
+    for j in 0..n {
         if s[j] as usize == v {
             count += 1;
         }
-        j += 1;
     }
     count
 }
 
 // 8: not each of 0 .. n - 1 once among the first n numbers.
-pub fn shuffle(s: &[u16], n: usize) -> Verdict
+pub fn shuffle(s: &[u16], n: usize) -> Result<(), Refusal>
     requires { n ≤ length s.now }
     ensures { (o : ℕ) → fault_at o result ≡ shuffle_fault o n (λ j. get_or s.now j 0) }
 {
-    let mut v: usize = 0;
-    while v < n {
+    for v in 0..n {
         if times(s, n, v) != 1 {
-            return Verdict::Faulty(Refusal::NotAShuffle);
+            return Err(Refusal::NotAShuffle);
         }
-        v += 1;
     }
-    Verdict::Sound
+    Ok(())
 }

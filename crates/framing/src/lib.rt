@@ -7,7 +7,7 @@ ghost use Rattle.refusal.specs.Number.{fault_at};
 ghost use Rattle.pool.specs.Sheet.{head_size, version_in, pairs_in};
 ghost use Rattle.pool.specs.Faults.{field_fault, head_fault};
 
-use refusal::{Refusal, Verdict};
+use refusal::Refusal;
 
 // The number in the k bytes from `at` on, high byte first.
 pub fn number(b: &[u8], at: usize, k: usize) -> u64
@@ -24,23 +24,23 @@ pub fn number(b: &[u8], at: usize, k: usize) -> u64
 }
 
 // A field at o, of this tag and length: 1, 2, 1.
-pub fn field(b: &[u8], o: usize, tag: u64, len: usize) -> Verdict
+pub fn field(b: &[u8], o: usize, tag: u64, len: usize) -> Result<(), Refusal>
     requires { (o ≤ 65536) × (len ≤ 65536) }
     ensures { fault_at o result ≡ field_fault b.now o tag len }
 {
     if b.len() < o + layout::START_LENGTH {
-        return Verdict::Faulty(Refusal::CutOff);
+        return Err(Refusal::CutOff);
     }
     if number(b, o, 1) != tag {
-        return Verdict::Faulty(Refusal::WrongField);
+        return Err(Refusal::WrongField);
     }
     if number(b, o + 1, 2) != len as u64 {
-        return Verdict::Faulty(Refusal::WrongField);
+        return Err(Refusal::WrongField);
     }
     if b.len() < o + layout::START_LENGTH + len {
-        Verdict::Faulty(Refusal::CutOff)
+        Err(Refusal::CutOff)
     } else {
-        Verdict::Sound
+        Ok(())
     }
 }
 
@@ -61,20 +61,15 @@ pub fn pairs_in(b: &[u8]) -> usize
 }
 
 // The head: its field, then 3 and 4.
-pub fn head(b: &[u8]) -> Verdict
+pub fn head(b: &[u8]) -> Result<(), Refusal>
     ensures { fault_at 0 result ≡ head_fault b.now }
 {
-    match field(b, 0, layout::HEAD_TAG, layout::HEAD_LENGTH) {
-        Verdict::Faulty(why) => {
-            return Verdict::Faulty(why);
-        }
-        Verdict::Sound => {}
-    }
+    field(b, 0, layout::HEAD_TAG, layout::HEAD_LENGTH)?;
     if !layout::known(version_in(b)) {
-        return Verdict::Faulty(Refusal::WrongVersion);
+        return Err(Refusal::WrongVersion);
     }
     if pairs_in(b) > 200 {
-        return Verdict::Faulty(Refusal::TooManyPairs);
+        return Err(Refusal::TooManyPairs);
     }
-    Verdict::Sound
+    Ok(())
 }

@@ -5,3 +5,4 @@ pub mod Products
 pub mod Digits
 pub mod Lent
 pub mod Whole
+pub mod Searched

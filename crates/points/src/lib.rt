@@ -8,7 +8,7 @@ ghost use Rattle.pool.specs.Tables.{item_in};
 ghost use Rattle.pool.specs.Faults.{points_fault};
 ghost use Rattle.points.specs.Named.{named};
 
-use refusal::{Refusal, Verdict};
+use refusal::Refusal;
 
 #[repr(C)]
 #[derive(Clone, Copy)]
@@ -45,16 +45,16 @@ fn larger(x: u16, y: u16) -> u16
 }
 
 // 14: the base is 0, or base, largest mismatch step and larger age step together exceed 65,535. They are added in 32 bits, where no sum wraps.
-pub fn judge(points: Points) -> Verdict
+pub fn judge(points: Points) -> Result<(), Refusal>
     ensures { (o : ℕ) → fault_at o result ≡ points_fault o (named points) }
 {
     if points.base == 0 {
-        return Verdict::Faulty(Refusal::WrongPoints);
+        return Err(Refusal::WrongPoints);
     }
     let mismatch = larger(points.none, larger(points.few, points.some));
     let age = larger(points.equal, points.young_to_senior);
     if points.base as u32 + mismatch as u32 + age as u32 > 65535 {
-        return Verdict::Faulty(Refusal::WrongPoints);
+        return Err(Refusal::WrongPoints);
     }
-    Verdict::Sound
+    Ok(())
 }

@@ -2,6 +2,9 @@
 use mathlib.Core.Path.{◌≡◌, refl, sym, ap, ◌∙◌, subst₂}
 use mathlib.Core.Bool.{Bool, true, false, false≢true}
 use mathlib.Core.Logic.{◌⊎◌, inl, inr, ⊎_elim}
+use Rattle.std.specs.Prelude.{Result, Ok, Err}
+use Rattle.std.specs.Result.{IsErr, IsErrAnd}
+use Rattle.std.proofs.lemmas.Result.{err_from_is_err_and}
 use Prim.Native.Nat.{ℕ, zero, suc, ◌+◌, ◌<◌}
 use native.Mathlib.Numerals.{add-one}
 use native.Mathlib.Omega.{arith}
@@ -9,10 +12,9 @@ use native.Mathlib.Decide.{dec_lt}
 use Rattle.laws.proofs.Below.{below_suc}
 use Rattle.refusal.specs.Fault.{Fault, none, fault, refuse, only, ◌then◌, first_below}
 use Rattle.refusal.specs.Answer.{finished, refused, outcome, unless}
-use Rattle.refusal.specs.Number.{number_of, fault_at}
+use Rattle.refusal.specs.Number.{number_of, fault_at, found_fault}
 use Rattle.refusal.specs.declared.Refusal.{Refusal}
-use Rattle.refusal.specs.declared.Verdict.{Verdict}
-use Rattle.refusal.specs.declared.Verdict.TheVariants.{Sound, Faulty}
+use Rattle.refusal.specs.declared.Refused.{Refused}
 
 -- a fault is not none
 pub none_fault : {A : Type 0} {f : Fault} {k o : ℕ} → f ≡ none → f ≡ fault k o → A
@@ -130,7 +132,7 @@ unfolding first_below ◌then◌
 first_more n f h e = rw (add-one, h, e)
 
 -- and its end, where it went through all of them
-pub passed_all : (n : ℕ) (f : ℕ → Fault) (i : ℕ) → i ≡ n → first_below i f ≡ none → fault_at 0 Sound ≡ first_below n f
+pub passed_all : (n : ℕ) (f : ℕ → Fault) (i : ℕ) → i ≡ n → first_below i f ≡ none → fault_at 0 (Ok tt) ≡ first_below n f
 unfolding fault_at
 passed_all n f i e h = sym (ap (λ (k : ℕ). first_below k f) (sym e) ∙ h)
 
@@ -159,21 +161,37 @@ module _ (P : ℕ → ℕ → Type 0) where
 
 -- ## faultAt: what a check found
 
-module _ (o : ℕ) (v : Verdict) {f : Fault} (e : fault_at o v ≡ f) where
-  pub sound_none : v ≡ Sound → f ≡ none
+module _ (o : ℕ) (v : Result Unit Refusal) {f : Fault} (e : fault_at o v ≡ f) where
+  pub sound_none : v ≡ Ok tt → f ≡ none
   unfolding fault_at
   sound_none s = sym e ∙ rw s
 
-  pub faulty_fault : (why : Refusal) → v ≡ Faulty why → f ≡ fault (number_of why) o
+  pub faulty_fault : (why : Refusal) → v ≡ Err why → f ≡ fault (number_of why) o
   unfolding fault_at
   faulty_fault why s = sym e ∙ rw s
 
+-- and what a search found that tells a place too
+module _ (v : Result Unit Refused) {f : Fault} (e : found_fault v ≡ f) where
+  pub nothing_none : v ≡ Ok tt → f ≡ none
+  unfolding found_fault
+  nothing_none s = sym e ∙ rw s
+
+  pub found_fault_lem : (r : Refused) → v ≡ Err r → f ≡ fault (number_of r.why) r.place
+  unfolding found_fault
+  found_fault_lem r s = sym e ∙ rw s
+
+-- what `?` hands on is what it met
+pub handed_on : {A E : Type 0} (r : Result A E) (why : E) → IsErr r × IsErrAnd r (λ e. e ≡ why) → r ≡ Err why
+handed_on r why h =
+    let p = err_from_is_err_and r h.1 in
+    p.1 ∙ ap Err p.2
+
 -- a step whose first check found v: what is found next is the fault, or v's is
-module _ (o : ℕ) (v : Verdict) (f g : Fault) (e : fault_at o v ≡ f) where
-  pub sound_then : v ≡ Sound → {h : Fault} → h ≡ g → h ≡ (f then g)
+module _ (o : ℕ) (v : Result Unit Refusal) (f g : Fault) (e : fault_at o v ≡ f) where
+  pub sound_then : v ≡ Ok tt → {h : Fault} → h ≡ g → h ≡ (f then g)
   sound_then s h = h ∙ sym (none_then f g (sound_none o v e s))
 
-  pub faulty_then : (why : Refusal) → v ≡ Faulty why → fault (number_of why) o ≡ (f then g)
+  pub faulty_then : (why : Refusal) → v ≡ Err why → fault (number_of why) o ≡ (f then g)
   faulty_then why s = sym (fault_then f g (faulty_fault o v e why s))
 
 -- ## unless: what a call answers and leaves

@@ -1,11 +1,10 @@
 -- "Turned back, by whom it is caused": document 01's number of each refusal. Assumes nothing.
-use Rattle.std.specs.Prelude.{ℕ}
+use Rattle.std.specs.Prelude.{ℕ, Result, Ok, Err}
 use Rattle.refusal.specs.Fault.{Fault, none, fault}
 use Rattle.refusal.specs.declared.Refusal.{Refusal}
 use Rattle.refusal.specs.declared.Refusal.TheVariants.{CutOff, WrongField, WrongVersion, TooManyPairs, LeftOver, OutOfRange, RepeatedId, NotAShuffle, TooShort, NotCompatibility}
 use Rattle.refusal.specs.declared.Refusal.TheVariants.{SharedId, TooManyTogether, FloorTooHigh, WrongPoints, DifferentPoints, UnknownId, WeightlessEdge}
-use Rattle.refusal.specs.declared.Verdict.{Verdict}
-use Rattle.refusal.specs.declared.Verdict.TheVariants.{Sound, Faulty}
+use Rattle.refusal.specs.declared.Refused.{Refused}
 
 abbrev pub number_of : Refusal → ℕ
 number_of CutOff = 1
@@ -27,7 +26,16 @@ number_of DifferentPoints = 15
 number_of UnknownId = 16
 number_of WeightlessEdge = 17
 
+-- a refusal with its place
+abbrev pub refused_at : Refusal → ℕ → Refused
+refused_at why o = record { why = why; place = o }
+
 -- what a check found, as a fault with a place
-unfoldable pub fault_at : ℕ → Verdict → Fault
-fault_at o Sound = none
-fault_at o (Faulty why) = fault (number_of why) o
+unfoldable pub fault_at : ℕ → Result Unit Refusal → Fault
+fault_at o (Ok _) = none
+fault_at o (Err why) = fault (number_of why) o
+
+-- what a search found that tells a place too
+unfoldable pub found_fault : Result Unit Refused → Fault
+found_fault (Ok _) = none
+found_fault (Err r) = fault (number_of r.why) r.place

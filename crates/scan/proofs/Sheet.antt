@@ -4,26 +4,10 @@ use mathlib.Core.List.{List}
 use Prim.Native.Nat.{ℕ, ◌≤◌, ◌<◌}
 use borrow.Author.Tests.{lt-ltb, le-ltb}
 use lib.ListN.{length}
-use Rattle.refusal.specs.Fault.{Fault, none, fault, ◌then◌, first_below}
-use Rattle.refusal.specs.Number.{number_of}
-use Rattle.refusal.specs.declared.Refusal.{Refusal}
+use Rattle.refusal.specs.Fault.{none, fault, ◌then◌, first_below}
 use Rattle.refusal.proofs.Faults.{none_then, fault_then, none_refuse, fault_refuse}
 use Rattle.pool.specs.Sheet.{version_in, pairs_in, sheet_length}
 use Rattle.pool.specs.Faults.{head_fault, points_field_fault, pair_field_fault, shuffle_field_fault, end_fault, sheet_fault}
-use Rattle.scan.specs.declared.Found.{Found}
-use Rattle.scan.specs.declared.Found.TheVariants.{Nothing, Fault as FaultAt}
-use Rattle.scan.specs.Answers.{found_fault}
-
--- ## What a search found
-
-module _ (r : Found) {f : Fault} (e : found_fault r ≡ f) where
-  pub nothing_none : r ≡ Nothing → f ≡ none
-  unfolding found_fault
-  nothing_none s = sym e ∙ rw s
-
-  pub found_fault_lem : (why : Refusal) (o : ℕ) → r ≡ FaultAt why o → f ≡ fault (number_of why) o
-  unfolding found_fault
-  found_fault_lem why o s = sym e ∙ rw s
 
 -- ## The sheet: the head, which says n pairs, the points, the pairs, the shuffle, and 5
 

@@ -1,3 +1,2 @@
--- What a search found in document 01's numbers, and what its steps ask.
-pub mod Answers
+-- What the steps of the search ask.
 pub mod Preconditions

@@ -3,47 +3,34 @@
 
 ghost use Rattle.std.specs.Prelude.{◌≡◌, ◌+◌, ◌≤◌, ◌<◌, length};
 ghost use Rattle.refusal.specs.Fault.{first_below};
-ghost use Rattle.refusal.specs.Number.{fault_at};
+ghost use Rattle.refusal.specs.Number.{fault_at, found_fault};
 ghost use Rattle.pool.specs.Sheet.{points_place, pair_size, pair_place, version_in, pair_at, pair_due};
 ghost use Rattle.pool.specs.Faults.{pair_fault, points_field_fault, pair_field_fault, shuffle_field_fault, sheet_fault};
-ghost use Rattle.scan.specs.Answers.{found_fault};
 ghost use Rattle.scan.specs.Preconditions.{Noted};
 
-use refusal::{Refusal, Verdict};
-
-// What a search for a fault finds: nothing, or the first refusal and its place.
-#[derive(Clone, Copy)]
-pub enum Found {
-    Nothing,
-    Fault(Refusal, usize),
-}
+use refusal::{At, Refusal, Refused};
 
 // Version 2's points: their field, then 14. Version 1 has none.
-fn points_field(b: &[u8], version: u16) -> Verdict
+fn points_field(b: &[u8], version: u16) -> Result<(), Refusal>
     requires { version ≡ version_in b.now }
     ensures { fault_at points_place result ≡ points_field_fault b.now }
 {
     if !layout::has_points(version) {
-        return Verdict::Sound;
+        return Ok(());
     }
-    match framing::field(
+    framing::field(
         b,
         layout::POINTS_PLACE,
         layout::POINTS_TAG,
         layout::POINTS_LENGTH,
-    ) {
-        Verdict::Faulty(why) => {
-            return Verdict::Faulty(why);
-        }
-        Verdict::Sound => {}
-    }
+    )?;
     let mut table = [0u16; 6];
     columns::fill_numbers(b, layout::POINTS_PLACE, layout::POINTS, &mut table);
     points::judge(points::own(&table))
 }
 
 // 6 and 7 of pair i, whose field is whole and whose id stands at i of `ids`, after those of the earlier pairs.
-fn pair_value(b: &[u8], version: u16, i: usize, ids: &[u32]) -> Verdict
+fn pair_value(b: &[u8], version: u16, i: usize, ids: &[u32]) -> Result<(), Refusal>
     requires { (i < 200) × (version ≡ version_in b.now) × (pair_place version i + pair_size ≤ length b.now) × Noted b.now (i + 1) ids.now }
     ensures { let o = pair_due b.now i in
         fault_at o result ≡ pair_fault o (pair_at b.now) i }
@@ -60,83 +47,46 @@ fn pair_value(b: &[u8], version: u16, i: usize, ids: &[u32]) -> Verdict
 }
 
 // The fields of the pairs, one after another. The ids passed are noted, each to be held to the earlier ones.
-fn pairs(b: &[u8], version: u16, n: usize) -> Found
+fn pairs(b: &[u8], version: u16, n: usize) -> Result<(), Refused>
     requires { (n ≤ 200) × (version ≡ version_in b.now) }
     ensures { found_fault result ≡ first_below n (pair_field_fault b.now) }
 {
     let mut ids = [0u32; 200];
-    let mut i: usize = 0;
-    while i < n {
+    for i in 0..n {
         let place = layout::pair_place(version, i);
-        match framing::field(b, place, layout::PAIR_TAG, layout::PAIR_LENGTH) {
-            Verdict::Faulty(why) => {
-                return Found::Fault(why, place);
-            }
-            Verdict::Sound => {}
-        }
+        framing::field(b, place, layout::PAIR_TAG, layout::PAIR_LENGTH).at(place)?;
         ids[i] = framing::number(b, place + layout::ID_AT, 4) as u32;
-        match pair_value(b, version, i, &ids) {
-            Verdict::Faulty(why) => {
-                return Found::Fault(why, place);
-            }
-            Verdict::Sound => {}
-        }
-        i += 1;
+        pair_value(b, version, i, &ids).at(place)?;
     }
-    Found::Nothing
+    Ok(())
 }
 
 // The shuffle's field, then 8.
-fn shuffle_field(b: &[u8], version: u16, n: usize) -> Verdict
+fn shuffle_field(b: &[u8], version: u16, n: usize) -> Result<(), Refusal>
     requires { (n ≤ 200) × (version ≡ version_in b.now) }
     ensures { fault_at (pair_due b.now n) result ≡ shuffle_field_fault b.now n }
 {
     let o = layout::pair_place(version, n);
-    match framing::field(b, o, layout::SHUFFLE_TAG, 2 * n) {
-        Verdict::Faulty(why) => {
-            return Verdict::Faulty(why);
-        }
-        Verdict::Sound => {}
-    }
+    framing::field(b, o, layout::SHUFFLE_TAG, 2 * n)?;
     let mut drawn = [0u16; 200];
     columns::fill_numbers(b, o, n, &mut drawn);
     checks::shuffle(&drawn, n)
 }
 
 // The first fault of a sheet.
-pub fn check(b: &[u8]) -> Found
+pub fn check(b: &[u8]) -> Result<(), Refused>
     ensures { found_fault result ≡ sheet_fault b.now }
 {
-    match framing::head(b) {
-        Verdict::Faulty(why) => {
-            return Found::Fault(why, 0);
-        }
-        Verdict::Sound => {}
-    }
+    framing::head(b).at(0)?;
     let version = framing::version_in(b);
-    match points_field(b, version) {
-        Verdict::Faulty(why) => {
-            return Found::Fault(why, layout::POINTS_PLACE);
-        }
-        Verdict::Sound => {}
-    }
+    points_field(b, version).at(layout::POINTS_PLACE)?;
     let n = framing::pairs_in(b);
-    match pairs(b, version, n) {
-        Found::Fault(why, place) => {
-            return Found::Fault(why, place);
-        }
-        Found::Nothing => {}
-    }
-    let o = layout::pair_place(version, n);
-    match shuffle_field(b, version, n) {
-        Verdict::Faulty(why) => {
-            return Found::Fault(why, o);
-        }
-        Verdict::Sound => {}
-    }
+    pairs(b, version, n)?;
+    let place = layout::pair_place(version, n);
+    shuffle_field(b, version, n).at(place)?;
     let end = layout::sheet_length(version, n);
     if end < b.len() {
-        return Found::Fault(Refusal::LeftOver, end);
+        return Err(Refusal::LeftOver.at(end));
     }
-    Found::Nothing
+    Ok(())
 }

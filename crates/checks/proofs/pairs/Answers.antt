@@ -2,48 +2,37 @@
 use mathlib.Core.Path.{refl}
 use native.Mathlib.Omega.{arith}
 use Rattle.refusal.specs.Fault.{first_below}
-use Rattle.refusal.proofs.Faults.{first_more, sound_none}
+use Rattle.refusal.proofs.Faults.{first_more, sound_none, handed_on}
 use Rattle.checks.proofs.Found.{agree_in, pairs_before, before_fits, pairs_found, pairs_sound}
 use Rattle.checks.proofs.pairs.Goals as goal
 
-pub returns-in-Faulty : goal.returns-in-Faulty
-returns-in-Faulty c f g h =
-    let d = c in
-    pairs_before _ _ _ _ _ d.ready.result d.ready.ensures _ c.in-Faulty.is
+pub returns-in_err-ready : goal.returns-in_err-ready
+returns-in_err-ready c f g h =
+    rw (handed_on _ _ c.from_residual.ensures) (pairs_before _ _ _ _ _ c.ready.result c.ready.ensures _ c.in_err-ready.was)
 
 pub loop-i-init : goal.loop-i-init
 unfolding first_below
 loop-i-init c =
-    let d = c in
-    let fits = before_fits _ _ _ _ d.ready.result d.ready.ensures c.in-Sound.is in
-    (omega arith, fits.0, fits.1, λ f g h. refl)
+    let fits = before_fits _ _ _ _ c.ready.result c.ready.ensures c.in_ok-ready.was in
+    (fits.0, fits.1, λ f g h. refl)
 
-pub returns-in-Faulty-pair : goal.returns-in-Faulty-pair
-returns-in-Faulty-pair c f g h =
-    let d = c in
-    let t = d in
-    let l = t.loop-i in
-    let told = t in
-    let b = told in
-    pairs_found _ _ _ _ _ b.ready.result b.ready.ensures told.in-Sound.is l.i t.loop-i-test.true (l.invariant.3 f g h)
-    d.pair.result (d.pair.ensures 0 _ (agree_in _ _ _ _ _ f g h l.i)) _ c.in-Faulty-pair.is
+pub returns-in_err-pair : goal.returns-in_err-pair
+returns-in_err-pair c f g h =
+    let l = c.loop-i in
+    rw (handed_on _ _ c.from_residual-in_err-pair.ensures)
+    (pairs_found _ _ _ _ _ c.ready.result c.ready.ensures c.in_ok-ready.was l.i (omega arith) (l.invariant.2 f g h)
+    c.pair.result (c.pair.ensures 0 _ (agree_in _ _ _ _ _ f g h l.i)) _ c.in_err-pair.was)
 
 pub loop-i-preserved : goal.loop-i-preserved
 loop-i-preserved c =
-    let d = c in
-    let at-loop = d in
-    let l = at-loop.loop-i in (
-      omega arith,
+    let l = c.loop-i in (
+      l.invariant.0,
       l.invariant.1,
-      l.invariant.2,
       λ f g h.
-          first_more l.i _ (l.invariant.3 f g h)
-          (sound_none 0 d.pair.result (d.pair.ensures 0 _ (agree_in _ _ _ _ _ f g h l.i)) c.in-Sound-pair.is),
+          first_more l.i _ (l.invariant.2 f g h)
+          (sound_none 0 c.pair.result (c.pair.ensures 0 _ (agree_in _ _ _ _ _ f g h l.i)) c.in_ok-pair.was),
     )
 
 pub returns : goal.returns
 returns c f g h =
-    let l = c.loop-i in
-    let told = c in
-    let b = told in
-    pairs_sound _ _ _ _ _ b.ready.result b.ready.ensures told.in-Sound.is l.i (omega arith) (l.invariant.3 f g h)
+    pairs_sound _ _ _ _ _ c.ready.result c.ready.ensures c.in_ok-ready.was c.loop-i.i (omega arith) (c.loop-i.invariant.2 f g h)

@@ -1,6 +1,6 @@
 -- `checks::ready` meets its contract. Assumes nothing.
 use mathlib.Core.Path.{refl, sym, ◌∙◌}
-use Rattle.refusal.proofs.Faults.{sound_none}
+use Rattle.refusal.proofs.Faults.{sound_none, handed_on}
 use Rattle.pool.proofs.Reading.{tables_passed}
 use Rattle.checks.proofs.Found.{before_version, before_many, before_tables, before_points}
 use Rattle.checks.proofs.ready.Goals as goal
@@ -15,19 +15,20 @@ pub judge_points-requires : goal.judge_points-requires
 judge_points-requires c =
     let d = c in
     let s = d in
-    (tables_passed _ _ _ s.args.points.now (sound_none 0 d.tables.result (d.tables.ensures _ refl) c.in-Sound.is)).1
+    (tables_passed _ _ _ s.args.points.now (sound_none 0 d.tables.result (d.tables.ensures _ refl) c.in_ok-tables.was)).1
 
-pub returns-in-Faulty : goal.returns-in-Faulty
-returns-in-Faulty c =
+pub returns-in_err-tables : goal.returns-in_err-tables
+returns-in_err-tables c =
     let d = c in
     let few = d in
-    before_tables _ _ _ _ (sym few.known.ensures ∙ few.if-not-known.false) few.if-n-gt200.false d.tables.result
-    (d.tables.ensures _ refl) _ c.in-Faulty.is
+    rw (handed_on _ _ c.from_residual.ensures)
+    (before_tables _ _ _ _ (sym few.known.ensures ∙ few.if-not-known.false) few.if-n-gt200.false d.tables.result
+    (d.tables.ensures _ refl) _ c.in_err-tables.was)
 
-pub returns-in-Sound : goal.returns-in-Sound
-returns-in-Sound c =
+pub returns : goal.returns
+returns c =
     let told = c in
     let d = told in
     let few = d in
     before_points _ _ _ _ (sym few.known.ensures ∙ few.if-not-known.false) few.if-n-gt200.false d.tables.result
-    (d.tables.ensures _ refl) told.in-Sound.is c.judge_points.result (c.judge_points.ensures 0)
+    (d.tables.ensures _ refl) told.in_ok-tables.was c.judge_points.result (c.judge_points.ensures 0)

@@ -12,31 +12,23 @@ use Rattle.pool.specs.Faults.{shuffle_fault}
 use Rattle.checks.proofs.shuffle.Invariants.{missed}
 use Rattle.checks.proofs.shuffle.Goals as goal
 
-pub loop-v-init : goal.loop-v-init
-unfolding any_below
-loop-v-init c = (omega arith, refl)
-
 pub returns-then-times-ne1 : goal.returns-then-times-ne1
 unfolding fault_at shuffle_fault
 returns-then-times-ne1 c o =
-    let at-loop = c in
-    let s = at-loop.args in
-    let l = at-loop.loop-v in
-    let h : missed s.s.now s.n l.v ≡ _ = ap not (ne_eqb _ 1 (λ e. c.if-times-ne1.true (c.times.ensures ∙ e))) in
-    sym (fault_refuse 8 o _ (any_hit s.n (missed s.s.now s.n) l.v c.loop-v-test.true h))
+    let a = c.args in
+    let h : missed a.s.now a.n c.loop-v.v ≡ _ = ap not (ne_eqb _ 1 (λ e. c.if-times-ne1.true (c.times.ensures ∙ e))) in
+    sym (fault_refuse 8 o _ (any_hit a.n (missed a.s.now a.n) c.loop-v.v (omega arith) h))
 
 pub loop-v-preserved : goal.loop-v-preserved
 loop-v-preserved c =
-    let at-loop = c in
-    let s = at-loop.args in
-    let l = at-loop.loop-v in
-    let h = ap not (eq-eqb _ 1 (sym c.times.ensures ∙ c.if-times-ne1.false)) in
-    (omega arith, any_more l.v (missed s.s.now s.n) l.invariant.1 h)
+    any_more c.loop-v.v (missed c.args.s.now c.args.n) c.loop-v.invariant (ap not (eq-eqb _ 1 (sym c.times.ensures ∙ c.if-times-ne1.false)))
+
+pub loop-v-init : goal.loop-v-init
+unfolding any_below
+loop-v-init c = refl
 
 pub returns : goal.returns
 unfolding fault_at shuffle_fault
 returns c o =
-    let s = c.args in
-    let l = c.loop-v in
-    let e : s.n ≡ l.v = omega arith in
-    sym (none_refuse 8 o _ (ap (λ (k : ℕ). any_below k (missed s.s.now s.n)) e ∙ l.invariant.1))
+    let e : c.args.n ≡ c.loop-v.v = omega arith in
+    sym (none_refuse 8 o _ (ap (λ (k : ℕ). any_below k (missed c.args.s.now c.args.n)) e ∙ c.loop-v.invariant))

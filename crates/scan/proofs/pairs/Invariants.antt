@@ -1,5 +1,4 @@
 -- `scan::pairs` meets its contract. The loop's invariant: the first i pairs have no fault, and their ids are noted. Assumes nothing.
-use Prim.Native.Nat.{◌-◌, ◌≤◌}
 use mathlib.Core.Path.{◌≡◌}
 use lib.ListN.{length}
 use Rattle.refusal.specs.Fault.{none, first_below}
@@ -8,7 +7,4 @@ use Rattle.scan.specs.Preconditions.{Noted}
 use Rattle.scan.proofs.pairs.Given as goal
 
 abbrev pub invariant-loop-i : goal.invariant-loop-i
-invariant-loop-i l = (l.i ≤ l.n) × (length l.ids ≡ 200) × Noted l.b l.i l.ids × (first_below l.i (pair_field_fault l.b) ≡ none)
-
-abbrev pub decreases-loop-i : goal.decreases-loop-i
-decreases-loop-i l = l.n - l.i
+invariant-loop-i l = (length l.ids ≡ 200) × Noted l.b l.i l.ids × (first_below l.i (pair_field_fault l.b) ≡ none)

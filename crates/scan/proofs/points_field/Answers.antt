@@ -8,7 +8,7 @@ use Rattle.laws.specs.Lent.{filled}
 use Rattle.laws.proofs.Lent.{filled_at}
 use Rattle.refusal.specs.Fault.{only}
 use Rattle.refusal.specs.Number.{fault_at}
-use Rattle.refusal.proofs.Faults.{sound_none, sound_then, faulty_then}
+use Rattle.refusal.proofs.Faults.{sound_none, sound_then, faulty_then, handed_on}
 use Rattle.pool.specs.Points.{registry_points, has_points, points_by}
 use Rattle.pool.specs.Sheet.{points_place, version_in, point_at}
 use Rattle.pool.specs.Tables.{item_in}
@@ -28,16 +28,16 @@ returns-then-not-has_points c =
     ap has_points (sym c.requires) ∙ sym c.has_points.ensures in
     rw (tested ∙ c.if-not-has_points.true)
 
-pub returns-in-Faulty : goal.returns-in-Faulty
+pub returns-in_err-field : goal.returns-in_err-field
 unfolding fault_at points_field_fault only
-returns-in-Faulty c =
+returns-in_err-field c =
     let tested : has_points (version_in c.args.b.now) ≡ c.has_points.result =
     ap has_points (sym c.requires) ∙ sym c.has_points.ensures in
-    rw (tested ∙ c.if-not-has_points.false) (faulty_then _ _ _ _ c.field.ensures _ c.in-Faulty.is)
+    rw (tested ∙ c.if-not-has_points.false, handed_on _ _ c.from_residual.ensures) (faulty_then _ _ _ _ c.field.ensures _ c.in_err-field.was)
 
 pub fill_numbers-requires : goal.fill_numbers-requires
 fill_numbers-requires c =
-    let w = field_passed _ _ _ _ (sound_none _ _ c.field.ensures c.in-Sound.is) in
+    let w = field_passed _ _ _ _ (sound_none _ _ c.field.ensures c.in_ok-field.was) in
     (search rules, w.whole, search rules)
 
 pub returns : goal.returns
@@ -46,5 +46,5 @@ returns c =
     let tested : has_points (version_in c.args.b.now) ≡ c.has_points.result =
     ap has_points (sym c.requires) ∙ sym c.has_points.ensures in
     rw (tested ∙ c.if-not-has_points.false)
-    (sound_then _ _ _ _ c.field.ensures c.in-Sound.is
+    (sound_then _ _ _ _ c.field.ensures c.in_ok-field.was
     (c.judge.ensures _ ∙ ap (points_fault points_place) (c.own.ensures ∙ points_read _ _ _ c.fill_numbers.ensures)))
