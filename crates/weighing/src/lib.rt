@@ -11,14 +11,7 @@ ghost use Rattle.weighing.specs.Building.{build_fault, building};
 ghost use Rattle.weighing.specs.Answers.{answer_of};
 ghost use Rattle.weighing.specs.Promises.{BuildsRightly};
 
-use refusal::{Refusal, Verdict};
-
-// What building answers: the tables are built, or the refusal.
-#[derive(Clone, Copy)]
-pub enum Building {
-    Built,
-    Refused(Refusal),
-}
+use refusal::Refusal;
 
 // 3, 4, 9, 14, 6 and 7 of the fields and the points; then 9 of the tables to be filled, by their lengths.
 fn judge(
@@ -35,7 +28,7 @@ fn judge(
     patient_antibodies: &[u64],
     compatibilities: usize,
     weights: usize,
-) -> Verdict
+) -> Result<(), Refusal>
     ensures { let f = lent_fields ids donor_blood patient_blood donor_age patient_age donor_antigens patient_antigens patient_antibodies in
         fault_at 0 result ≡ build_fault version n points.now f.entry compatibilities weights }
 {
@@ -49,7 +42,7 @@ fn judge(
         patient_antigens.len(),
         patient_antibodies.len(),
     );
-    match checks::pairs(
+    checks::pairs(
         version,
         n,
         space,
@@ -59,21 +52,16 @@ fn judge(
         patient_blood,
         donor_age,
         patient_age,
-    ) {
-        Verdict::Faulty(why) => {
-            return Verdict::Faulty(why);
-        }
-        Verdict::Sound => {}
-    }
+    )?;
     // N is at most 200 here, so the product fits.
     let entries = n * n;
     if compatibilities < entries {
-        return Verdict::Faulty(Refusal::TooShort);
+        return Err(Refusal::TooShort);
     }
     if weights < entries {
-        return Verdict::Faulty(Refusal::TooShort);
+        return Err(Refusal::TooShort);
     }
-    Verdict::Sound
+    Ok(())
 }
 
 // Builds the tables M and W, N rows of N, from the first N entries of a pool's fields. Version 2 is weighed by the six points lent, version 1 by
@@ -92,7 +80,7 @@ pub fn build(
     patient_antibodies: &[u64],
     compatibilities: &mut [u8],
     weights: &mut [u16],
-) -> Building
+) -> Result<(), Refusal>
     ensures equals { let f = lent_fields ids donor_blood patient_blood donor_age patient_age donor_antigens patient_antigens patient_antibodies in
         let g = lent_graph compatibilities weights in
         let p = points.now in
@@ -102,7 +90,7 @@ pub fn build(
         let p = points.now in
         BuildsRightly version n p f.entry g.entry (outcome (answer_of result) g.exit) }
 {
-    match judge(
+    judge(
         version,
         n,
         points,
@@ -116,23 +104,20 @@ pub fn build(
         patient_antibodies,
         compatibilities.len(),
         weights.len(),
-    ) {
-        Verdict::Faulty(why) => Building::Refused(why),
-        Verdict::Sound => {
-            graph::fill(
-                donation::points_of(version, points),
-                n,
-                donor_blood,
-                patient_blood,
-                donor_age,
-                patient_age,
-                donor_antigens,
-                patient_antigens,
-                patient_antibodies,
-                compatibilities,
-                weights,
-            );
-            Building::Built
-        }
-    }
+    )?;
+    graph::fill(
+        donation::points_of(version, points),
+        n,
+        donor_blood,
+        patient_blood,
+        donor_age,
+        patient_age,
+        donor_antigens,
+        patient_antigens,
+        patient_antibodies,
+        compatibilities,
+        weights,
+    );
+    // Both tables are filled.
+    Ok(())
 }

@@ -18,14 +18,7 @@ ghost use Rattle.pool.specs.Faultless.{FieldsHold, TablesHold};
 ghost use Rattle.pool.specs.Promises.{WritesRightly};
 ghost use Rattle.writer.specs.Answers.{answer_of};
 
-use refusal::{Refusal, Verdict};
-
-// What writing a sheet answers: its length, or the refusal, whose place is 0.
-#[derive(Clone, Copy)]
-pub enum Writing {
-    Length(usize),
-    Refused(Refusal),
-}
+use refusal::Refusal;
 
 // What stands before the pairs: the head, and the points of version 2.
 fn put_opening(out: &mut [u8], version: u16, n: usize, points: &[u16])
@@ -67,8 +60,7 @@ fn put_pairs(
         donor_antigens patient_antigens patient_antibodies in
         out.new ≡ stored (first_pair version) (flat_map pair_field (table n (pair_in f.entry))) out.old }
 {
-    let mut i: usize = 0;
-    while i < n {
+    for i in 0..n {
         encoding::put_pair(
             out,
             layout::pair_place(version, i),
@@ -81,7 +73,6 @@ fn put_pairs(
             patient_antigens[i],
             patient_antibodies[i],
         );
-        i += 1;
     }
 }
 
@@ -146,7 +137,7 @@ fn judge(
     patient_antigens: &[u64],
     patient_antibodies: &[u64],
     shuffle: &[u16],
-) -> Verdict
+) -> Result<(), Refusal>
     ensures { let t = lent_tables points ids donor_blood patient_blood donor_age patient_age
         donor_antigens patient_antigens patient_antibodies shuffle in
         fault_at 0 result ≡ pool_fault version n t.entry }
@@ -161,8 +152,8 @@ fn judge(
         patient_antigens.len(),
         patient_antibodies.len(),
     );
-    let shortest = checks::lesser(held, shuffle.len());
-    match checks::pairs(
+    let shortest = held.min(shuffle.len());
+    checks::pairs(
         version,
         n,
         shortest,
@@ -172,13 +163,12 @@ fn judge(
         patient_blood,
         donor_age,
         patient_age,
-    ) {
-        Verdict::Faulty(why) => Verdict::Faulty(why),
-        Verdict::Sound => checks::shuffle(shuffle, n),
-    }
+    )?;
+    checks::shuffle(shuffle, n)
 }
 
-// Writes the pool of this version in the first n entries of the tables into the lent buffer. Of version 1 the points are not looked at.
+// Writes the pool of this version in the first n entries of the tables into the lent buffer, and gives the sheet's length; a refusal has place 0. Of version 1
+// the points are not looked at.
 pub fn write(
     version: u16,
     n: usize,
@@ -193,7 +183,7 @@ pub fn write(
     patient_antibodies: &[u64],
     shuffle: &[u16],
     out: &mut [u8],
-) -> Writing
+) -> Result<usize, Refusal>
     ensures equals { let t = lent_tables points ids donor_blood patient_blood donor_age patient_age
         donor_antigens patient_antigens patient_antibodies shuffle in
         outcome (answer_of result) out.new ≡ writing version n t.entry out.old }
@@ -201,7 +191,7 @@ pub fn write(
         donor_antigens patient_antigens patient_antibodies shuffle in
         WritesRightly version n t.entry out.old (outcome (answer_of result) out.new) }
 {
-    match judge(
+    judge(
         version,
         n,
         points,
@@ -214,15 +204,10 @@ pub fn write(
         patient_antigens,
         patient_antibodies,
         shuffle,
-    ) {
-        Verdict::Faulty(why) => {
-            return Writing::Refused(why);
-        }
-        Verdict::Sound => {}
-    }
+    )?;
     let length = layout::sheet_length(version, n);
     if out.len() < length {
-        return Writing::Refused(Refusal::TooShort);
+        return Err(Refusal::TooShort);
     }
     put_sheet(
         out,
@@ -239,5 +224,5 @@ pub fn write(
         patient_antibodies,
         shuffle,
     );
-    Writing::Length(length)
+    Ok(length)
 }

@@ -36,7 +36,7 @@ number-id-requires c =
 
 pub loop-j-init : goal.loop-j-init
 unfolding any_below
-loop-j-init c = (omega arith, refl)
+loop-j-init c = refl
 
 pub overflow_cast-id : goal.overflow_cast-id
 overflow_cast-id c =
@@ -60,7 +60,7 @@ returns-then-among c =
     let m = c.pairs_in-m in
     sym
     (any_hit m.result (again s.first.now n.result s.second.now) c.loop-j.j
-    c.loop-j-test.true (sym found ∙ c.if-among.true))
+    (omega arith) (sym found ∙ c.if-among.true))
     ∙ in_both _ _ _ _ n.ensures m.ensures
 
 pub loop-j-preserved : goal.loop-j-preserved
@@ -77,7 +77,7 @@ loop-j-preserved c =
     (rw (← due) c.number-id.ensures)) in
     let s = c.args in
     let n = c.pairs_in-n.result in
-    (omega arith, any_more c.loop-j.j (again s.first.now n s.second.now) c.loop-j.invariant.1 (sym found ∙ c.if-among.false))
+    any_more c.loop-j.j (again s.first.now n s.second.now) c.loop-j.invariant (sym found ∙ c.if-among.false)
 
 pub returns : goal.returns
 returns c =
@@ -86,6 +86,6 @@ returns c =
     let m = c.pairs_in-m in
     let l = c.loop-j in
     let e : l.j ≡ m.result = omega arith in
-    sym l.invariant.1
+    sym l.invariant
     ∙ ap (λ (k : ℕ). any_below k (again s.first.now n.result s.second.now)) e
     ∙ in_both _ _ _ _ n.ensures m.ensures

@@ -2,6 +2,7 @@
 use mathlib.Core.Path.{◌≡◌}
 use native.Mathlib.Omega.{arith}
 use Rattle.pool.specs.Tables.{Tables, fields, tables, field_room, room}
+use Rattle.refusal.proofs.Faults.{handed_on}
 use Rattle.writer.proofs.Judged.{shortest_room, room_spaced, judged_pairs, judged-held, judged_shuffle}
 use Rattle.writer.proofs.judge.Goals as goal
 
@@ -12,9 +13,9 @@ pairs-requires c =
     tables c.args.points.now
     (fields c.args.ids.now c.args.donor_blood.now c.args.patient_blood.now c.args.donor_age.now c.args.patient_age.now
     c.args.donor_antigens.now c.args.patient_antigens.now c.args.patient_antibodies.now) c.args.shuffle.now in
-    let shortest : c.lesser-shortest.result ≡ room given =
-    shortest_room given c.room-held.result c.lesser-shortest.result c.room-held.ensures c.lesser-shortest.ensures in
-    room_spaced given c.lesser-shortest.result shortest
+    let shortest : c.min-shortest.result ≡ room given =
+    shortest_room given c.room-held.result c.min-shortest.result c.room-held.ensures c.min-shortest.ensures in
+    room_spaced given c.min-shortest.result shortest
 
 pub shuffle-requires : goal.shuffle-requires
 unfolding field_room
@@ -23,29 +24,30 @@ shuffle-requires c =
     tables c.args.points.now
     (fields c.args.ids.now c.args.donor_blood.now c.args.patient_blood.now c.args.donor_age.now c.args.patient_age.now
     c.args.donor_antigens.now c.args.patient_antigens.now c.args.patient_antibodies.now) c.args.shuffle.now in
-    let shortest : c.lesser-shortest.result ≡ room given =
-    shortest_room given c.room-held.result c.lesser-shortest.result c.room-held.ensures c.lesser-shortest.ensures in
-    omega (arith, judged-held c.args.version c.args.n given _ shortest c.pairs.result (c.pairs.ensures _ _ _) c.in-Sound.is)
+    let shortest : c.min-shortest.result ≡ room given =
+    shortest_room given c.room-held.result c.min-shortest.result c.room-held.ensures c.min-shortest.ensures in
+    omega (arith, judged-held c.args.version c.args.n given _ shortest c.pairs.result (c.pairs.ensures _ _ _) c.in_ok-pairs.was)
 
-pub returns-in-Faulty : goal.returns-in-Faulty
+pub returns-in_err-pairs : goal.returns-in_err-pairs
 unfolding field_room
-returns-in-Faulty c =
+returns-in_err-pairs c =
     let given : Tables =
     tables c.args.points.now
     (fields c.args.ids.now c.args.donor_blood.now c.args.patient_blood.now c.args.donor_age.now c.args.patient_age.now
     c.args.donor_antigens.now c.args.patient_antigens.now c.args.patient_antibodies.now) c.args.shuffle.now in
-    let shortest : c.lesser-shortest.result ≡ room given =
-    shortest_room given c.room-held.result c.lesser-shortest.result c.room-held.ensures c.lesser-shortest.ensures in
-    judged_pairs c.args.version c.args.n given _ shortest c.pairs.result (c.pairs.ensures _ _ _) _ c.in-Faulty.is
+    let shortest : c.min-shortest.result ≡ room given =
+    shortest_room given c.room-held.result c.min-shortest.result c.room-held.ensures c.min-shortest.ensures in
+    rw (handed_on _ _ c.from_residual.ensures)
+    (judged_pairs c.args.version c.args.n given _ shortest c.pairs.result (c.pairs.ensures _ _ _) _ c.in_err-pairs.was)
 
-pub returns-in-Sound : goal.returns-in-Sound
+pub returns : goal.returns
 unfolding field_room
-returns-in-Sound c =
+returns c =
     let given : Tables =
     tables c.args.points.now
     (fields c.args.ids.now c.args.donor_blood.now c.args.patient_blood.now c.args.donor_age.now c.args.patient_age.now
     c.args.donor_antigens.now c.args.patient_antigens.now c.args.patient_antibodies.now) c.args.shuffle.now in
-    let shortest : c.lesser-shortest.result ≡ room given =
-    shortest_room given c.room-held.result c.lesser-shortest.result c.room-held.ensures c.lesser-shortest.ensures in
-    judged_shuffle c.args.version c.args.n given _ shortest c.pairs.result (c.pairs.ensures _ _ _) c.in-Sound.is
+    let shortest : c.min-shortest.result ≡ room given =
+    shortest_room given c.room-held.result c.min-shortest.result c.room-held.ensures c.min-shortest.ensures in
+    judged_shuffle c.args.version c.args.n given _ shortest c.pairs.result (c.pairs.ensures _ _ _) c.in_ok-pairs.was
     c.shuffle.result (c.shuffle.ensures 0)
