@@ -15,6 +15,7 @@ ghost use Rattle.answers.specs.Answering.{plan_by, printed_plan_of, putting};
 ghost use Rattle.answers.specs.Promises.{AnswersSheet};
 ghost use Rattle.answering.specs.Preconditions.{Read};
 
+use fields::Fields;
 use printout::Printing;
 use reader::Reading;
 use refusal::Refusal;
@@ -86,14 +87,16 @@ fn print_pool(
         version,
         n,
         points,
-        ids,
-        donor_blood,
-        patient_blood,
-        donor_age,
-        patient_age,
-        donor_antigens,
-        patient_antigens,
-        patient_antibodies,
+        Fields {
+            ids,
+            donor_blood,
+            patient_blood,
+            donor_age,
+            patient_age,
+            donor_antigens,
+            patient_antigens,
+            patient_antibodies,
+        },
         &mut m,
         &mut w,
     ) {

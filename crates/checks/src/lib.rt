@@ -6,10 +6,12 @@ ghost use Rattle.laws.specs.Below.{any_below, count_below};
 ghost use Rattle.refusal.specs.Number.{fault_at};
 ghost use Rattle.pool.specs.Pool.{Pair};
 ghost use Rattle.pool.specs.Points.{point_count, points_of};
-ghost use Rattle.pool.specs.Tables.{item_in, fields, pair_in};
+ghost use Rattle.pool.specs.Tables.{item_in, pair_in};
 ghost use Rattle.pool.specs.Faults.{group_fault, pair_fault, points_fault, tables_fault, before_fault, pairs_fault, shuffle_fault};
+ghost use Rattle.fields.specs.Lent.{fields_in};
 ghost use Rattle.checks.specs.Preconditions.{PairAgrees, TablesHaveRoom};
 
+use fields::Fields;
 use refusal::{Refusal, Verdict};
 
 // The lesser of two lengths.
@@ -146,16 +148,10 @@ pub fn pairs(
     n: usize,
     space: usize,
     points: &[u16],
-    ids: &[u32],
-    donor_blood: &[u8],
-    patient_blood: &[u8],
-    donor_age: &[u8],
-    patient_age: &[u8],
+    fields: Fields,
 ) -> Verdict
-    requires { TablesHaveRoom space ids.now donor_blood.now patient_blood.now donor_age.now patient_age.now }
-    ensures { (f g h : List ℕ)
-        → fault_at 0 result ≡ pairs_fault version n space points.now (pair_in (fields ids.now donor_blood.now
-        patient_blood.now donor_age.now patient_age.now f g h)) }
+    requires { TablesHaveRoom space (fields_in fields) }
+    ensures { fault_at 0 result ≡ pairs_fault version n space points.now (pair_in (fields_in fields.entry)) }
 {
     match ready(version, n, space, points) {
         Verdict::Faulty(why) => {
@@ -167,11 +163,11 @@ pub fn pairs(
     while i < n {
         match pair(
             i,
-            ids,
-            donor_blood[i],
-            patient_blood[i],
-            donor_age[i],
-            patient_age[i],
+            fields.ids,
+            fields.donor_blood[i],
+            fields.patient_blood[i],
+            fields.donor_age[i],
+            fields.patient_age[i],
         ) {
             Verdict::Faulty(why) => {
                 return Verdict::Faulty(why);

@@ -18,6 +18,7 @@ ghost use Rattle.pool.specs.Faultless.{FieldsHold, TablesHold};
 ghost use Rattle.pool.specs.Promises.{WritesRightly};
 ghost use Rattle.writer.specs.Answers.{answer_of};
 
+use fields::Fields;
 use refusal::{Refusal, Verdict};
 
 // What writing a sheet answers: its length, or the refusal, whose place is 0.
@@ -151,28 +152,18 @@ fn judge(
         donor_antigens patient_antigens patient_antibodies shuffle in
         fault_at 0 result ≡ pool_fault version n t.entry }
 {
-    let held = checks::room(
-        ids.len(),
-        donor_blood.len(),
-        patient_blood.len(),
-        donor_age.len(),
-        patient_age.len(),
-        donor_antigens.len(),
-        patient_antigens.len(),
-        patient_antibodies.len(),
-    );
-    let shortest = checks::lesser(held, shuffle.len());
-    match checks::pairs(
-        version,
-        n,
-        shortest,
-        points,
+    let fields = Fields {
         ids,
         donor_blood,
         patient_blood,
         donor_age,
         patient_age,
-    ) {
+        donor_antigens,
+        patient_antigens,
+        patient_antibodies,
+    };
+    let shortest = checks::lesser(fields.room(), shuffle.len());
+    match checks::pairs(version, n, shortest, points, fields) {
         Verdict::Faulty(why) => Verdict::Faulty(why),
         Verdict::Sound => checks::shuffle(shuffle, n),
     }
