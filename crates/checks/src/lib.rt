@@ -21,26 +21,6 @@ pub fn lesser(x: usize, y: usize) -> usize
     if x < y { x } else { y }
 }
 
-// How many pairs the shortest of the eight tables can hold, by their lengths.
-pub fn room(
-    ids: usize,
-    donor_blood: usize,
-    patient_blood: usize,
-    donor_age: usize,
-    patient_age: usize,
-    donor_antigens: usize,
-    patient_antigens: usize,
-    patient_antibodies: usize,
-) -> usize
-    ensures { result ≡ min ids (min donor_blood (min patient_blood (min donor_age (min patient_age
-        (min donor_antigens (min patient_antigens patient_antibodies)))))) }
-{
-    let tissue = lesser(donor_antigens, lesser(patient_antigens, patient_antibodies));
-    let ages = lesser(donor_age, lesser(patient_age, tissue));
-    let bloods = lesser(donor_blood, lesser(patient_blood, ages));
-    lesser(ids, bloods)
-}
-
 // 6: a blood group above 3 or an age group above 1.
 pub fn groups(donor_blood: u8, patient_blood: u8, donor_age: u8, patient_age: u8) -> Verdict
     ensures { (o : ℕ) → fault_at o result ≡ group_fault o donor_blood patient_blood donor_age patient_age }
@@ -143,13 +123,7 @@ fn ready(version: u16, n: usize, space: usize, points: &[u16]) -> Verdict
 }
 
 // The first n pairs of lent tables, of which the shortest of all has `space` entries, and their points: 3, 4, 9, 14, then 6 and 7 pair by pair.
-pub fn pairs(
-    version: u16,
-    n: usize,
-    space: usize,
-    points: &[u16],
-    fields: Fields,
-) -> Verdict
+pub fn pairs(version: u16, n: usize, space: usize, points: &[u16], fields: Fields) -> Verdict
     requires { TablesHaveRoom space (fields_in fields) }
     ensures { fault_at 0 result ≡ pairs_fault version n space points.now (pair_in (fields_in fields.entry)) }
 {

@@ -25,16 +25,18 @@ use live::{Change, Pair};
 use refusal::{Refusal, Verdict};
 
 // 6 over all pairs, the first n and the new one, and then 7 over them.
-fn pairs(
-    n: usize,
-    fields: Fields,
-    pair: Pair,
-) -> Verdict
+fn pairs(n: usize, fields: Fields, pair: Pair) -> Verdict
     requires { TablesHaveRoom n (fields_in fields) }
     ensures { let stored = pair_in (fields_in fields.entry) in
         fault_at 0 result ≡ (range_fault n stored (named pair) then like_fault n stored (named pair)) }
 {
-    match keeping::groups(n, fields.donor_blood, fields.patient_blood, fields.donor_age, fields.patient_age) {
+    match keeping::groups(
+        n,
+        fields.donor_blood,
+        fields.patient_blood,
+        fields.donor_age,
+        fields.patient_age,
+    ) {
         Verdict::Faulty(why) => {
             return Verdict::Faulty(why);
         }

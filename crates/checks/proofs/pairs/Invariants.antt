@@ -1,5 +1,5 @@
 -- `checks::pairs` meets its contract. The loop's invariant: the pairs passed have no fault. Assumes nothing.
-use Prim.Native.Nat.{ℕ, ◌-◌, ◌≤◌}
+use Prim.Native.Nat.{◌-◌, ◌≤◌}
 use mathlib.Core.Path.{◌≡◌}
 use Rattle.refusal.specs.Fault.{none, first_below}
 use Rattle.pool.specs.Tables.{pair_in}

@@ -7,7 +7,8 @@ use lib.ListN.{length}
 use Rattle.laws.specs.Lent.{stored}
 use Rattle.laws.proofs.Lent.{pieces_none, pieces_more, pieces_all}
 use Rattle.pool.specs.Sheet.{first_pair, pair_size, pair_place, pair_field}
-use Rattle.pool.specs.Tables.{Fields, fields, pair_in}
+use Rattle.pool.specs.Tables.{pair_in}
+use Rattle.fields.specs.Lent.{fields_in}
 use Rattle.pool.specs.Faultless.{FieldsHold}
 use Rattle.pool.proofs.Lengths.{length-pair_field}
 use Rattle.writer.proofs.put_pairs.Goals as goal
@@ -18,9 +19,7 @@ loop-i-init c = (omega arith, pieces_none _ pair_field _ _)
 pub loop-i-preserved : goal.loop-i-preserved
 unfolding pair_in
 loop-i-preserved c =
-    let given : Fields =
-    fields c.args.ids.now c.args.donor_blood.now c.args.patient_blood.now c.args.donor_age.now c.args.patient_age.now
-    c.args.donor_antigens.now c.args.patient_antigens.now c.args.patient_antibodies.now in
+    let given = fields_in c.args.fields in
     let l = c.loop-i in
     let fits : pair_place c.args.version l.i ≤ length c.args.out.now = omega (arith, c.loop-i-test.true, c.requires.n_bound.1) in (
       omega (arith, c.loop-i-test.true),
@@ -35,9 +34,7 @@ shape_of-out c = c.loop-i.invariant.1.kept
 
 pub returns : goal.returns
 returns c =
-    let given : Fields =
-    fields c.args.ids.now c.args.donor_blood.now c.args.patient_blood.now c.args.donor_age.now c.args.patient_age.now
-    c.args.donor_antigens.now c.args.patient_antigens.now c.args.patient_antibodies.now in
+    let given = fields_in c.args.fields in
     let l = c.loop-i in
     pieces_all (first_pair c.args.version) pair_field (pair_in given) c.args.out.now l.i c.args.n l.out l.invariant.1 (omega arith)
 
