@@ -1,6 +1,5 @@
 -- `writer::put_pairs` meets its contract. The invariant: the fields of i pairs are written after the head. Assumes nothing.
-use Prim.Native.Nat.{ℕ, suc, ◌≤◌, ◌<◌}
-use native.Mathlib.Nat.{le_trans}
+use Prim.Native.Nat.{ℕ, ◌≤◌, ◌<◌}
 use mathlib.Core.Path.{ap, ◌∙◌}
 use native.Mathlib.Omega.{arith}
 use lib.ListN.{length}
@@ -9,7 +8,6 @@ use Rattle.laws.proofs.Lent.{pieces_none, pieces_more, pieces_all}
 use Rattle.pool.specs.Sheet.{first_pair, pair_size, pair_place, pair_field}
 use Rattle.pool.specs.Tables.{pair_in}
 use Rattle.fields.specs.Lent.{fields_in}
-use Rattle.pool.specs.Faultless.{FieldsHold}
 use Rattle.pool.proofs.Lengths.{length-pair_field}
 use Rattle.writer.proofs.put_pairs.Goals as goal
 
