@@ -12,6 +12,7 @@ ghost use Rattle.pool.specs.Promises.{ReadsRightly};
 ghost use Rattle.reader.specs.Answers.{answer_of};
 ghost use Rattle.reader.specs.Preconditions.{Fillable};
 
+use fields::Fields;
 use refusal::{At, Refused};
 
 // What a sheet's head says: its version, and N.
@@ -99,17 +100,17 @@ pub fn read(
         donor_antigens patient_antigens patient_antibodies shuffle in
         ReadsRightly sheet.now t.entry (outcome (answer_of result) t.exit) }
 {
-    let held = checks::room(
-        ids.len(),
-        donor_blood.len(),
-        patient_blood.len(),
-        donor_age.len(),
-        patient_age.len(),
-        donor_antigens.len(),
-        patient_antigens.len(),
-        patient_antibodies.len(),
-    );
-    let space = held.min(shuffle.len());
+    let fields = Fields {
+        ids,
+        donor_blood,
+        patient_blood,
+        donor_age,
+        patient_age,
+        donor_antigens,
+        patient_antigens,
+        patient_antibodies,
+    };
+    let space = fields.room().min(shuffle.len());
     let head = judge(sheet, space, points.len())?;
     fill(
         sheet,

@@ -26,6 +26,7 @@ ghost use Rattle.numbers.specs.Numbers.{read_numbers, write_numbers, join_number
 ghost use Rattle.numbers.specs.Promises.{Numbered, NumberedAt0};
 
 use cycle::Cycle;
+use fields::Fields;
 use live::Pair;
 use numbers::{
     BuildAnswer, JoinAnswer, LiveAnswer, PlanAnswer, PrintAnswer, ReadAnswer, WriteAnswer,
@@ -113,14 +114,16 @@ pub extern "C" fn vadivuzhen_write(
         version,
         n,
         points,
-        ids,
-        donor_blood,
-        patient_blood,
-        donor_age,
-        patient_age,
-        donor_antigens,
-        patient_antigens,
-        patient_antibodies,
+        Fields {
+            ids,
+            donor_blood,
+            patient_blood,
+            donor_age,
+            patient_age,
+            donor_antigens,
+            patient_antigens,
+            patient_antibodies,
+        },
         shuffle,
         out,
     );
@@ -177,14 +180,16 @@ pub extern "C" fn vadivuzhen_build(
         version,
         n,
         points,
-        ids,
-        donor_blood,
-        patient_blood,
-        donor_age,
-        patient_age,
-        donor_antigens,
-        patient_antigens,
-        patient_antibodies,
+        Fields {
+            ids,
+            donor_blood,
+            patient_blood,
+            donor_age,
+            patient_age,
+            donor_antigens,
+            patient_antigens,
+            patient_antibodies,
+        },
         compatibilities,
         weights,
     );

@@ -28,7 +28,7 @@ use Rattle.weighing.specs.Promises.{FaultlessFields, Fit, BuildFault}
 
 -- the shortest of the tables is the shortest of those that are looked at, or shorter
 pub held-fields : (space : ℕ) (f : Fields) → FieldsHold space f
-    → TablesHaveRoom space f.ids f.donor_blood f.patient_blood f.donor_age f.patient_age
+    → TablesHaveRoom space f
 held-fields space f h =
     record {
       in_ids = h.ids;
@@ -39,7 +39,7 @@ held-fields space f h =
     }
 
 pub spaced_fields : (space : ℕ) (f : Fields) → space ≡ field_room f
-    → TablesHaveRoom space f.ids f.donor_blood f.patient_blood f.donor_age f.patient_age
+    → TablesHaveRoom space f
 spaced_fields space f e = held-fields space f (field_room_hold space f (rw e (le_refl (field_room f))))
 
 -- tables that hold the pairs and the points are those with room for them

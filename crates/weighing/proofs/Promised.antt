@@ -1,6 +1,6 @@
 -- What is built, and the promise of the call. Assumes nothing.
 use mathlib.Core.Path.{◌≡◌, refl, sym, ap, subst, ◌∙◌}
-use mathlib.Core.List.{List, []}
+use mathlib.Core.List.{List}
 use Prim.Native.Nat.{ℕ}
 use lib.ListN.{length}
 use Rattle.refusal.specs.Answer.{Answer, finished, Outcome, outcome}
@@ -9,7 +9,7 @@ use Rattle.refusal.specs.declared.Refusal.{Refusal}
 use Rattle.std.specs.Prelude.{Result, Ok, Err}
 use Rattle.refusal.proofs.Faults.{sound_none, faulty_fault, unless_none, unless_fault, finished_none, refused_fault}
 use Rattle.pool.specs.Points.{Points}
-use Rattle.pool.specs.Tables.{Fields, fields, pair_in, points_of_table}
+use Rattle.pool.specs.Tables.{Fields, pair_in, points_of_table}
 use Rattle.pool.specs.Faultless.{SoundPoints}
 use Rattle.pool.proofs.Points.{sound_heaviest}
 use Rattle.donation.specs.Compatibility.{compatibility}
@@ -97,13 +97,8 @@ module _ (v n : ℕ) (l : List ℕ) (f : Fields) (old : Graph) where
 
 -- ## What filling asks of the fields, and what it gives
 
--- the fields without the ids, which play no part in the tables
-abbrev pub idless : Fields → Fields
-idless f =
-    fields [] f.donor_blood f.patient_blood f.donor_age f.patient_age f.donor_antigens f.patient_antigens f.patient_antibodies
-
 module _ (v n : ℕ) (l : List ℕ) (f : Fields) (old : Graph) (q : Points) (r : q ≡ points_of_table v l) where
-  pub buildable : FaultlessFields v n l f → Fit n old → Buildable q n (idless f) old
+  pub buildable : FaultlessFields v n l f → Fit n old → Buildable q n f old
   unfolding pair_in
   buildable w fit =
       record {
@@ -129,8 +124,7 @@ module _ (v n : ℕ) (l : List ℕ) (f : Fields) (old : Graph) (q : Points) (r :
         points = subst SoundPoints (sym r) w.points;
       }
 
-  pub filled_whole : (new : Graph) → new ≡ filled_graph q n (pair_in (idless f)) old → new ≡ filled_graph (points_of_table v l) n (pair_in f) old
-  unfolding filled_graph compatibility weight pair_in
+  pub filled_whole : (new : Graph) → new ≡ filled_graph q n (pair_in f) old → new ≡ filled_graph (points_of_table v l) n (pair_in f) old
   filled_whole new g = g ∙ ap (λ (p : Points). filled_graph p n (pair_in f) old) r
 
 -- ## The call, by what `judge` found
@@ -143,12 +137,12 @@ module _ (v n : ℕ) (l : List ℕ) (f : Fields) (old : Graph) (found : Result U
 
   -- q is what the pool is weighed by
   module _ (h : found ≡ (Ok tt)) (q : Points) (r : q ≡ points_of_table v l) where
-    pub call_buildable : Buildable q n (idless f) old
+    pub call_buildable : Buildable q n f old
     call_buildable =
         let passed = build_passed v n l f old (sound_none 0 found e h) in
         buildable v n l f old q r passed.0 passed.1
 
-    pub call_built : (new : Graph) → new ≡ filled_graph q n (pair_in (idless f)) old → outcome (answer_of (Ok tt)) new ≡ building v n l f old
+    pub call_built : (new : Graph) → new ≡ filled_graph q n (pair_in f) old → outcome (answer_of (Ok tt)) new ≡ building v n l f old
     unfolding building answer_of
     call_built new g =
         ap (outcome (finished tt)) (filled_whole v n l f old q r new g)

@@ -5,12 +5,13 @@
 ghost use Rattle.std.specs.Prelude.{◌≡◌};
 ghost use Rattle.refusal.specs.Answer.{outcome};
 ghost use Rattle.refusal.specs.Number.{fault_at};
-ghost use Rattle.pool.specs.Lent.{lent_fields};
+ghost use Rattle.fields.specs.Lent.{fields_in};
 ghost use Rattle.graph.specs.Lent.{lent_graph};
 ghost use Rattle.weighing.specs.Building.{build_fault, building};
 ghost use Rattle.weighing.specs.Answers.{answer_of};
 ghost use Rattle.weighing.specs.Promises.{BuildsRightly};
 
+use fields::Fields;
 use refusal::Refusal;
 
 // 3, 4, 9, 14, 6 and 7 of the fields and the points; then 9 of the tables to be filled, by their lengths.
@@ -18,41 +19,13 @@ fn judge(
     version: u16,
     n: usize,
     points: &[u16],
-    ids: &[u32],
-    donor_blood: &[u8],
-    patient_blood: &[u8],
-    donor_age: &[u8],
-    patient_age: &[u8],
-    donor_antigens: &[u64],
-    patient_antigens: &[u64],
-    patient_antibodies: &[u64],
+    fields: Fields,
     compatibilities: usize,
     weights: usize,
 ) -> Result<(), Refusal>
-    ensures { let f = lent_fields ids donor_blood patient_blood donor_age patient_age donor_antigens patient_antigens patient_antibodies in
-        fault_at 0 result ≡ build_fault version n points.now f.entry compatibilities weights }
+    ensures { fault_at 0 result ≡ build_fault version n points.now (fields_in fields.entry) compatibilities weights }
 {
-    let space = checks::room(
-        ids.len(),
-        donor_blood.len(),
-        patient_blood.len(),
-        donor_age.len(),
-        patient_age.len(),
-        donor_antigens.len(),
-        patient_antigens.len(),
-        patient_antibodies.len(),
-    );
-    checks::pairs(
-        version,
-        n,
-        space,
-        points,
-        ids,
-        donor_blood,
-        patient_blood,
-        donor_age,
-        patient_age,
-    )?;
+    checks::pairs(version, n, fields.room(), points, fields)?;
     // N is at most 200 here, so the product fits.
     let entries = n * n;
     if compatibilities < entries {
@@ -70,51 +43,31 @@ pub fn build(
     version: u16,
     n: usize,
     points: &[u16],
-    ids: &[u32],
-    donor_blood: &[u8],
-    patient_blood: &[u8],
-    donor_age: &[u8],
-    patient_age: &[u8],
-    donor_antigens: &[u64],
-    patient_antigens: &[u64],
-    patient_antibodies: &[u64],
+    fields: Fields,
     compatibilities: &mut [u8],
     weights: &mut [u16],
 ) -> Result<(), Refusal>
-    ensures equals { let f = lent_fields ids donor_blood patient_blood donor_age patient_age donor_antigens patient_antigens patient_antibodies in
+    ensures equals { let f = fields_in fields.entry in
         let g = lent_graph compatibilities weights in
         let p = points.now in
-        outcome (answer_of result) g.exit ≡ building version n p f.entry g.entry }
-    ensures rightly { let f = lent_fields ids donor_blood patient_blood donor_age patient_age donor_antigens patient_antigens patient_antibodies in
+        outcome (answer_of result) g.exit ≡ building version n p f g.entry }
+    ensures rightly { let f = fields_in fields.entry in
         let g = lent_graph compatibilities weights in
         let p = points.now in
-        BuildsRightly version n p f.entry g.entry (outcome (answer_of result) g.exit) }
+        BuildsRightly version n p f g.entry (outcome (answer_of result) g.exit) }
 {
     judge(
         version,
         n,
         points,
-        ids,
-        donor_blood,
-        patient_blood,
-        donor_age,
-        patient_age,
-        donor_antigens,
-        patient_antigens,
-        patient_antibodies,
+        fields,
         compatibilities.len(),
         weights.len(),
     )?;
     graph::fill(
         donation::points_of(version, points),
         n,
-        donor_blood,
-        patient_blood,
-        donor_age,
-        patient_age,
-        donor_antigens,
-        patient_antigens,
-        patient_antibodies,
+        fields,
         compatibilities,
         weights,
     );

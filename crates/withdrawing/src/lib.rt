@@ -15,6 +15,7 @@ ghost use Rattle.live.specs.Lent.{lent_live};
 ghost use Rattle.live.specs.Promises.{WithdrawsRightly};
 ghost use Rattle.withdrawing.specs.Preconditions.{OneOf};
 
+use fields::Fields;
 use live::Change;
 use refusal::{Refusal, Verdict};
 
@@ -104,17 +105,17 @@ pub fn withdraw(
         WithdrawsRightly id l.entry (outcome (answer_of result) l.exit) }
 {
     let n = *count;
-    let held = checks::room(
-        ids.len(),
-        donor_blood.len(),
-        patient_blood.len(),
-        donor_age.len(),
-        patient_age.len(),
-        donor_antigens.len(),
-        patient_antigens.len(),
-        patient_antibodies.len(),
-    );
-    let space = checks::lesser(held, suitable.len());
+    let fields = Fields {
+        ids,
+        donor_blood,
+        patient_blood,
+        donor_age,
+        patient_age,
+        donor_antigens,
+        patient_antigens,
+        patient_antibodies,
+    };
+    let space = checks::lesser(fields.room(), suitable.len());
     match keeping::judge(n, space, compatibilities, weights.len(), suitable, points) {
         Verdict::Faulty(why) => {
             return Change::Refused(why);

@@ -21,7 +21,7 @@ unfolding room
 shortest_room t held shortest e f = f ∙ ap (λ (k : ℕ). min k (length t.shuffle)) e
 
 pub room_spaced : (t : Tables) (space : ℕ) → space ≡ room t
-    → TablesHaveRoom space t.fields.ids t.fields.donor_blood t.fields.patient_blood t.fields.donor_age t.fields.patient_age
+    → TablesHaveRoom space t.fields
 unfolding room
 room_spaced t space e =
     let h = field_room_hold space t.fields (rw e (min-le_left _ _)) in

@@ -10,14 +10,15 @@ ghost use Rattle.refusal.specs.Answer.{outcome};
 ghost use Rattle.refusal.specs.Number.{fault_at};
 ghost use Rattle.pool.specs.Points.{point_count};
 ghost use Rattle.pool.specs.Sheet.{first_pair, pair_place, sheet_length, opening, pair_field, sheet_of};
-ghost use Rattle.pool.specs.Tables.{item_in, pair_in, pool_in};
-ghost use Rattle.pool.specs.Lent.{fields_now, lent_fields, tables_now, lent_tables};
+ghost use Rattle.pool.specs.Tables.{item_in, tables, pair_in, pool_in};
 ghost use Rattle.pool.specs.Faults.{pool_fault};
 ghost use Rattle.pool.specs.Calls.{writing};
 ghost use Rattle.pool.specs.Faultless.{FieldsHold, TablesHold};
 ghost use Rattle.pool.specs.Promises.{WritesRightly};
+ghost use Rattle.fields.specs.Lent.{fields_in};
 ghost use Rattle.writer.specs.Answers.{answer_of};
 
+use fields::Fields;
 use refusal::Refusal;
 
 // What stands before the pairs: the head, and the points of version 2.
@@ -39,39 +40,23 @@ fn put_opening(out: &mut [u8], version: u16, n: usize, points: &[u16])
 }
 
 // The fields of the first n pairs.
-fn put_pairs(
-    out: &mut [u8],
-    version: u16,
-    n: usize,
-    ids: &[u32],
-    donor_blood: &[u8],
-    patient_blood: &[u8],
-    donor_age: &[u8],
-    patient_age: &[u8],
-    donor_antigens: &[u64],
-    patient_antigens: &[u64],
-    patient_antibodies: &[u64],
-)
+fn put_pairs(out: &mut [u8], version: u16, n: usize, fields: Fields)
     requires n_bound { (n ≤ 200) × (pair_place version n ≤ length out.old) }
-    requires fact { let f = fields_now ids donor_blood patient_blood donor_age patient_age
-        donor_antigens patient_antigens patient_antibodies in
-        FieldsHold n f }
-    ensures { let f = lent_fields ids donor_blood patient_blood donor_age patient_age
-        donor_antigens patient_antigens patient_antibodies in
-        out.new ≡ stored (first_pair version) (flat_map pair_field (table n (pair_in f.entry))) out.old }
+    requires fact { FieldsHold n (fields_in fields) }
+    ensures { out.new ≡ stored (first_pair version) (flat_map pair_field (table n (pair_in (fields_in fields.entry)))) out.old }
 {
     for i in 0..n {
         encoding::put_pair(
             out,
             layout::pair_place(version, i),
-            ids[i],
-            donor_blood[i],
-            patient_blood[i],
-            donor_age[i],
-            patient_age[i],
-            donor_antigens[i],
-            patient_antigens[i],
-            patient_antibodies[i],
+            fields.ids[i],
+            fields.donor_blood[i],
+            fields.patient_blood[i],
+            fields.donor_age[i],
+            fields.patient_age[i],
+            fields.donor_antigens[i],
+            fields.patient_antigens[i],
+            fields.patient_antibodies[i],
         );
     }
 }
@@ -82,38 +67,16 @@ fn put_sheet(
     version: u16,
     n: usize,
     points: &[u16],
-    ids: &[u32],
-    donor_blood: &[u8],
-    patient_blood: &[u8],
-    donor_age: &[u8],
-    patient_age: &[u8],
-    donor_antigens: &[u64],
-    patient_antigens: &[u64],
-    patient_antibodies: &[u64],
+    fields: Fields,
     shuffle: &[u16],
 )
-    requires fact { let t = tables_now points ids donor_blood patient_blood donor_age patient_age
-        donor_antigens patient_antigens patient_antibodies shuffle in
-        TablesHold version n t }
+    requires fact { TablesHold version n (tables points.now (fields_in fields) shuffle.now) }
     requires n_bound { (n ≤ 200) × (sheet_length version n ≤ length out.old) }
-    ensures { let t = lent_tables points ids donor_blood patient_blood donor_age patient_age
-        donor_antigens patient_antigens patient_antibodies shuffle in
-        out.new ≡ filled (sheet_of (pool_in version n t.entry)) out.old }
+    ensures { let t = tables points.now (fields_in fields.entry) shuffle.now in
+        out.new ≡ filled (sheet_of (pool_in version n t)) out.old }
 {
     put_opening(out, version, n, points);
-    put_pairs(
-        out,
-        version,
-        n,
-        ids,
-        donor_blood,
-        patient_blood,
-        donor_age,
-        patient_age,
-        donor_antigens,
-        patient_antigens,
-        patient_antibodies,
-    );
+    put_pairs(out, version, n, fields);
     encoding::put_field(
         out,
         layout::pair_place(version, n),
@@ -124,46 +87,12 @@ fn put_sheet(
 }
 
 // The first fault of the pool: 3, 4, 9 of its tables, 14, 6 and 7 pair by pair, 8.
-fn judge(
-    version: u16,
-    n: usize,
-    points: &[u16],
-    ids: &[u32],
-    donor_blood: &[u8],
-    patient_blood: &[u8],
-    donor_age: &[u8],
-    patient_age: &[u8],
-    donor_antigens: &[u64],
-    patient_antigens: &[u64],
-    patient_antibodies: &[u64],
-    shuffle: &[u16],
-) -> Result<(), Refusal>
-    ensures { let t = lent_tables points ids donor_blood patient_blood donor_age patient_age
-        donor_antigens patient_antigens patient_antibodies shuffle in
-        fault_at 0 result ≡ pool_fault version n t.entry }
+fn judge(version: u16, n: usize, points: &[u16], fields: Fields, shuffle: &[u16]) -> Result<(), Refusal>
+    ensures { let t = tables points.now (fields_in fields.entry) shuffle.now in
+        fault_at 0 result ≡ pool_fault version n t }
 {
-    let held = checks::room(
-        ids.len(),
-        donor_blood.len(),
-        patient_blood.len(),
-        donor_age.len(),
-        patient_age.len(),
-        donor_antigens.len(),
-        patient_antigens.len(),
-        patient_antibodies.len(),
-    );
-    let shortest = held.min(shuffle.len());
-    checks::pairs(
-        version,
-        n,
-        shortest,
-        points,
-        ids,
-        donor_blood,
-        patient_blood,
-        donor_age,
-        patient_age,
-    )?;
+    let shortest = fields.room().min(shuffle.len());
+    checks::pairs(version, n, shortest, points, fields)?;
     checks::shuffle(shuffle, n)
 }
 
@@ -173,56 +102,20 @@ pub fn write(
     version: u16,
     n: usize,
     points: &[u16],
-    ids: &[u32],
-    donor_blood: &[u8],
-    patient_blood: &[u8],
-    donor_age: &[u8],
-    patient_age: &[u8],
-    donor_antigens: &[u64],
-    patient_antigens: &[u64],
-    patient_antibodies: &[u64],
+    fields: Fields,
     shuffle: &[u16],
     out: &mut [u8],
 ) -> Result<usize, Refusal>
-    ensures equals { let t = lent_tables points ids donor_blood patient_blood donor_age patient_age
-        donor_antigens patient_antigens patient_antibodies shuffle in
-        outcome (answer_of result) out.new ≡ writing version n t.entry out.old }
-    ensures rightly { let t = lent_tables points ids donor_blood patient_blood donor_age patient_age
-        donor_antigens patient_antigens patient_antibodies shuffle in
-        WritesRightly version n t.entry out.old (outcome (answer_of result) out.new) }
+    ensures equals { let t = tables points.now (fields_in fields.entry) shuffle.now in
+        outcome (answer_of result) out.new ≡ writing version n t out.old }
+    ensures rightly { let t = tables points.now (fields_in fields.entry) shuffle.now in
+        WritesRightly version n t out.old (outcome (answer_of result) out.new) }
 {
-    judge(
-        version,
-        n,
-        points,
-        ids,
-        donor_blood,
-        patient_blood,
-        donor_age,
-        patient_age,
-        donor_antigens,
-        patient_antigens,
-        patient_antibodies,
-        shuffle,
-    )?;
+    judge(version, n, points, fields, shuffle)?;
     let length = layout::sheet_length(version, n);
     if out.len() < length {
         return Err(Refusal::TooShort);
     }
-    put_sheet(
-        out,
-        version,
-        n,
-        points,
-        ids,
-        donor_blood,
-        patient_blood,
-        donor_age,
-        patient_age,
-        donor_antigens,
-        patient_antigens,
-        patient_antibodies,
-        shuffle,
-    );
+    put_sheet(out, version, n, points, fields, shuffle);
     Ok(length)
 }

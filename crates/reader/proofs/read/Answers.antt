@@ -2,7 +2,7 @@
 use Prim.Native.Nat.{min}
 use mathlib.Core.Path.{◌≡◌, refl, sym, ap, ◌∙◌}
 use lib.ListN.{length}
-use Rattle.pool.specs.Tables.{Tables, fields, tables, field_room, room}
+use Rattle.pool.specs.Tables.{Tables, fields, tables, room}
 use Rattle.pool.specs.Calls.{reading}
 use Rattle.reader.specs.Answers.{answer_of}
 use Rattle.refusal.proofs.Faults.{handed_on}
@@ -10,7 +10,7 @@ use Rattle.reader.proofs.Answered.{refused_leaves, fillable, rightly, finished_r
 use Rattle.reader.proofs.read.Goals as goal
 
 pub fill-requires : goal.fill-requires
-unfolding room field_room
+unfolding room
 fill-requires c =
     let lent : Tables =
     let a = c.args in
@@ -20,12 +20,12 @@ fill-requires c =
     a.shuffle.now in
     let answers : answer_of c.judge.result ≡ (reading c.args.sheet.now lent).answer =
     c.judge.ensures lent
-    (sym (c.min-space.ensures ∙ ap (λ k. min k (length c.args.shuffle.now)) c.room-held.ensures))
+    (sym (c.min-space.ensures ∙ ap (λ k. min k (length c.args.shuffle.now)) c.room.ensures))
     refl in
     fillable _ _ _ answers _ c.in_ok-head.was
 
 pub returns-in_err-head : goal.returns-in_err-head
-unfolding room field_room
+unfolding room
 returns-in_err-head c =
     let lent : Tables =
     let a = c.args in
@@ -35,13 +35,13 @@ returns-in_err-head c =
     a.shuffle.now in
     let answers : answer_of c.judge.result ≡ (reading c.args.sheet.now lent).answer =
     c.judge.ensures lent
-    (sym (c.min-space.ensures ∙ ap (λ k. min k (length c.args.shuffle.now)) c.room-held.ensures))
+    (sym (c.min-space.ensures ∙ ap (λ k. min k (length c.args.shuffle.now)) c.room.ensures))
     refl in
     let w = refused_leaves _ lent _ answers _ c.in_err-head.was in
     rw (handed_on _ _ c.from_residual.ensures) (record { equals = w; rightly = rightly _ lent w })
 
 pub returns : goal.returns
-unfolding room field_room
+unfolding room
 returns c =
     let lent : Tables =
     let a = c.args in
@@ -51,7 +51,7 @@ returns c =
     a.shuffle.now in
     let answers : answer_of c.judge.result ≡ (reading c.args.sheet.now lent).answer =
     c.judge.ensures lent
-    (sym (c.min-space.ensures ∙ ap (λ k. min k (length c.args.shuffle.now)) c.room-held.ensures))
+    (sym (c.min-space.ensures ∙ ap (λ k. min k (length c.args.shuffle.now)) c.room.ensures))
     refl in
     let w = finished_rightly _ lent _ answers _ c.in_ok-head.was _ c.fill.ensures in
     record { equals = w.0; rightly = w.1 }
