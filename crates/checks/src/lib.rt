@@ -108,7 +108,13 @@ fn ready(version: u16, n: usize, space: usize, points: &[u16]) -> Result<(), Ref
 }
 
 // The first n pairs of lent tables, of which the shortest of all has `space` entries, and their points: 3, 4, 9, 14, then 6 and 7 pair by pair.
-pub fn pairs(version: u16, n: usize, space: usize, points: &[u16], fields: Fields) -> Result<(), Refusal>
+pub fn pairs(
+    version: u16,
+    n: usize,
+    space: usize,
+    points: &[u16],
+    fields: Fields,
+) -> Result<(), Refusal>
     requires { TablesHaveRoom space (fields_in fields) }
     ensures { fault_at 0 result ≡ pairs_fault version n space points.now (pair_in (fields_in fields.entry)) }
 {

@@ -87,7 +87,13 @@ fn put_sheet(
 }
 
 // The first fault of the pool: 3, 4, 9 of its tables, 14, 6 and 7 pair by pair, 8.
-fn judge(version: u16, n: usize, points: &[u16], fields: Fields, shuffle: &[u16]) -> Result<(), Refusal>
+fn judge(
+    version: u16,
+    n: usize,
+    points: &[u16],
+    fields: Fields,
+    shuffle: &[u16],
+) -> Result<(), Refusal>
     ensures { let t = tables points.now (fields_in fields.entry) shuffle.now in
         fault_at 0 result ≡ pool_fault version n t }
 {
