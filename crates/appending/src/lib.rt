@@ -42,11 +42,9 @@ fn put_raised(out: &mut [u8], at: usize, sheet: &[u8], version: u16, n: usize, m
         out.new ≡ stored at (flat_map (bytes 2) s) out.old }
 {
     let from = layout::pair_place(version, n) + layout::START_LENGTH;
-    let mut j: usize = 0;
-    while j < n {
+    for j in 0..n {
         let drawn = framing::number(sheet, from + 2 * j, 2);
         encoding::put(out, at + 2 * j, 2, drawn + more as u64);
-        j += 1;
     }
 }
 
