@@ -57,7 +57,7 @@ pub fn put_joined(out: &mut [u8], first: &[u8], second: &[u8]) -> usize
     let version = framing::version_in(first);
     let n = framing::pairs_in(first);
     let m = framing::pairs_in(second);
-    encoding::put_head(out, version as u64, (n + m) as u64);
+    encoding::put_head(out, u64::from(version), (n + m) as u64);
     put_points(out, first, version);
     put_pairs(out, layout::first_pair(version), first, version, n);
     put_pairs(out, layout::pair_place(version, n), second, version, m);
