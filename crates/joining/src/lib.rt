@@ -39,7 +39,13 @@ fn shared(first: &[u8], second: &[u8]) -> bool
     let n = framing::pairs_in(first);
     let m = framing::pairs_in(second);
     let mut ids = [0u32; 200];
-    columns::fill_ids(first, framing::version_in(first), n, &mut ids);
+    columns::fill_column(
+        first,
+        framing::version_in(first),
+        n,
+        layout::ID_AT,
+        &mut ids,
+    );
     let version = framing::version_in(second);
     for j in 0..m {
         let id = framing::number(second, layout::pair_place(version, j) + layout::ID_AT, 4) as u32;

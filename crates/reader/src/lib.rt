@@ -62,14 +62,14 @@ fn fill(
         layout::point_count(version),
         points,
     );
-    columns::fill_ids(b, version, n, ids);
-    columns::fill_groups(b, version, n, layout::DONOR_BLOOD_AT, donor_blood);
-    columns::fill_groups(b, version, n, layout::PATIENT_BLOOD_AT, patient_blood);
-    columns::fill_groups(b, version, n, layout::DONOR_AGE_AT, donor_age);
-    columns::fill_groups(b, version, n, layout::PATIENT_AGE_AT, patient_age);
-    columns::fill_tissue(b, version, n, layout::DONOR_ANTIGENS_AT, donor_antigens);
-    columns::fill_tissue(b, version, n, layout::PATIENT_ANTIGENS_AT, patient_antigens);
-    columns::fill_tissue(
+    columns::fill_column(b, version, n, layout::ID_AT, ids);
+    columns::fill_column(b, version, n, layout::DONOR_BLOOD_AT, donor_blood);
+    columns::fill_column(b, version, n, layout::PATIENT_BLOOD_AT, patient_blood);
+    columns::fill_column(b, version, n, layout::DONOR_AGE_AT, donor_age);
+    columns::fill_column(b, version, n, layout::PATIENT_AGE_AT, patient_age);
+    columns::fill_column(b, version, n, layout::DONOR_ANTIGENS_AT, donor_antigens);
+    columns::fill_column(b, version, n, layout::PATIENT_ANTIGENS_AT, patient_antigens);
+    columns::fill_column(
         b,
         version,
         n,

@@ -18,11 +18,15 @@ in_both : (a b : List ℕ) (n m : ℕ) → n ≡ pairs_in a → m ≡ pairs_in b
 unfolding id_in_both
 in_both a b n m e f = rw (e, f)
 
-pub fill_ids-requires : goal.fill_ids-requires
-fill_ids-requires c =
+pub fill_column-requires : goal.fill_column-requires
+fill_column-requires c =
     let n = c.pairs_in-n.ensures in
-    let w = c.requires.0 in
-    (omega (arith, n, w.head.few), omega (arith, n, w.nothing_after, ap points_size c.version_in.ensures), omega (arith, n, w.head.few))
+    let w = c.requires.0 in (
+      omega (arith, n, w.head.few),
+      omega arith,
+      omega (arith, n, w.nothing_after, ap points_size c.version_in.ensures),
+      omega (arith, n, w.head.few),
+    )
 
 pub pair_place-requires : goal.pair_place-requires
 pair_place-requires c =
@@ -52,7 +56,7 @@ returns-then-among c =
     c.among.ensures
     ∙ any_cong _ _ _
     (λ i k. ap₂ eqb
-    (filled_at _ _ _ _ c.fill_ids.ensures i k
+    (filled_at _ _ _ _ c.fill_column.ensures i k
     ∙ ap (λ v. big_endian 4 c.args.first.now (pair_place v i + id_at)) c.version_in.ensures)
     (rw (← due) c.number-id.ensures)) in
     let s = c.args in
@@ -72,7 +76,7 @@ loop-j-preserved c =
     c.among.ensures
     ∙ any_cong _ _ _
     (λ i k. ap₂ eqb
-    (filled_at _ _ _ _ c.fill_ids.ensures i k
+    (filled_at _ _ _ _ c.fill_column.ensures i k
     ∙ ap (λ v. big_endian 4 c.args.first.now (pair_place v i + id_at)) c.version_in.ensures)
     (rw (← due) c.number-id.ensures)) in
     let s = c.args in
