@@ -66,16 +66,16 @@ fn take_out(
         suitable.new ≡ with_numbers (n - 1) (without_row a n g.entry.compatibilities) suitable.old }
 {
     suiting::take_out(a, n, compatibilities, suitable);
-    shifting::without_entry_u32(ids, a, n);
-    shifting::without_entry_u8(donor_blood, a, n);
-    shifting::without_entry_u8(patient_blood, a, n);
-    shifting::without_entry_u8(donor_age, a, n);
-    shifting::without_entry_u8(patient_age, a, n);
-    shifting::without_entry_u64(donor_antigens, a, n);
-    shifting::without_entry_u64(patient_antigens, a, n);
-    shifting::without_entry_u64(patient_antibodies, a, n);
-    shifting::without_row_u8(compatibilities, a, n);
-    shifting::without_row_u16(weights, a, n);
+    shifting::without_entry(ids, a, n);
+    shifting::without_entry(donor_blood, a, n);
+    shifting::without_entry(patient_blood, a, n);
+    shifting::without_entry(donor_age, a, n);
+    shifting::without_entry(patient_age, a, n);
+    shifting::without_entry(donor_antigens, a, n);
+    shifting::without_entry(patient_antigens, a, n);
+    shifting::without_entry(patient_antibodies, a, n);
+    shifting::without_row(compatibilities, a, n);
+    shifting::without_row(weights, a, n);
 }
 
 // Withdraws the first pair with this id; the later ones move down by one. Of M and W, whatever they hold, one row and one column are taken out, and
