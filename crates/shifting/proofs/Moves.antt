@@ -7,11 +7,11 @@ use native.Mathlib.Numerals.{add-one}
 use native.Mathlib.Omega.{arith}
 use mir.Syntax.{w64}
 use mir.Val.{Fits}
-use lib.ListN.{length, take, drop, length-append, length-take, length-drop}
-use lib.Seq.{take-take, drop-drop, drop-append-add}
+use lib.ListN.{get_or, set, length, take, drop, length-append, length-take, length-drop}
+use lib.Seq.{paste, get_or-drop, drop-paste, take-take, drop-drop, drop-append-add}
 use Rattle.std.specs.List.{remove, copy_within}
 use Rattle.std.proofs.lemmas.List.{drop-take}
-use Rattle.std.proofs.lemmas.List.Edits.{length-remove}
+use Rattle.std.proofs.lemmas.List.Edits.{length-remove, paste_more}
 use Rattle.laws.specs.Below.{table}
 use Rattle.laws.specs.Lent.{filled, stored}
 use Rattle.laws.proofs.Lists.{flat_map_suc}
@@ -21,6 +21,24 @@ use Rattle.live.specs.Calls.{up}
 use Rattle.live.proofs.Tables.{up_least, up-below}
 use Rattle.shifting.specs.Preconditions.{Later, Entry, Square}
 use Rattle.shifting.specs.Without.{one_out, row_without}
+
+-- ## A loop that moves entries to an earlier place
+
+-- it reads past what it has stored
+pub move_more : {A : Type 0} (to from k : ℕ) (x : A) (old t : List A) → to ≤ from → from + k < length old → t ≡ paste old to (drop from old) k
+    → x ≡ get_or t (from + k) x → set t (to + k) x ≡ paste old to (drop from old) (k + 1)
+move_more {A} to from k x old t l h e f =
+    let s = drop from old in
+    let n : k < length s = rw length-drop (omega arith) in
+    let i : from + k ≡ to + k + (from - to) = omega arith in
+    let kept : get_or (paste old to s k) (from + k) x ≡ get_or old (from + k) x =
+    ap (λ (j : ℕ). get_or (paste old to s k) j x) i
+    ∙ sym (get_or-drop (to + k) (paste old to s k) (from - to) x)
+    ∙ ap (λ (y : List A). get_or y (from - to) x) (drop-paste old to s k (omega arith) (omega arith))
+    ∙ get_or-drop (to + k) old (from - to) x
+    ∙ ap (λ (j : ℕ). get_or old j x) (sym i) in
+    let g : x ≡ get_or s k x = f ∙ ap (λ (y : List A). get_or y (from + k) x) e ∙ kept ∙ sym (get_or-drop from old k x) in
+    ap₂ (λ (y : List A) (z : A). set y (to + k) z) e g ∙ paste_more old to s k x (omega arith) n
 
 -- ## Without one entry
 
@@ -74,7 +92,7 @@ module _ {A : Type 0} where
 
   -- it is moved in two parts, before the gap and after it
   pub row_out : (to from a m : ℕ) (old mid new : List A) → Later to from (m + 1) old → a ≤ m → mid ≡ copy_within old from (from + a) to
-      → new ≡ copy_within mid (from + a + 1) (from + m + 1) (to + a) → new ≡ stored to (remove (take (m + 1) (drop from old)) a) old
+      → new ≡ copy_within mid (from + a + 1) (from + a + 1 + (m - a)) (to + a) → new ≡ stored to (remove (take (m + 1) (drop from old)) a) old
   row_out to from a m old mid new p l e f =
       let before = take a (drop from old) in
       let h : to + a ≤ length old = omega (arith, p.later, p.inside) in
@@ -87,7 +105,7 @@ module _ {A : Type 0} where
       ∙ ap (λ (k : ℕ). drop k old) (omega arith)
       ∙ sym (drop-drop (a + 1) from old) in
       stored_then to a before (take (m - a) (drop (from + a + 1) mid)) old mid new n h w
-      (f ∙ copied (from + a + 1) (from + m + 1) (m - a) (to + a) mid (omega arith) (omega (arith, p.inside)))
+      (f ∙ copied (from + a + 1) (from + a + 1 + (m - a)) (m - a) (to + a) mid refl (omega (arith, p.inside)))
       ∙ ap (λ (x : List A). stored to (before ++ take (m - a) x) old) kept
       ∙ ap (λ (x : List A). stored to x old) (ap (λ (k : ℕ). before ++ take k (drop (a + 1) (drop from old))) (omega arith) ∙ sym (parts a (m + 1) (drop from old) (omega arith)))
 

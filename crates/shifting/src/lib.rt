@@ -3,7 +3,7 @@
 #![tactic(auto)]
 
 ghost use Rattle.std.specs.Prelude.{◌≡◌, ◌+◌, ◌≤◌, ◌<◌, take, drop};
-ghost use Rattle.std.specs.List.{remove};
+ghost use Rattle.std.specs.List.{remove, copy_within};
 ghost use Rattle.laws.specs.Lent.{stored};
 ghost use Rattle.live.specs.Calls.{up};
 ghost use Rattle.shifting.specs.Preconditions.{Later, Entry, Square};
@@ -17,14 +17,25 @@ pub fn without_entry<T: Copy>(t: &mut [T], a: usize, n: usize)
     t.copy_within(a + 1..n, a);
 }
 
+// So many entries move from a place on to an earlier one. `copy_within`, which leaves the same, asks first which way to go: of a row's two short parts that
+// is a tenth of the time that withdrawing takes.
+fn move_down<T: Copy>(t: &mut [T], to: usize, from: usize, count: usize)
+    requires { Later to from count t.old }
+    ensures { t.new ≡ copy_within t.old from (from + count) to }
+{
+    for k in 0..count {
+        t[to + k] = t[from + k];
+    }
+}
+
 // A row of m + 1 entries moves without entry a: what stands before it, then what stands after it.
 fn move_row<T: Copy>(t: &mut [T], to: usize, from: usize, a: usize, m: usize)
     requires later { Later to from (m + 1) t.old }
     requires a_le_m { a ≤ m }
     ensures { t.new ≡ stored to (remove (take (m + 1) (drop from t.old)) a) t.old }
 {
-    t.copy_within(from..from + a, to);
-    t.copy_within(from + a + 1..from + m + 1, to + a);
+    move_down(t, to, from, a);
+    move_down(t, to + a, from + a + 1, m - a);
 }
 
 // Where a row stood before row a went.
@@ -36,6 +47,8 @@ pub fn place_before(a: usize, i: usize) -> usize
 }
 
 // Row a and column a of n rows of n go. Each of the rows that stay goes to its place or to an earlier one: nothing is stored to that is still to be moved.
+// Drawn into the call, with all the tables that it holds, these loops are slower.
+#[inline(never)]
 pub fn without_row<T: Copy>(t: &mut [T], a: usize, n: usize)
     requires { Square a n t.old }
     ensures { t.new ≡ cross_out a n t.old }

@@ -23,14 +23,7 @@ fn place_of(ids: &[u32], n: usize, id: u32) -> usize
     requires { n ≤ length ids.now }
     ensures { result ≡ place_of n (item_in ids.now) id }
 {
-    let mut at: usize = 0;
-    while at < n {
-        if ids[at] == id {
-            return at;
-        }
-        at += 1;
-    }
-    n
+    ids[..n].iter().position(|known| *known == id).unwrap_or(n)
 }
 
 // Pair a of n goes out of the tables: its number, and its donor out of the others', its fields, and its row and column of M and W.
