@@ -24,14 +24,7 @@ fn place_of(ids: &[u32], n: usize, id: u32) -> usize
     requires { n ≤ length ids.now }
     ensures { result ≡ place_of n (item_in ids.now) id }
 {
-    let mut at: usize = 0;
-    while at < n {
-        if ids[at] == id {
-            return at;
-        }
-        at += 1;
-    }
-    n
+    ids[..n].iter().position(|known| *known == id).unwrap_or(n)
 }
 
 // Pair a of n goes out of the tables: its number, and its donor out of the others', its fields, and its row and column of M and W.
@@ -67,16 +60,16 @@ fn take_out(
         suitable.new ≡ with_numbers (n - 1) (without_row a n g.entry.compatibilities) suitable.old }
 {
     suiting::take_out(a, n, compatibilities, suitable);
-    shifting::without_entry_u32(ids, a, n);
-    shifting::without_entry_u8(donor_blood, a, n);
-    shifting::without_entry_u8(patient_blood, a, n);
-    shifting::without_entry_u8(donor_age, a, n);
-    shifting::without_entry_u8(patient_age, a, n);
-    shifting::without_entry_u64(donor_antigens, a, n);
-    shifting::without_entry_u64(patient_antigens, a, n);
-    shifting::without_entry_u64(patient_antibodies, a, n);
-    shifting::without_row_u8(compatibilities, a, n);
-    shifting::without_row_u16(weights, a, n);
+    shifting::without_entry(ids, a, n);
+    shifting::without_entry(donor_blood, a, n);
+    shifting::without_entry(patient_blood, a, n);
+    shifting::without_entry(donor_age, a, n);
+    shifting::without_entry(patient_age, a, n);
+    shifting::without_entry(donor_antigens, a, n);
+    shifting::without_entry(patient_antigens, a, n);
+    shifting::without_entry(patient_antibodies, a, n);
+    shifting::without_row(compatibilities, a, n);
+    shifting::without_row(weights, a, n);
 }
 
 // Withdraws the first pair with this id; the later ones move down by one. Of M and W, whatever they hold, one row and one column are taken out, and
