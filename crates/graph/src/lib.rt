@@ -32,8 +32,7 @@ fn compatibility_row(
     let blood = donor_blood[i];
     let antigens = donor_antigens[i];
     let start = i * n;
-    let mut j: usize = 0;
-    while j < n {
+    for j in 0..n {
         compatibilities[start + j] = donation::compatibility(
             i,
             j,
@@ -42,7 +41,6 @@ fn compatibility_row(
             antigens,
             patient_antibodies[j],
         );
-        j += 1;
     }
 }
 
@@ -66,8 +64,7 @@ fn weight_row(
     let age = donor_age[i];
     let antigens = donor_antigens[i];
     let start = i * n;
-    let mut j = 0;
-    while j < n {
+    for j in 0..n {
         weights[start + j] = donation::weight(
             points,
             i,
@@ -77,7 +74,6 @@ fn weight_row(
             antigens,
             patient_antigens[j],
         );
-        j += 1;
     }
 }
 
@@ -101,8 +97,7 @@ pub fn fill(
         let g = lent_graph compatibilities weights in
         g.exit ≡ filled_graph (named points) n (pair_in f.entry) g.entry }
 {
-    let mut i: usize = 0;
-    while i < n {
+    for i in 0..n {
         compatibility_row(
             i,
             n,
@@ -122,6 +117,5 @@ pub fn fill(
             patient_antigens,
             weights,
         );
-        i += 1;
     }
 }
