@@ -61,10 +61,8 @@ pub fn put_pairs(
         Put at lines out.old out.new result }
 {
     let mut end = at;
-    let mut i: usize = 0;
-    while i < n {
+    for i in 0..n {
         end = put_pair(out, end, n, ids, donors, recipients, i);
-        i += 1;
     }
     end
 }
@@ -109,14 +107,12 @@ pub fn pairs_fit(
         return false;
     }
     let mut left = room - used;
-    let mut i: usize = 0;
-    while i < n {
+    for i in 0..n {
         let line = pair_length(n, ids, donors, recipients, i);
         if left < line {
             return false;
         }
         left -= line;
-        i += 1;
     }
     true
 }
