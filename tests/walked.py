@@ -1,4 +1,4 @@
-"""Wrong versions of the planner's and the records' loops are refused for what they mean. Each change is made in a copy of the tree, and the crate is
+"""Wrong versions of the rounds' loop are refused for what they mean. Each change is made in a copy of the tree, and the crate is
 checked: it must be taken by the compiler, the function that was changed alone must stay unproved, and what is said of its loop's turn must have both the
 fact that is due and the one that the wrong program has in its place.
 As controls, the copy is proved with nothing changed, and with a change of each function that leaves its meaning as it is."""
@@ -41,12 +41,6 @@ CHANGES = [
     ('rounds', 'all_rounds', 'the floor is not asked: all above 0 is chosen',
      [('    let mut k: usize = 0;\n', '    let none: u32 = 0;\n    let mut k: usize = 0;\n'), ('(n, floor, weights', '(n, none, weights')],
      ('`c.args.floor` (expected)', '`0` (found)')),
-    ('records', 'write', 'the counter begins as a copy', [('    let mut k = 0;\n', '    let first = 0;\n    let mut k = first;\n')], None),
-    ('records', 'write', 'the first record is written each time',
-     [('    let mut k = 0;\n', '    let first = 0;\n    let mut k = 0;\n'), ('put(out, records, k);', 'put(out, records, first);')],
-     ('`c.loop-k.k` (expected)', '`0` (found)')),
-    ('records', 'write', 'the last record is written each time', [('put(out, records, k);', 'put(out, records, cycles - 1);')],
-     ('`c.loop-k.k` (expected)', '`(Prim.Native.Nat.◌-◌ c.args.cycles 1)` (found)')),
 ]
 
 

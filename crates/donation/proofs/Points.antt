@@ -55,6 +55,10 @@ module _ (points : Points) where
   pub weight_fits : SoundPoints points → (count donor patient : ℕ) → points.base + mismatch_points points count + age_points points donor patient ≤ 65535
   weight_fits s count donor patient = omega (arith, sum-most count donor patient, sound_heaviest points s)
 
+  -- and so does the sum before the age step
+  pub base_fits : SoundPoints points → (count : ℕ) → points.base + mismatch_points points count ≤ 65535
+  base_fits s count = omega (arith, weight_fits s count young young)
+
 -- ## W
 
 module _ (points : Points) (pair : ℕ → Pair) (i j : ℕ) where

@@ -37,6 +37,7 @@ impl Weighing {
 }
 
 // Document 01's points.
+#[tactic(auto, unfolding(pool::specs::Points::document_points))]
 pub fn document() -> Points
     ensures { named result ≡ document_points }
 {
@@ -51,6 +52,7 @@ pub fn document() -> Points
 }
 
 // What a pool of this version is weighed by: its own points, or document 01's.
+#[tactic(auto, using(pool::proofs::Points::has_second, pool::proofs::Points::second_count), unfolding(pool::specs::Points::points_of))]
 pub fn points_of(version: u16, own: &[u16]) -> Points
     requires { point_count version ≤ length own.now }
     ensures { named result ≡ points_of version (item_in own.now) }
@@ -74,6 +76,7 @@ const SUITS: [[bool; 4]; 4] = [
 ];
 
 // Does the donor's blood suit the patient's?
+#[tactic(auto, unfolding(crate::specs::Compatibility::suits, crate::specs::Compatibility::blood_table))]
 fn suits(donor: u8, patient: u8) -> bool
     requires { (donor ≤ 3) × (patient ≤ 3) }
     ensures { result ≡ suits donor patient }
@@ -82,6 +85,7 @@ fn suits(donor: u8, patient: u8) -> bool
 }
 
 // Have two words a bit in common?
+#[tactic(auto, using(crate::proofs::Bits::and_shares))]
 fn share_bit(v: u64, w: u64) -> bool
     ensures { result ≡ share_bit v w }
 {
@@ -89,27 +93,26 @@ fn share_bit(v: u64, w: u64) -> bool
 }
 
 // The donor's antigens that the patient does not have, counted.
+#[tactic(auto, using(crate::proofs::Bits::and_not_count), unfolding(crate::specs::Weight::mismatches))]
 fn mismatches(donor: u64, patient: u64) -> u32
     ensures { result ≡ mismatches donor patient }
 {
-    u64::count_ones(donor & !patient)
+    (donor & !patient).count_ones()
 }
 
+#[tactic(auto, unfolding(crate::specs::Weight::mismatch_points))]
 fn mismatch_points(points: Points, count: u32) -> u16
     ensures { result ≡ mismatch_points (named points) count }
 {
-    if count == 0 {
-        return points.none;
+    match count {
+        0 => points.none,
+        1..=2 => points.few,
+        3..=4 => points.some,
+        _ => Weighing::MANY_MISMATCHES,
     }
-    if count <= 2 {
-        return points.few;
-    }
-    if count <= 4 {
-        return points.some;
-    }
-    Weighing::MANY_MISMATCHES
 }
 
+#[tactic(auto, unfolding(crate::specs::Weight::age_points))]
 fn age_points(points: Points, donor: u8, patient: u8) -> u16
     ensures { result ≡ age_points (named points) donor patient }
 {
@@ -123,6 +126,7 @@ fn age_points(points: Points, donor: u8, patient: u8) -> u16
 }
 
 // M(i, j), of donor i and patient j.
+#[tactic(auto, unfolding(laws::specs::Below::one))]
 pub fn compatibility(
     i: usize,
     j: usize,
@@ -134,19 +138,14 @@ pub fn compatibility(
     requires { (donor_blood ≤ 3) × (patient_blood ≤ 3) }
     ensures { result ≡ one (not (eqb i j) && suits donor_blood patient_blood && not (share_bit antigens antibodies)) }
 {
-    if i == j {
-        return 0;
-    }
-    if suits(donor_blood, patient_blood) {
-        if share_bit(antigens, antibodies) {
-            return 0;
-        }
-        return 1;
-    }
-    0
+    let compatible = i != j
+        && suits(donor_blood, patient_blood)
+        && !share_bit(antigens, antibodies);
+    u8::from(compatible)
 }
 
 // W(i, j), of donor i and patient j, by points whose sums fit 16 bits.
+#[tactic(auto, using(crate::proofs::Points::base_fits, crate::proofs::Points::weight_fits))]
 pub fn weight(
     points: Points,
     i: usize,
@@ -161,10 +160,10 @@ pub fn weight(
         let apart = mismatches donor_antigens patient_antigens in
         result ≡ cond (eqb i j) 0 (q.base + mismatch_points q apart + age_points q donor_age patient_age) }
 {
-    if i != j {
-        return points.base
-            + mismatch_points(points, mismatches(donor_antigens, patient_antigens))
-            + age_points(points, donor_age, patient_age);
+    if i == j {
+        return 0;
     }
-    0
+    points.base
+        + mismatch_points(points, mismatches(donor_antigens, patient_antigens))
+        + age_points(points, donor_age, patient_age)
 }

@@ -25,12 +25,9 @@ row_fits {i} {n} h = rw (← suc-mul i n) (mul-le-mul_right n h)
 pub rows_few : {n : ℕ} → n ≤ 200 → n * n ≤ 40000
 rows_few h = mul-le-mul h h
 
--- so a place of row i is in the table, and small
+-- so a place of row i is in the table
 pub in_row : {i n j : ℕ} {t : List ℕ} → Row i n t → j < n → i * n + j < length t
 in_row r l = omega (arith, row_fits r.inside, r.fits)
-
-pub small_in_row : {i n j : ℕ} {t : List ℕ} → Row i n t → j < n → i * n + j < 40000
-small_in_row r l = omega (arith, row_fits r.inside, rows_few r.few)
 
 -- ## A loop over the columns: t is `old` with i elements stored from `at` on, and as long
 

@@ -24,8 +24,7 @@ fn compatibility_row(i: usize, n: usize, fields: Fields, compatibilities: &mut [
     let blood = fields.donor_blood[i];
     let antigens = fields.donor_antigens[i];
     let start = i * n;
-    let mut j: usize = 0;
-    while j < n {
+    for j in 0..n {
         compatibilities[start + j] = donation::compatibility(
             i,
             j,
@@ -34,7 +33,6 @@ fn compatibility_row(i: usize, n: usize, fields: Fields, compatibilities: &mut [
             antigens,
             fields.patient_antibodies[j],
         );
-        j += 1;
     }
 }
 
@@ -48,8 +46,7 @@ fn weight_row(points: Points, i: usize, n: usize, fields: Fields, weights: &mut 
     let age = fields.donor_age[i];
     let antigens = fields.donor_antigens[i];
     let start = i * n;
-    let mut j = 0;
-    while j < n {
+    for j in 0..n {
         weights[start + j] = donation::weight(
             points,
             i,
@@ -59,7 +56,6 @@ fn weight_row(points: Points, i: usize, n: usize, fields: Fields, weights: &mut 
             antigens,
             fields.patient_antigens[j],
         );
-        j += 1;
     }
 }
 
@@ -75,10 +71,8 @@ pub fn fill(
     ensures { let g = lent_graph compatibilities weights in
         g.exit ≡ filled_graph (named points) n (pair_in (fields_in fields.entry)) g.entry }
 {
-    let mut i: usize = 0;
-    while i < n {
+    for i in 0..n {
         compatibility_row(i, n, fields, compatibilities);
         weight_row(points, i, n, fields, weights);
-        i += 1;
     }
 }

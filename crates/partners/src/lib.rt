@@ -9,6 +9,7 @@ ghost use Rattle.partners.specs.Pairs.{partner, pair_line, pair_lines};
 ghost use Rattle.partners.specs.Preconditions.{PlanTablesHold};
 
 // Puts the id of the pair `who` after one space, or `-` where that is no pair's number.
+#[tactic(auto, using(crate::proofs::Pairs::partner_id, crate::proofs::Pairs::partner_none, crate::proofs::Pairs::put_dash))]
 fn put_partner(out: &mut [u8], at: usize, n: usize, ids: &[u32], who: u16) -> usize
     requires n_in_bounds { n ≤ length ids.now }
     requires who_in_bounds { at + length (following (partner n ids.now who)) ≤ length out.old }
@@ -24,6 +25,7 @@ fn put_partner(out: &mut [u8], at: usize, n: usize, ids: &[u32], who: u16) -> us
 }
 
 // Puts pair i's line.
+#[tactic(auto, using(crate::proofs::Pairs::length_pair, crate::proofs::Pairs::put_pair))]
 fn put_pair(
     out: &mut [u8],
     at: usize,
@@ -61,15 +63,14 @@ pub fn put_pairs(
         Put at lines out.old out.new result }
 {
     let mut end = at;
-    let mut i: usize = 0;
-    while i < n {
+    for i in 0..n {
         end = put_pair(out, end, n, ids, donors, recipients, i);
-        i += 1;
     }
     end
 }
 
 // The length of what `put_partner` puts.
+#[tactic(auto, using(crate::proofs::Pairs::partner_id, crate::proofs::Pairs::partner_none))]
 fn partner_length(n: usize, ids: &[u32], who: u16) -> usize
     requires { n ≤ length ids.now }
     ensures { (result ≡ length (following (partner n ids.now who))) × (result ≤ 21) }
@@ -82,6 +83,7 @@ fn partner_length(n: usize, ids: &[u32], who: u16) -> usize
 }
 
 // The length of what `put_pair` puts.
+#[tactic(auto, using(crate::proofs::Pairs::length_pair))]
 fn pair_length(n: usize, ids: &[u32], donors: &[u16], recipients: &[u16], i: usize) -> usize
     requires plan_tables_hold { PlanTablesHold n ids.now donors.now recipients.now }
     requires i_lt_n { i < n }
@@ -109,14 +111,12 @@ pub fn pairs_fit(
         return false;
     }
     let mut left = room - used;
-    let mut i: usize = 0;
-    while i < n {
+    for i in 0..n {
         let line = pair_length(n, ids, donors, recipients, i);
         if left < line {
             return false;
         }
         left -= line;
-        i += 1;
     }
     true
 }

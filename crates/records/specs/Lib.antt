@@ -1,2 +1,2 @@
--- Records held in an array, and what the functions that copy them ask.
+-- What the function that writes a plan's records asks.
 pub mod Copying

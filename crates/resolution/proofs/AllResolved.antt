@@ -155,7 +155,6 @@ results e f g = cc
 
 -- the loop of `resolve`, before the choice k
 pub record BeforeChoice (n : ℕ) (M W s choices donors recipients : List ℕ) (r : Resolved) (k : ℕ) : Type 0 where
-  pub upto : k ≤ length choices
   pub sum : r.weight ≡ total (entry M n) (entry W n) (cycles_of (up_to_three n) M W s (take k choices))
   pub number : r.cycles ≡ length (cycles_of (up_to_three n) M W s (take k choices))
   pub in_records : r.records ≡ filled (map (record_of n) (cycles_of (up_to_three n) M W s (take k choices))) (no_records n)
@@ -172,7 +171,6 @@ module _ (n : ℕ) (M W s choices donors₀ recipients₀ : List ℕ) (asked : R
       let weight : r.weight ≡ 0 = ap (λ (x : Resolved). x.weight) e in
       let cycles : r.cycles ≡ 0 = ap (λ (x : Resolved). x.cycles) e in
       record {
-        upto = omega arith;
         sum = weight;
         number = cycles;
         in_records = ap (λ (x : Resolved). x.records) e;
@@ -237,7 +235,6 @@ module _ (n : ℕ) (M W s choices donors₀ recipients₀ : List ℕ) (asked : R
             let cs = cycles_of (up_to_three n) M W s (take k choices) in
             let ds = cycles_of (up_to_three n) M W s (get_or choices k 0 ∷ []) in
             record {
-              upto = omega (arith, h);
               sum = e.weight ∙ ap (λ (x : ℕ). x + total (entry M n) (entry W n) ds) inv.sum ∙ sym (total-append (entry M n) (entry W n) cs ds)
                   ∙ ap (total (entry M n) (entry W n)) more;
               number = e.cycles ∙ ap (λ (x : ℕ). x + length ds) inv.number ∙ sym (length-append cs ds) ∙ ap length more;

@@ -46,9 +46,7 @@ fn cycle_at(n: usize, m: &[u8], w: &[u16], s: &[u16], p: Places) -> Giving
     ensures { let c = cycle_of n m.now w.now s.now (subset_at n p) in
         (result.cycle ≡ record_of n c) × (result.weight ≡ weight_of n m.now w.now c) }
 {
-    let u = p.u;
-    let v = p.v;
-    let x = p.w;
+    let Places { u, v, w: x } = p;
     let a = s[u] as usize;
     let b = s[v] as usize;
     if x == n {
@@ -87,9 +85,11 @@ fn engage(n: usize, c: Cycle, donors: &mut [u16], recipients: &mut [u16])
     ensures { (recipients.new ≡ given (edges (pairs_of n c)) recipients.old)
         × (donors.new ≡ received (edges (pairs_of n c)) donors.old) }
 {
-    let first = c.first;
-    let second = c.second;
-    let third = c.third;
+    let Cycle {
+        first,
+        second,
+        third,
+    } = c;
     give(first, second, donors, recipients);
     if third as usize == n {
         give(second, first, donors, recipients);
@@ -105,10 +105,8 @@ fn alone(n: usize, partners: &mut [u16])
     ensures { partners.new ≡ table (length partners.old) (λ i. n) }
 {
     let none = n as u16;
-    let mut i: usize = 0;
-    while i < partners.len() {
-        partners[i] = none;
-        i += 1;
+    for partner in partners.iter_mut() {
+        *partner = none;
     }
 }
 
@@ -117,12 +115,10 @@ fn none(n: usize) -> Resolved
     requires { n ≤ 200 }
     ensures { result ≡ none_yet n }
 {
-    let empty = record_of(n, n, n);
-    let records = [empty; 100];
     Resolved {
         weight: 0,
         cycles: 0,
-        records: records,
+        records: [record_of(n, n, n); 100],
     }
 }
 
@@ -132,13 +128,12 @@ fn append(so_far: Resolved, g: Giving) -> Resolved
     ensures { result ≡ with_cycle so_far g }
 {
     let at = so_far.cycles;
-    let cycle = g.cycle;
     let mut records = so_far.records;
-    records[at] = cycle;
+    records[at] = g.cycle;
     Resolved {
         weight: so_far.weight + g.weight,
         cycles: at + 1,
-        records: records,
+        records,
     }
 }
 
@@ -162,8 +157,7 @@ fn resolve_one(
         return so_far;
     }
     let g = cycle_at(n, m, w, s, cursor::at(n, choice));
-    let cycle = g.cycle;
-    engage(n, cycle, donors, recipients);
+    engage(n, g.cycle, donors, recipients);
     append(so_far, g)
 }
 
@@ -186,19 +180,8 @@ pub fn resolve(
     alone(n, donors);
     alone(n, recipients);
     let mut resolved = none(n);
-    let mut k: usize = 0;
-    while k < choices.len() {
-        resolved = resolve_one(
-            n,
-            m,
-            w,
-            s,
-            choices[k] as usize,
-            resolved,
-            donors,
-            recipients,
-        );
-        k += 1;
+    for choice in choices {
+        resolved = resolve_one(n, m, w, s, *choice as usize, resolved, donors, recipients);
     }
     resolved
 }

@@ -106,12 +106,20 @@ line_after word numbers =
 pub length-line : (word numbers : List ℕ) → length (number_line word numbers) ≡ length word + length (after numbers) + 1
 length-line word numbers = ap length (sym (line_after word numbers)) ∙ simp length-append (omega arith)
 
+-- the numbers and the newline fit after the word
+pub numbers_fit : (word numbers : List ℕ) {at one : ℕ} {old a : List ℕ} → at + length (number_line word numbers) ≤ length old → Put at word old a one
+    → one + length (after numbers) < length a
+numbers_fit word numbers {at} {one} {old} {a} fits p =
+    let k = length-line word numbers in
+    let h : at + length word ≤ length old = omega arith in
+    omega (arith, p.ends, length_put h p)
+
 -- the word, the numbers and the newline
 pub put_line : (word numbers : List ℕ) {at one two : ℕ} {old a b : List ℕ} → at + length (number_line word numbers) ≤ length old → Put at word old a one
     → Put one (after numbers) a b two → Put at (number_line word numbers) old (set b two newline) (two + 1)
 put_line word numbers {at} {one} {two} {old} {a} {b} fits p q =
     let k = length-line word numbers in
     let h : at + length word ≤ length old = omega arith in
-    let j : one + length (after numbers) ≤ length a = omega (arith, p.ends, length_put h p) in
+    let j : one + length (after numbers) ≤ length a = omega (arith, numbers_fit word numbers fits p) in
     put_as (line_after word numbers)
     (put_then h p (put_then j q (put_byte newline b refl (omega (arith, p.ends, q.ends, length_put h p, length_put j q)))))

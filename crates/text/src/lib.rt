@@ -21,6 +21,7 @@ fn digit(d: u64) -> u8
 }
 
 // Puts x in decimal from `at` on: its higher digits first, then the last one. Like every `put`, it gives the place after what it put.
+#[tactic(auto, using(crate::proofs::Decimal::length_small, crate::proofs::Decimal::length_large, crate::proofs::Puts::put_only, crate::proofs::Puts::put_last))]
 pub fn put_number(out: &mut [u8], at: usize, x: u64) -> usize
     requires { at + length (decimal x) ≤ length out.old }
     ensures { Put at (decimal x) out.old out.new result }
@@ -58,10 +59,8 @@ pub fn put_line(out: &mut [u8], at: usize, word: &[u8], numbers: &[u64]) -> usiz
     ensures { Put at (number_line word.now numbers.now) out.old out.new result }
 {
     let mut end = put_word(out, at, word);
-    let mut i: usize = 0;
-    while i < numbers.len() {
-        end = put_following(out, end, numbers[i]);
-        i += 1;
+    for number in numbers {
+        end = put_following(out, end, *number);
     }
     out[end] = b'\n';
     end + 1
@@ -73,10 +72,8 @@ pub fn line_length(word: &[u8], numbers: &[u64]) -> usize
     ensures { (result ≡ length (number_line word.now numbers.now)) × (result ≤ 71) }
 {
     let mut length = word.len();
-    let mut i: usize = 0;
-    while i < numbers.len() {
-        length += 1 + digits(numbers[i]);
-        i += 1;
+    for number in numbers {
+        length += 1 + digits(*number);
     }
     length + 1
 }

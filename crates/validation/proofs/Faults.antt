@@ -7,7 +7,6 @@ use borrow.Author.Tests.{lt-ltb, le-ltb, eq-eqb, ne_eqb, ltb-false}
 use lib.Dec.{eqb, ltb}
 use lib.ListN.{length, get_or}
 use Rattle.laws.specs.Below.{either, any_below}
-use Rattle.laws.proofs.Below.{any_hit, either_true}
 use Rattle.refusal.specs.Fault.{Fault, none, fault, refuse, ◌then◌}
 use Rattle.refusal.specs.Number.{fault_at}
 use Rattle.refusal.specs.declared.Refusal.{Refusal}
@@ -55,13 +54,13 @@ module _ (n : ℕ) (M : List ℕ) where
   abbrev pub bad : ℕ → Bool
   bad i = either (any_below n (λ j. ltb 1 (entry M n i j))) (not (eqb (entry M n i i) 0))
 
-  pub hit : (i : ℕ) → i < n → bad i ≡ true → fault 10 0 ≡ table_fault n M
+  pub hit : any_below n bad ≡ true → fault 10 0 ≡ table_fault n M
   unfolding table_fault
-  hit i h e = sym (fault_refuse 10 0 _ (any_hit n bad i h e))
+  hit e = sym (fault_refuse 10 0 _ e)
 
-  pub clean : (i : ℕ) → i ≡ n → any_below i bad ≡ false → none ≡ table_fault n M
+  pub clean : any_below n bad ≡ false → none ≡ table_fault n M
   unfolding table_fault
-  clean i h e = sym (none_refuse 10 0 _ (ap (λ (k : ℕ). any_below k bad) (sym h) ∙ e))
+  clean e = sym (none_refuse 10 0 _ e)
 
 -- ## 17, edge by edge and row by row
 
@@ -78,26 +77,13 @@ module _ (n : ℕ) (M W : List ℕ) where
   abbrev pub light : ℕ → Bool
   light i = any_below n (weightless n M W i)
 
-  pub light_hit : (i : ℕ) → i < n → light i ≡ true → fault 17 0 ≡ edge_fault n M W
+  pub light_hit : any_below n light ≡ true → fault 17 0 ≡ edge_fault n M W
   unfolding edge_fault
-  light_hit i h e = sym (fault_refuse 17 0 _ (any_hit n light i h e))
+  light_hit e = sym (fault_refuse 17 0 _ e)
 
-  pub light_clean : (i : ℕ) → i ≡ n → any_below i light ≡ false → none ≡ edge_fault n M W
+  pub light_clean : any_below n light ≡ false → none ≡ edge_fault n M W
   unfolding edge_fault
-  light_clean i h e = sym (none_refuse 17 0 _ (ap (λ (k : ℕ). any_below k light) (sym h) ∙ e))
-
--- ## A test and another
-
-pub either_first : (a b : Bool) → a ≡ true → either a b ≡ true
-unfolding either
-either_first a b e = rw e
-
-pub either_second : (a b : Bool) → b ≡ true → either a b ≡ true
-either_second a b e = ap (either a) e ∙ either_true a
-
-pub either_none : (a b : Bool) → a ≡ false → b ≡ false → either a b ≡ false
-unfolding either
-either_none a b e d = rw e d
+  light_clean e = sym (none_refuse 17 0 _ e)
 
 -- ## The checks, one after another: `a`, `b` and `c` are what each found
 

@@ -1,8 +1,8 @@
 // What planning checks of its input before anything is filled: 4, 13, 9, 8, 10, 17.
 #![tactic(auto)]
 
-ghost use Rattle.std.specs.Prelude.{◌≡◌, ◌*◌, ◌≤◌, ◌<◌, ltb, length};
-ghost use Rattle.laws.specs.Below.{any_below};
+ghost use Rattle.std.specs.Prelude.{◌≡◌, ◌*◌, ◌≤◌, ◌<◌, ltb, eqb, not, length};
+ghost use Rattle.laws.specs.Below.{either, any_below};
 ghost use Rattle.refusal.specs.Fault.{refuse, ◌then◌};
 ghost use Rattle.refusal.specs.Number.{fault_at};
 ghost use Rattle.exchange.specs.Subsets.{up_to_three, entry};
@@ -71,14 +71,16 @@ fn above_one(n: usize, m: &[u8], i: usize) -> bool
     requires { (i < n) × (n ≤ 200) × (n * n ≤ length m.now) }
     ensures { result ≡ any_below n (λ j. ltb 1 (entry m.now n i j)) }
 {
-    let mut j: usize = 0;
-    while j < n {
-        if entries::compatible(m, n, i, j) > 1 {
-            return true;
-        }
-        j += 1;
-    }
-    false
+    (0..n).any(|j| entries::compatible(m, n, i, j) > 1)
+}
+
+// Is an entry of row i above 1, or M(i, i) not 0?
+#[tactic(auto, unfolding(laws::specs::Below::either))]
+fn faulty_row(n: usize, m: &[u8], i: usize) -> bool
+    requires { (i < n) × (n ≤ 200) × (n * n ≤ length m.now) }
+    ensures { result ≡ either (any_below n (λ j. ltb 1 (entry m.now n i j))) (not (eqb (entry m.now n i i) 0)) }
+{
+    above_one(n, m, i) || entries::compatible(m, n, i, i) != 0
 }
 
 // 10: an M entry above 1, or M(i, i) not 0.
@@ -86,15 +88,8 @@ fn compatibility(n: usize, m: &[u8]) -> Verdict
     requires { (n ≤ 200) × (n * n ≤ length m.now) }
     ensures { fault_at 0 result ≡ table_fault n m.now }
 {
-    let mut i: usize = 0;
-    while i < n {
-        if above_one(n, m, i) {
-            return Verdict::Faulty(Refusal::NotCompatibility);
-        }
-        if entries::compatible(m, n, i, i) != 0 {
-            return Verdict::Faulty(Refusal::NotCompatibility);
-        }
-        i += 1;
+    if (0..n).any(|i| faulty_row(n, m, i)) {
+        return Verdict::Faulty(Refusal::NotCompatibility);
     }
     Verdict::Sound
 }
@@ -115,14 +110,7 @@ fn weightless_row(n: usize, m: &[u8], w: &[u16], i: usize) -> bool
     requires { (i < n) × (n ≤ 200) × (n * n ≤ length m.now) × (n * n ≤ length w.now) }
     ensures { result ≡ any_below n (weightless n m.now w.now i) }
 {
-    let mut j: usize = 0;
-    while j < n {
-        if weightless_edge(n, m, w, i, j) {
-            return true;
-        }
-        j += 1;
-    }
-    false
+    (0..n).any(|j| weightless_edge(n, m, w, i, j))
 }
 
 // 17: a present edge weighs 0.
@@ -130,12 +118,8 @@ fn edges(n: usize, m: &[u8], w: &[u16]) -> Verdict
     requires { (n ≤ 200) × (n * n ≤ length m.now) × (n * n ≤ length w.now) }
     ensures { fault_at 0 result ≡ edge_fault n m.now w.now }
 {
-    let mut i: usize = 0;
-    while i < n {
-        if weightless_row(n, m, w, i) {
-            return Verdict::Faulty(Refusal::WeightlessEdge);
-        }
-        i += 1;
+    if (0..n).any(|i| weightless_row(n, m, w, i)) {
+        return Verdict::Faulty(Refusal::WeightlessEdge);
     }
     Verdict::Sound
 }

@@ -1,4 +1,4 @@
--- `graph::fill` meets its contract. The loop's invariant: the rows passed stand in both tables, as long as they were. Assumes nothing.
+-- `graph::fill` meets its contract. Assumes nothing.
 use mathlib.Core.Path.{ap₂}
 use native.Mathlib.Omega.{arith}
 use Rattle.pool.specs.Tables.{pair_in}
@@ -9,40 +9,18 @@ use Rattle.graph.proofs.Rows.{rows_none, rows_more, rows_all}
 use Rattle.graph.proofs.fill.Goals as goal
 
 pub loop-i-init : goal.loop-i-init
-loop-i-init c =
-    record { passed = omega arith; buildable = c.requires; compatible = rows_none _ _ _; weighed = rows_none _ _ _ }
+loop-i-init c = record { compatible = rows_none _ _ _; weighed = rows_none _ _ _ }
 
 pub loop-i-preserved : goal.loop-i-preserved
 unfolding with_row compatibility weight pair_in
 loop-i-preserved c =
     let l = c.loop-i in
     let v = l.invariant in
-    let b = v.buildable in
+    let b = c.requires in
     record {
-      passed = omega arith;
-      buildable = b;
       compatible =
           rows_more _ _ _ l.i l.compatibilities _ c.loop-i-test.true b.in_compatibilities v.compatible c.compatibility_row.ensures;
       weighed = rows_more _ _ _ l.i l.weights _ c.loop-i-test.true b.in_weights v.weighed c.weight_row.ensures;
-    }
-
-pub compatibility_row-requires : goal.compatibility_row-requires
-compatibility_row-requires c =
-    let v = c.loop-i.invariant in
-    let b = v.buildable in
-    record {
-      row = record { inside = c.loop-i-test.true; few = b.few; fits = rw v.compatible.kept b.in_compatibilities };
-      readable_for_m = b.for_m;
-    }
-
-pub weight_row-requires : goal.weight_row-requires
-weight_row-requires c =
-    let v = c.loop-i.invariant in
-    let b = v.buildable in
-    record {
-      row = record { inside = c.loop-i-test.true; few = b.few; fits = rw v.weighed.kept b.in_weights };
-      readable_for_w = b.for_w;
-      sound_points = b.points;
     }
 
 pub returns : goal.returns

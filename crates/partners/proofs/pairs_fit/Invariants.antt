@@ -1,5 +1,5 @@
 -- `partners::pairs_fit` meets its contract. The invariant: the lines of i pairs are taken off the room. Assumes nothing.
-use Prim.Native.Nat.{◌+◌, ◌-◌, ◌≤◌}
+use Prim.Native.Nat.{◌+◌}
 use mathlib.Core.Path.{◌≡◌}
 use mathlib.Core.List.{flatten}
 use lib.ListN.{length}
@@ -8,7 +8,4 @@ use Rattle.partners.specs.Pairs.{pair_line}
 use Rattle.partners.proofs.pairs_fit.Given as goal
 
 abbrev pub invariant-loop-i : goal.invariant-loop-i
-invariant-loop-i l = (l.i ≤ l.n) × (l.used + length (flatten (table l.i (pair_line l.n l.ids l.donors l.recipients))) + l.left ≡ l.room)
-
-abbrev pub decreases-loop-i : goal.decreases-loop-i
-decreases-loop-i l = l.n - l.i
+invariant-loop-i l = l.used + length (flatten (table l.i (pair_line l.n l.ids l.donors l.recipients))) + l.left ≡ l.room

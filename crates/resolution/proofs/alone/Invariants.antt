@@ -1,11 +1,7 @@
 -- `resolution::alone` meets its contract. The loop's invariant: the entries passed are n. Assumes nothing.
-use Prim.Native.Nat.{ℕ, ◌-◌, ◌≤◌}
-use lib.ListN.{length}
+use Prim.Native.Nat.{ℕ}
 use Rattle.laws.proofs.Lent.{Filling}
 use Rattle.resolution.proofs.alone.Given as goal
 
-abbrev pub invariant-loop-i : goal.invariant-loop-i
-invariant-loop-i l = (l.i ≤ length l.initial.partners) × Filling l.i (λ (k : ℕ). l.n) l.initial.partners l.partners
-
-abbrev pub decreases-loop-i : goal.decreases-loop-i
-decreases-loop-i l = length l.initial.partners - l.i
+abbrev pub invariant-loop-partner : goal.invariant-loop-partner
+invariant-loop-partner l = Filling l.partner-index (λ (k : ℕ). l.n) l.initial.partners l.partners

@@ -5,12 +5,6 @@ use Rattle.evaluation.proofs.Subsets.{asks_two, asks_triple}
 use Rattle.resolution.proofs.Cyclic.{is_two, is_first, is_second, giving_two, giving_three}
 use Rattle.resolution.proofs.cycle_at.Goals as goal
 
-pub overflow_cast-a : goal.overflow_cast-a
-overflow_cast-a c = record { fits = omega (arith, c.type_inv.s c.args.p.u) }
-
-pub overflow_cast-b : goal.overflow_cast-b
-overflow_cast-b c = record { fits = omega (arith, c.type_inv.s c.args.p.v) }
-
 pub record_of-requires : goal.record_of-requires
 record_of-requires c =
     omega (
@@ -31,9 +25,6 @@ returns-then-x-n c =
     giving_two _ (weight_of _ _ _) _ _ _ _ _ c.record_of.ensures
     (is_two _ _ _ _ _ c.requires.2 c.if-x-n.true) c.two.ensures
 
-pub overflow_cast-c : goal.overflow_cast-c
-overflow_cast-c c = record { fits = omega (arith, c.type_inv.s c.args.p.w) }
-
 pub three-first-requires : goal.three-first-requires
 three-first-requires c =
     asks_triple _ _ _ _ _ c.requires.0 c.requires.1
@@ -49,11 +40,11 @@ pub record_of-requires-then-first-second : goal.record_of-requires-then-first-se
 record_of-requires-then-first-second c =
     omega (
       arith,
-      c.type_inv.s ((c)).args.p.u,
-      c.type_inv.s ((c)).args.p.v,
-      c.type_inv.s ((c)).args.p.w,
-      ((c)).requires.0.few,
-      ((c)).requires.2,
+      c.type_inv.s c.args.p.u,
+      c.type_inv.s c.args.p.v,
+      c.type_inv.s c.args.p.w,
+      c.requires.0.few,
+      c.requires.2,
     )
 
 pub returns-then-first-second : goal.returns-then-first-second
@@ -66,11 +57,11 @@ pub record_of-requires-2 : goal.record_of-requires-2
 record_of-requires-2 c =
     omega (
       arith,
-      c.type_inv.s ((c)).args.p.u,
-      c.type_inv.s ((c)).args.p.v,
-      c.type_inv.s ((c)).args.p.w,
-      ((c)).requires.0.few,
-      ((c)).requires.2,
+      c.type_inv.s c.args.p.u,
+      c.type_inv.s c.args.p.v,
+      c.type_inv.s c.args.p.w,
+      c.requires.0.few,
+      c.requires.2,
     )
 
 pub returns : goal.returns

@@ -3,4 +3,4 @@ use Rattle.resolution.proofs.AllResolved.{empty_yet}
 use Rattle.resolution.proofs.none.Goals as goal
 
 pub returns : goal.returns
-returns c = empty_yet _ _ c.record_of-empty.ensures
+returns c = empty_yet _ _ c.record_of.ensures

@@ -15,19 +15,19 @@ cycle_at-g-requires c =
 
 pub engage-requires : goal.engage-requires
 engage-requires c =
-    asks_engage _ _ _ _ (λ i. omega (arith, c.type_inv.w i)) _ _ _ _ (c).requires
+    asks_engage _ _ _ _ (λ i. omega (arith, c.type_inv.w i)) _ _ _ _ c.requires
     (omega (arith, c.count.ensures, c.if-count-choice.false)) _ c.at.ensures _ c.cycle_at-g.ensures
 
 pub append-requires : goal.append-requires
 append-requires c =
     asks_append _ _ _ _ (λ i. omega (arith, c.type_inv.w i)) _ _ _ _
-    (c).requires (omega (arith, c.count.ensures, c.if-count-choice.false)) _
+    c.requires (omega (arith, c.count.ensures, c.if-count-choice.false)) _
     c.at.ensures _ c.cycle_at-g.ensures
 
 pub returns : goal.returns
 returns c =
     added _ _ _ _ (λ i. omega (arith, c.type_inv.w i)) _ _ _ _
-    (c).requires (omega (
+    c.requires (omega (
       arith,
       c.count.ensures,
       c.if-count-choice.false,

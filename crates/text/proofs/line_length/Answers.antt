@@ -1,56 +1,24 @@
--- `text::line_length` meets its contract. The invariant: the word and i numbers are added up. Assumes nothing.
+-- `text::line_length` meets its contract. Assumes nothing.
 use Prim.Native.Nat.{ℕ}
 use mathlib.Core.Path.{◌≡◌, ap}
 use mathlib.Core.List.{flatten}
 use native.Mathlib.Omega.{arith}
-use lib.ListN.{length as size}
+use lib.ListN.{length}
 use Rattle.laws.specs.Below.{table}
 use Rattle.text.proofs.Lines.{following_at, length_none, length_texts, length-line}
 use Rattle.text.proofs.line_length.Goals as goal
 
-pub loop-i-init : goal.loop-i-init
-loop-i-init c =
-    let s = c in
-    let e = length_none (following_at s.args.numbers.now) in
-    (omega arith, omega arith, omega (arith, s.requires.0))
+pub loop-number-init : goal.loop-number-init
+loop-number-init c = record { counted = omega (arith, length_none (following_at c.args.numbers.now)); few = omega arith }
 
-pub digits-requires : goal.digits-requires
-digits-requires c = tt
-
-pub loop-i-preserved : goal.loop-i-preserved
-loop-i-preserved c =
-    let at-loop = c in
-    let l = at-loop.loop-i in
-    let s = at-loop in
-    let e = length_texts (following_at s.args.numbers.now) l.i in
-    (omega arith, omega arith, omega arith)
+pub loop-number-preserved : goal.loop-number-preserved
+loop-number-preserved c =
+    let e = length_texts (following_at c.args.numbers.now) c.loop-number.number-index in
+    record { counted = omega arith; few = omega arith }
 
 pub returns : goal.returns
 returns c =
-    let l = c.loop-i in
-    let s = c in
-    let e : l.i ≡ size s.args.numbers.now = omega arith in
-    let f = ap (λ (i : ℕ). size (flatten (table i (following_at s.args.numbers.now)))) e in
-    let g = length-line s.args.word.now s.args.numbers.now in
+    let e : c.loop-number.number-index ≡ length c.args.numbers.now = omega arith in
+    let f = ap (λ (i : ℕ). length (flatten (table i (following_at c.args.numbers.now)))) e in
+    let g = length-line c.args.word.now c.args.numbers.now in
     (omega arith, omega arith)
-
-pub offset_bounds-numbers-i : goal.offset_bounds-numbers-i
-offset_bounds-numbers-i c = omega arith
-
-pub bounds-numbers-i : goal.bounds-numbers-i
-bounds-numbers-i c = omega arith
-
-pub overflow_add-length : goal.overflow_add-length
-overflow_add-length c = omega arith
-
-pub overflow_add-length-in-loop-i : goal.overflow_add-length-in-loop-i
-overflow_add-length-in-loop-i c = omega arith
-
-pub overflow_add-i : goal.overflow_add-i
-overflow_add-i c = omega arith
-
-pub loop-i-smaller : goal.loop-i-smaller
-loop-i-smaller c = omega arith
-
-pub overflow_add-result : goal.overflow_add-result
-overflow_add-result c = omega arith

@@ -1,2 +1,0 @@
--- `Written`: a loop that writes records into a lent table.
-pub mod Written
