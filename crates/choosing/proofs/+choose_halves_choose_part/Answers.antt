@@ -28,7 +28,7 @@ choose_halves-returns t c =
 
 pub choose_part-returns-then-weights-le1 : goal.choose_part-returns-then-weights-le1
 choose_part-returns-then-weights-le1 t c =
-    one-weight _ _ _ _ _ c.requires c.if-weights-le1.true _ c.load_u32.ensures _ c.single.ensures
+    one-weight _ _ _ _ _ c.requires c.if-weights-le1.true _ (c.load.ensures 0) _ c.single.ensures
 
 pub choose_part-choose_halves-requires : goal.choose_part-choose_halves-requires
 choose_part-choose_halves-requires t c = (omega (arith, c.decreases), (c.requires, omega arith))
