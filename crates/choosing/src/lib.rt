@@ -71,22 +71,13 @@ fn hidden(n: usize, p: Places) -> SecretPlaces
     SecretPlaces { u, v, w }
 }
 
-// The winner of a part that is one subset, of this weight and number, where the cursor stands at u, v, w.
-fn single(
-    n: usize,
-    weight: Secret,
-    number: usize,
-    u: usize,
-    v: usize,
-    w: usize,
-    t: Tally,
-) -> Gated<Won>
-    requires { Standing (up_to_three n) number (places u v w) }
+// The winner of a part that is one subset, of this weight and number, where the cursor stands at p.
+fn single(n: usize, weight: Secret, number: usize, p: Places, t: Tally) -> Gated<Won>
+    requires { Standing (up_to_three n) number p }
     ensures { (won_by result ≡ winner (value_of weight) number (counted t))
         × (shown result.value.best.at ≡ places_at (up_to_three n) number)
         × (result.value.next ≡ places_at (up_to_three n) (number + 1)) }
 {
-    let p = Places { u, v, w };
     let at = hidden(n, p);
     let number = gates::known(number);
     let best = Best { weight, number, at };
@@ -97,54 +88,36 @@ fn single(
     }
 }
 
-// The winner of the part of the weights whose first number is `first`, where the cursor stands at u, v, w: "halves the part of the table under study
-// until one subset is left". The cursor comes as numbers, since a struct would go through memory at every call.
+// The winner of the part of the weights whose first number is `first`, where the cursor stands at p: "halves the part of the table under study until one
+// subset is left".
 #[cycle(choose_halves_choose_part)]
-fn choose_part(
-    n: usize,
-    weights: &[u32],
-    first: usize,
-    u: usize,
-    v: usize,
-    w: usize,
-    t: Tally,
-) -> Gated<Won>
-    requires { Part (up_to_three n) weights.now first (places u v w) t }
+fn choose_part(n: usize, weights: &[u32], first: usize, p: Places, t: Tally) -> Gated<Won>
+    requires { Part (up_to_three n) weights.now first p t }
     ensures { (won_by result ≡ by_halves (length weights.now) first weights.now (counted t))
         × (shown result.value.best.at ≡ places_at (up_to_three n) (value_of result.value.best.number))
         × (result.value.next ≡ places_at (up_to_three n) (first + length weights.now)) }
 {
     if weights.len() <= 1 {
-        return single(n, gates::load(weights, 0), first, u, v, w, t);
+        return single(n, gates::load(weights, 0), first, p, t);
     }
-    choose_halves(n, weights, first, u, v, w, t)
+    choose_halves(n, weights, first, p, t)
 }
 
 // "then joins the winners": of a part of two subsets or more.
 #[cycle(choose_halves_choose_part)]
-fn choose_halves(
-    n: usize,
-    weights: &[u32],
-    first: usize,
-    u: usize,
-    v: usize,
-    w: usize,
-    t: Tally,
-) -> Gated<Won>
-    requires { Part (up_to_three n) weights.now first (places u v w) t × (1 < length weights.now) }
+fn choose_halves(n: usize, weights: &[u32], first: usize, p: Places, t: Tally) -> Gated<Won>
+    requires { Part (up_to_three n) weights.now first p t × (1 < length weights.now) }
     ensures { (won_by result ≡ by_halves (length weights.now) first weights.now (counted t))
         × (shown result.value.best.at ≡ places_at (up_to_three n) (value_of result.value.best.number))
         × (result.value.next ≡ places_at (up_to_three n) (first + length weights.now)) }
 {
     let half = weights.len() / 2;
-    let left = choose_part(n, &weights[..half], first, u, v, w, t);
+    let left = choose_part(n, &weights[..half], first, p, t);
     let right = choose_part(
         n,
         &weights[half..],
         first + half,
-        left.value.next.u,
-        left.value.next.v,
-        left.value.next.w,
+        left.value.next,
         left.tally,
     );
     let joined = join(left.value.best, right.value.best, right.tally);
@@ -191,8 +164,7 @@ fn choice(n: usize, floor: u32, weights: &[u32], t: Tally) -> Gated<Chosen>
     ensures { (choice_made result ≡ choosing floor (order (up_to_three n)) weights.now (counted t))
         × (shown result.value.at ≡ places_at (up_to_three n) (value_of result.value.number)) }
 {
-    let start = cursor::first(n);
-    let won = choose_part(n, weights, 0, start.u, start.v, start.w, t);
+    let won = choose_part(n, weights, 0, cursor::first(n), t);
     final_test(n, floor, weights.len(), won.value.best, won.tally)
 }
 
