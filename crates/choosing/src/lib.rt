@@ -88,8 +88,8 @@ fn single(n: usize, weight: Secret, number: usize, p: Places, t: Tally) -> Gated
     }
 }
 
-// The winner of the part of the weights whose first number is `first`, where the cursor stands at p: "halves the part of the table under study until one
-// subset is left".
+// The winner of the part of the weights whose first number is `first`, where the cursor stands at p: "halves the part of the table under study until
+// one subset is left".
 #[cycle(choose_halves_choose_part)]
 fn choose_part(n: usize, weights: &[u32], first: usize, p: Places, t: Tally) -> Gated<Won>
     requires { Part (up_to_three n) weights.now first p t }
