@@ -21,7 +21,6 @@ use Rattle.gates.specs.declared.Tally.{Tally}
 use Rattle.cursor.specs.Cursor.{OnSubset, places_at, subset_at}
 use Rattle.cursor.specs.declared.Places.{Places}
 use Rattle.cursor.proofs.Order.{Subset, two, three, in_range_lem}
-use Rattle.cursor.proofs.Number.{count_le}
 use Rattle.cursor.proofs.Standing.{stands_at}
 use Rattle.entries.specs.Preconditions.{Readable, Shuffled, Pairs}
 use Rattle.evaluation.specs.Preconditions.{Evaluating}
