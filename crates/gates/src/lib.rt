@@ -79,7 +79,7 @@ pub fn product(a: Secret, b: Secret, t: Tally) -> Gated<Secret>
 // 1 where a is less than b, else 0.
 pub fn comparison(a: Secret, b: Secret, t: Tally) -> Gated<Secret>
     requires { TallyRoom 1 0 t }
-    ensures { (value_of result.value ≡ one (ltb (value_of a) (value_of b))) × Raised 1 0 t result.tally }
+    ensures { (value_of result.value ≡ one (ltb (value_of a) (value_of b))) × Raised 1 0 t result.tally × (value_of result.value ≤ 1) }
 {
     let counted = Tally {
         comparisons: t.comparisons + 1,
