@@ -54,7 +54,7 @@ for crate, text in code.items():
     signs = [sign for sign in re.findall(r'[/%] *\w*', text) if crate not in planning or sign != '/ 2']
     check('fn ' in text and not signs, f'{crate}: divides: {signs}')
 loops = {crate: re.findall(r'\b(?:while|for|loop)\b.*', code[crate]) for crate in ('counting', 'cursor')}
-check(loops == {'counting': ['while begin_below(table, size, n, i + 1) <= k {'], 'cursor': []}, f'counting and cursor have the loops {loops}')
+check(loops == {'counting': ['for i in 0..n {'], 'cursor': []}, f'counting and cursor have the loops {loops}')
 walks = re.findall(r'(?<!fn )\b(?:first|next)\(', code['cursor'])
 check(not walks, f'cursor walks: {walks}')
 for crate in 'counting', 'cursor':

@@ -26,18 +26,16 @@ INTERFACE = '''
 pub struct Secret { value: u32, }
 pub struct Tally { comparisons: u64, products: u64, rounds: u64, }
 pub struct Counts { pub comparisons: u64, pub products: u64, pub rounds: u64, }
-pub struct Gated { pub value: Secret, pub tally: Tally, }
+pub struct Gated<T> { pub value: T, pub tally: Tally, }
 pub struct SecretPlaces { pub u: Secret, pub v: Secret, pub w: Secret, }
 fn product_counted(t: Tally) -> Tally
-pub fn product(a: Secret, b: Secret, t: Tally) -> Gated
-pub fn comparison(a: Secret, b: Secret, t: Tally) -> Gated
-pub fn pick(bit: Secret, a: Secret, b: Secret, t: Tally) -> Gated
+pub fn product(a: Secret, b: Secret, t: Tally) -> Gated<Secret>
+pub fn comparison(a: Secret, b: Secret, t: Tally) -> Gated<Secret>
+pub fn pick(bit: Secret, a: Secret, b: Secret, t: Tally) -> Gated<Secret>
 pub fn known(x: usize) -> Secret
 pub fn sum(a: Secret, b: Secret) -> Secret
 pub fn demux_readout(p: usize, choice: SecretPlaces) -> Secret
-pub fn load_u8(table: &[u8], at: usize) -> Secret
-pub fn load_u16(table: &[u16], at: usize) -> Secret
-pub fn load_u32(table: &[u32], at: usize) -> Secret
+pub fn load<T: Copy + Into<u32>>(table: &[T], at: usize) -> Secret
 pub fn store_u32(table: &mut [u32], at: usize, x: Secret)
 pub fn nothing_done() -> Tally
 pub fn begin_round(t: Tally) -> Tally
@@ -47,8 +45,11 @@ pub fn counts_of(t: Tally) -> Counts
 # The operations of each gate, in their order, and of what needs no gate: none does more than its own.
 OPERATIONS = {
     'product_counted': '+', 'product': '*', 'comparison': '+ <', 'pick': '- * +', 'sum': '+', 'demux_readout': '== | == | == -', 'begin_round': '+',
-    'known': '', 'load_u8': '', 'load_u16': '', 'load_u32': '', 'store_u32': '', 'nothing_done': '', 'counts_of': '',
+    'known': '', 'load': '', 'store_u32': '', 'nothing_done': '', 'counts_of': '',
 }
+
+# What they call: a gate the counting of a product, and what looks an entry up the widening of it to 32 bits.
+CALLS = {'product': ['product_counted(t)'], 'pick': ['product_counted(t)'], 'load': ['.into(']}
 
 # The functions that hold a lent table: all others compute, and take secrets by value. m, w, weights and choices are secret; s is the shuffle, and table
 # the constant one of the counts.
@@ -67,15 +68,15 @@ fn triple_at(table: &[u32], n: usize, k: usize) -> Places
 ''',
     'evaluation': '''
 fn edge(n: usize, m: &[u8], w: &[u16], i: usize, j: usize) -> EdgeEntries
-fn weight_at(n: usize, m: &[u8], w: &[u16], s: &[u16], p: Places, t: Tally) -> Gated
+fn weight_at(n: usize, m: &[u8], w: &[u16], s: &[u16], p: Places, t: Tally) -> Gated<Secret>
 fn evaluated(n: usize, m: &[u8], w: &[u16], s: &[u16], weights: &mut [u32], t: Tally) -> Tally
 pub fn evaluate(n: usize, m: &[u8], w: &[u16], s: &[u16], weights: &mut [u32], tally: &mut Tally)
 ''',
     'choosing': '''
-fn choose_part(n: usize, weights: &[u32], first: usize, u: usize, v: usize, w: usize, t: Tally) -> Won
-fn choose_halves(n: usize, weights: &[u32], first: usize, u: usize, v: usize, w: usize, t: Tally) -> Won
-fn choice(n: usize, floor: u32, weights: &[u32], t: Tally) -> Chosen
-fn chosen_in_round(n: usize, floor: u32, weights: &[u32], choices: &mut [u32], k: usize, t: Tally) -> Placed
+fn choose_part(n: usize, weights: &[u32], first: usize, p: Places, t: Tally) -> Gated<Won>
+fn choose_halves(n: usize, weights: &[u32], first: usize, p: Places, t: Tally) -> Gated<Won>
+fn choice(n: usize, floor: u32, weights: &[u32], t: Tally) -> Gated<Chosen>
+fn chosen_in_round(n: usize, floor: u32, weights: &[u32], choices: &mut [u32], k: usize, t: Tally) -> Gated<SecretPlaces>
 pub fn choose(n: usize, floor: u32, weights: &[u32], choices: &mut [u32], k: usize, tally: &mut Tally) -> SecretPlaces
 ''',
     'clearing': '''
@@ -101,8 +102,9 @@ BRACKETS = {
     ('choosing', 'choose_halves'): ['&weights[..half]', '&weights[half..]'],
 }
 
-# What may change: a loop's counter, cursor and tally.
-CHANGING = ['i', 'k', 'p', 'tally']
+# What may change: a loop's cursor and tally. And the only loops: over the places of a table that is lent, or over n places.
+CHANGING = ['p', 'tally']
+LOOP = r'\bfor ([ik]) in 0\.\.(?:\w+\.len\(\)|n) \{'
 
 # What planning does between its checks and its answer.
 PLANNED = {
@@ -223,9 +225,11 @@ def joined(text):
 
 
 class Source:
-    """A crate's source without comments and contracts: its uses, its structs and its functions by name, and whatever else stands there."""
+    """A crate's source without comments and contracts: its uses, its structs and its functions by name, and whatever else stands there. A struct or a
+    function with a type parameter is one only where it is listed."""
 
-    def __init__(self, text):
+    def __init__(self, text, listed=()):
+        self.listed = listed
         text = self.raw = joined(text)
         self.clauses = [line.strip() for line in text.splitlines() if re.match(r'\s*(ghost use|requires|ensures)\b', line)]
         rest = '\n'.join(re.sub(r'//.*', '', line) for line in text.splitlines() if line.strip() not in self.clauses)
@@ -233,8 +237,8 @@ class Source:
         rest = re.sub(r'^#(!\[tactic\(auto\)\]|\[derive\(Clone, Copy\)\]|\[cycle\(\w+\)\])$', '', rest, flags=re.M)
         self.uses = re.findall(r'^use ([^;]*);', rest, re.M)
         rest = re.sub(r'^use [^;]*;', '', rest, flags=re.M)
-        self.structs = {name: ' '.join(struct.split()) for struct, name in re.findall(r'^(pub struct (\w+) \{[^{}]*\})', rest, re.M)}
-        rest = re.sub(r'^pub struct \w+ \{[^{}]*\}', '', rest, flags=re.M)
+        self.structs = {}
+        rest = re.sub(r'^pub struct (\w+)(<[^{}]*>)? \{[^{}]*\}', self.struct, rest, flags=re.M)
         table = r'^const (\w+): \[u32; 201\] = \[[\d\s,]*\];'
         self.tables = re.findall(table, rest, re.M)
         rest = re.sub(table, '', rest, flags=re.M)
@@ -244,16 +248,26 @@ class Source:
         except ValueError as why:
             self.rest = str(why)
 
+    def struct(self, found):
+        """Takes a struct out, and gives what is left."""
+        struct = ' '.join(found[0].split())
+        if found[2] and struct not in self.listed:
+            return found[0]
+        self.structs[found[1]] = struct
+        return ''
+
     def parsed(self, rest):
         """Takes the functions out, and gives what is left."""
-        while found := re.search(r'^(pub )?fn (\w+)\(', rest, re.M):
+        while found := re.search(r'^(pub )?fn (\w+)(<[^()]*>)?\(', rest, re.M):
             params, end = split(rest, found.end() - 1)
-            result = re.match(r'(?:\s*-> (\w+|\[u32; 201\]))?\s*\{', rest[end + 1:])
+            result = re.match(r'(?:\s*-> (Gated<\w+>|\w+|\[u32; 201\]))?\s*\{', rest[end + 1:])
             if not result:
                 break
             opens = end + result.end()
             _, closes = split(rest, opens)
-            header = f'{found[1] or ""}fn {found[2]}({", ".join(params)})' + (f' -> {result[1]}' if result[1] else '')
+            header = f'{found[1] or ""}fn {found[2]}{found[3] or ""}({", ".join(params)})' + (f' -> {result[1]}' if result[1] else '')
+            if found[3] and header not in self.listed:
+                break
             self.functions[found[2]] = Function(header, found[2], params, result[1], rest[opens + 1:closes])
             rest = rest[:found.start()] + rest[closes + 1:]
         return ' '.join(rest.split())
@@ -266,8 +280,8 @@ class Source:
 
 def plain(sources):
     """A source has uses of gates and the cursor, structs and functions, of constant tables the one that is listed, and nothing else; a clause has nothing
-    after it; a body has `let`, `if`, `while`, `return` and calls by name. A name is bound once, a secret by its value apart; no value with a tally in it
-    is copied, made by hand or let go."""
+    after it; a body has `let`, `if`, `return`, `for` over places alone, and calls by name. A name is bound once, a number apart that becomes a secret; no
+    value with a tally in it is copied or let go, and none is made by hand but what a step ends with, of gates' results."""
     for crate in CRATES:
         source = sources[crate]
         if source.rest:
@@ -285,23 +299,29 @@ def plain(sources):
                 for sign in re.findall(r'/\*|"|\'', line.split('//')[0]):
                     yield f'{crate}: has {sign}'
         for f in source.functions.values():
-            for word in re.findall(r'\b(?:match|for|loop|break|continue|fn|use|mod|impl|const|type|struct|unsafe)\b', f.body):
+            for word in re.findall(r'\b(?:match|for|while|loop|break|continue|fn|use|mod|impl|const|type|struct|unsafe)\b|::<', re.sub(LOOP, '{', f.body)):
                 yield f'{crate}: {f.name} has {word}'
             for call in re.findall(r'\)\s*\(|\)\s*\.', f.body):
                 yield f'{crate}: {f.name} calls, or takes a field, by {call}'
             bound = list(f.params)
+            for place in re.findall(LOOP, f.body):
+                if place in bound:
+                    yield f'{crate}: {f.name} binds {place} again'
+                bound.append(place)
             for changing, name, kind, value in re.findall(r'\blet (mut )?(\w+)(: usize|: &\[u32\])? = ([^;]*);', f.body):
-                if name in bound and value not in (f'{name}.value', f'gates::known({name})', f'gates::known({name} as usize)'):
+                if name in bound and value not in (f'gates::known({name})', f'gates::known({name} as usize)'):
                     yield f'{crate}: {f.name} binds {name} again'
                 if changing and name not in CHANGING:
                     yield f'{crate}: {f.name} changes {name}'
                 if re.fullmatch(r'[a-z_]\w*', value) and (name, value) != ('tally', 't'):
                     yield f'{crate}: {f.name} copies {value}'
                 bound.append(name)
-            if len(re.findall(r'\blet\b', f.body)) != len(bound) - len(f.params):
+            if len(re.findall(rf'\blet\b|{LOOP}', f.body)) != len(bound) - len(f.params):
                 yield f'{crate}: {f.name} binds by a pattern'
-            if crate != 'gates' and re.search(r'\b(Gated|Tally) \{', f.body):
-                yield f'{crate}: {f.name} makes what only a gate gives'
+            for made in re.finditer(r'\b(?:Gated|Tally)\b[^{;,()]*\{', f.body) if crate != 'gates' else ():
+                last = not f.body[split(f.body, made.end() - 1)[1] + 1:].strip()
+                if made[0] != 'Gated {' or f.result == 'Gated<Secret>' or not last:
+                    yield f'{crate}: {f.name} makes what only a gate gives'
             for callee in f.statements():
                 where, _, name = callee.rpartition('::')
                 called = sources[where or crate].functions.get(name) if (where or crate) in sources else None
@@ -326,7 +346,7 @@ def straight(sources):
         if made != OPERATIONS.get(f.name, ''):
             yield f'gates: {f.name} does {made}'
         calls = [f'{name}({", ".join(given)})' for name, given in f.calls()] + re.findall(r'\.\w+\(', f.body)
-        if calls != (['product_counted(t)'] if f.name in ('product', 'pick') else []):
+        if calls != CALLS.get(f.name, []):
             yield f'gates: {f.name} calls {", ".join(calls)}'
         if re.findall(r'\w*\[[^\]]*\]', f.body) != (['table[at]'] if f.tables() else []):
             yield f'gates: {f.name} has another entry than table[at]'
@@ -334,7 +354,7 @@ def straight(sources):
 
 def by_value(sources):
     """The drivers are those that are listed, and short; no other function takes a lent table or a reference, none gives a table but the constant one, and
-    no struct holds one."""
+    no struct holds one. No struct of a step holds a tally: it gives it in `Gated`."""
     for crate in [*STEPS, *PUBLIC]:
         source = sources[crate]
         headers = [f.header for f in source.functions.values()]
@@ -350,13 +370,15 @@ def by_value(sources):
             if driver and len([line for line in f.body.splitlines() if line.strip()]) > LONGEST:
                 yield f'{crate}: {f.name} is not short'
             for name, kind in f.params.items():
-                if 'Tally' in kind and (name, kind) not in (('t', 'Tally'), ('tally', '&mut Tally')):
+                if re.search(r'Tally|Gated', kind) and (name, kind) not in (('t', 'Tally'), ('tally', '&mut Tally')):
                     yield f'{crate}: {f.name} takes a tally by the name {name}'
         for name, struct in source.structs.items():
             if re.search(r'[&\[]', struct):
                 yield f'{crate}: {name} holds a table or a reference'
             if re.search(r'(?<! tally): Tally', struct):
                 yield f'{crate}: {name} holds a tally by another name'
+            elif re.search(r'\b(?:Tally|Gated)\b', struct):
+                yield f'{crate}: {name} holds a tally'
 
 
 def unread(sources):
@@ -446,17 +468,16 @@ def threaded(sources):
                 for name, callee in re.findall(r'\blet (\w+) = ((?:\w+::)*\w+)\(', path):
                     where, _, called = callee.rpartition('::')
                     called = sources[where or crate].functions.get(called) if (where or crate) in sources else None
-                    if called and called.result in tallied:
+                    if called and (called.result or '').split('<')[0] in tallied:
                         uses[name] = rf'(?<![\w.:]){name}\.tally\b|\breturn {name};|\n\s*{name}\s*$'
                     if called and called.result == 'Tally':
                         uses[name] = rf'(?<![\w.:]){name}\b(?! =)'
-                turn = re.search(r'\bwhile\b[^{]*\{', path)
-                turn = path[turn.end():split(path, turn.end() - 1)[1]] if turn else ''
+                turns = [path[turn.end():split(path, turn.end() - 1)[1]] for turn in re.finditer(r'\b(?:while|for)\b[^{]*\{', path)]
                 for name, use in uses.items():
                     used = len(re.findall(use, path))
                     if used != 1:
                         yield f'{crate}: {f.name} goes on with the tally of {name} {used} times'
-                    if re.search(use, turn) and f'let {name} = ' not in turn:
+                    if any(re.search(use, turn) and f'let {name} = ' not in turn for turn in turns):
                         yield f'{crate}: {f.name} goes on with the tally of {name} in each turn'
 
 
@@ -478,7 +499,7 @@ RULES = [plain, interface, straight, by_value, unread, named, within, readout, h
 
 def faults(texts):
     """What the rules say; where a source can't be read, what the first says of it."""
-    sources = {crate: Source(text) for crate, text in texts.items()}
+    sources = {crate: Source(text, INTERFACE if crate == 'gates' else ()) for crate, text in texts.items()}
     unreadable = any(sources[crate].rest for crate in CRATES)
     return [(rule, line) for rule in (RULES[:1] if unreadable else RULES) for line in rule(sources)]
 
@@ -506,7 +527,9 @@ TWO = '    gates::product(there.value, sum, there.tally)\n}\n\n// The weight of 
 EDGE = '    let ab = edge(n, m, w, a, b);\n'
 PICKED = '    let picked = bit.value as i64 * difference + b.value as i64;\n'
 TABLES = '// ## Lent tables'
-ROUND = '        k += 1;\n'
+ROUND = '        clearing::clear(n, weights, at, choices.len() - k - 1, tally);\n'
+STORED = '    Gated {\n        value: chosen.value.at,\n        tally: chosen.tally,\n'
+ENTRY = '    Secret {\n        value: table[at].into(),\n    }\n'
 CHEATS = [
     # what the base proved before secrets were a type: a branch on a weight, a product counted by hand and never made, a choice read to skip work
     ('evaluation', 'a branch on a weight', [(TWO, '    if there.value.value == 0 {\n        return there;\n    }\n' + TWO)],
@@ -523,10 +546,10 @@ CHEATS = [
     ('clearing', 'a secret matched on', [('    if p.w == n {\n', '    match x {\n        0 => return first,\n        _ => {}\n    }\n    if p.w == n {\n')], COMPILER, 'error['),
     ('choosing', 'a secret made by hand', [('    let number = gates::known(number);\n', '    let number = Secret { value: 0 };\n')],
      COMPILER, 'error[private-field]: field `value` of struct `Secret` is private'),
-    ('choosing', 'a secret for a place in a table', [('gates::load_u32(weights, 0)', 'gates::load_u32(weights, gates::known(0))')], COMPILER, 'error[mismatched-types]'),
+    ('choosing', 'a secret for a place in a table', [('gates::load(weights, 0)', 'gates::load(weights, gates::known(0))')], COMPILER, 'error[mismatched-types]'),
     ('choosing', 'a secret cast to a number', [('    let next = cursor::next(n, p);\n', '    let seen = weight as usize;\n    let next = cursor::next(n, p);\n')],
      COMPILER, 'error[invalid-cast]'),
-    ('choosing', 'a tally lowered', [('    let tally = chosen.tally;\n', '    let mut tally = chosen.tally;\n    tally.products = 0;\n')],
+    ('choosing', 'a tally lowered', [(STORED, '    let mut tally = chosen.tally;\n    tally.products = 0;\n    Gated {\n        value: chosen.value.at,\n        tally: tally,\n')],
      COMPILER, 'error[private-field]: field `products` of struct `Tally` is private'),
     ('rounds', 'a method that opens', [('// A round for each entry', 'impl gates::Secret {\n    fn seen(self) -> u32 {\n        0\n    }\n}\n\n// A round for each entry')],
      COMPILER, 'error[invalid-impl-type]'),
@@ -534,7 +557,7 @@ CHEATS = [
     # what the compiler takes, by the rule that refuses it
     ('evaluation', 'a module', [('// An edge\'s entries', 'mod clearing {\n    pub fn zero(w: &[u16]) -> bool {\n        w[0] == 0\n    }\n}\n\n// An edge\'s entries')],
      plain, 'evaluation: has more than uses, structs and functions: mod clearing { pub fn zero(w: &[u16]) ->'),
-    ('choosing', 'a method', [('// Two winners joined', 'impl Best {\n    fn len(self) -> usize {\n        0\n    }\n}\n\n// Two winners joined')],
+    ('choosing', 'a method', [('// A part\'s winner, and', 'impl Best {\n    fn len(self) -> usize {\n        0\n    }\n}\n\n// A part\'s winner, and')],
      plain, 'choosing: has more than uses, structs and functions: impl Best { fn len(self) -> usize { 0 } '),
     ('evaluation', 'a function with a lifetime', [('// An edge\'s entries', 'fn peek<\'a>(w: &\'a [u16]) -> bool {\n    w[0] == 0\n}\n\n// An edge\'s entries')],
      plain, "evaluation: has more than uses, structs and functions: fn peek<'a>(w: &'a [u16]) -> bool { w[0]"),
@@ -555,11 +578,23 @@ CHEATS = [
     ('choosing', 'a constant', [('// A winner: its weight', 'const MOST: usize = 9;\n\n// A winner: its weight')],
      plain, 'choosing: has more than uses, structs and functions: const MOST: usize = 9;'),
     ('choosing', 'a constant table', [('// A winner: its weight', 'const MOST: [u32; 201] = [' + '0, ' * 201 + '];\n\n// A winner: its weight')], plain, "choosing: has the constant tables ['MOST']"),
-    ('gates', 'a place bound again', [('    Secret { value: table[at] }\n', '    let at = at * 1;\n    Secret { value: table[at] }\n')], plain, 'gates: load_u32 binds at again'),
+    ('gates', 'a place bound again', [(ENTRY, '    let at = at * 1;\n' + ENTRY)], plain, 'gates: load binds at again'),
     ('choosing', 'a half that changes', [('    let half = weights.len() / 2;\n', '    let mut half = weights.len() / 2;\n    half -= half - 1;\n')], plain, 'choosing: choose_halves changes half'),
     ('evaluation', 'a tally copied', [('    let sum = gates::sum(ab.w, ba.w);\n', '    let sum = gates::sum(ab.w, ba.w);\n    let kept = there;\n')], plain, 'evaluation: two copies there'),
     ('evaluation', 'a result made by hand', [('    let sum = gates::sum(ab.w, ba.w);\n', '    let sum = gates::sum(ab.w, ba.w);\n    let tally = there.tally;\n    let made = Gated {\n        value: sum,\n        tally: tally,\n    };\n')],
      plain, 'evaluation: two makes what only a gate gives'),
+    ('evaluation', 'a result made by hand at the end', [(TWO, '    Gated {\n        value: sum,\n        tally: there.tally,\n    }\n' + TWO.split('\n', 1)[1])],
+     plain, 'evaluation: two makes what only a gate gives'),
+    ('choosing', 'a step\'s result made by hand on the way', [('    let joined = join(left.value.best', '    let kept = Gated {\n        value: left.value,\n        tally: left.tally,\n    };\n    let joined = join(left.value.best')],
+     plain, 'choosing: choose_halves makes what only a gate gives'),
+    ('evaluation', 'a type parameter', [('// An edge\'s entries', 'fn peek<T: Copy>(w: &[T]) -> usize {\n    w.len()\n}\n\n// An edge\'s entries')],
+     plain, 'evaluation: has more than uses, structs and functions: fn peek<T: Copy>(w: &[T]) -> usize { w.l'),
+    ('evaluation', 'a struct with a type parameter', [('// An edge\'s entries', '#[derive(Clone, Copy)]\npub struct Pair<T> {\n    pub first: T,\n}\n\n// An edge\'s entries')],
+     plain, 'evaluation: has more than uses, structs and functions: pub struct Pair<T> { pub first: T, }'),
+    ('evaluation', 'a call that names its type', [('gates::load(w, i * n + j)', 'gates::load::<u16>(w, i * n + j)')], plain, 'evaluation: edge has ::<'),
+    ('evaluation', 'a loop over entries', [('    for i in 0..weights.len() {\n', '    for entry in w {\n        tally = t;\n    }\n    for i in 0..weights.len() {\n')], plain, 'evaluation: evaluated has for'),
+    ('evaluation', 'a loop while', [('    for i in 0..weights.len() {\n', '    while n > n {\n        tally = t;\n    }\n    for i in 0..weights.len() {\n')], plain, 'evaluation: evaluated has while'),
+    ('rounds', 'a loop that binds a name again', [('    for k in 0..choices.len() {\n', '    let k: usize = 0;\n    for k in 0..choices.len() {\n')], plain, 'rounds: all_rounds binds k again'),
     ('evaluation', 'a gate whose result is let go', [('    let sum = gates::sum(ab.w, ba.w);\n', '    let sum = gates::sum(ab.w, ba.w);\n    gates::product(ab.w, ba.w, t);\n')],
      plain, 'evaluation: two lets go what gates::product gives'),
 
@@ -569,7 +604,7 @@ CHEATS = [
     ('gates', 'a function that opens a secret', [(TABLES, 'pub fn open(x: Secret) -> u32 {\n    x.value\n}\n\n' + TABLES)], interface, 'gates: has pub fn open(x: Secret) -> u32'),
     ('gates', 'a function that opens a table', [(TABLES, 'pub fn entry(table: &[u32], at: usize) -> u32 {\n    table[at]\n}\n\n' + TABLES)],
      interface, 'gates: has pub fn entry(table: &[u32], at: usize) -> u32'),
-    ('gates', 'a secret for a place', [(TABLES, 'pub fn look_up(table: &[u32], at: Secret) -> Secret {\n    load_u32(table, at.value as usize)\n}\n\n' + TABLES)],
+    ('gates', 'a secret for a place', [(TABLES, 'pub fn look_up(table: &[u32], at: Secret) -> Secret {\n    load(table, at.value as usize)\n}\n\n' + TABLES)],
      interface, 'gates: has pub fn look_up(table: &[u32], at: Secret) -> Secret'),
     ('gates', 'a gate that does not count', [(TABLES, 'pub fn less(a: Secret, b: Secret) -> Secret {\n    Secret {\n        value: (a.value < b.value) as u32,\n    }\n}\n\n' + TABLES)],
      interface, 'gates: has pub fn less(a: Secret, b: Secret) -> Secret'),
@@ -582,11 +617,14 @@ CHEATS = [
      straight, 'gates: pick is not straight-line code (if)'),
     ('gates', 'a pick by a modulus', [(PICKED, '    let picked = (bit.value as i64 * difference + b.value as i64) % 4294967296;\n')], straight, 'gates: pick is not straight-line code (%)'),
     ('gates', 'a pick that calls', [('        value: picked as u32,\n', '        value: std::num::wrapping_add_u32(b.value, 0),\n')], straight, 'gates: pick calls product_counted(t), std::num::wrapping_add_u32(b.value, 0)'),
-    ('gates', 'an entry of a secret place', [('    Secret { value: table[at] }\n', '    Secret { value: table[table[at] as usize] }\n')], straight, 'gates: load_u32 has another entry than table[at]'),
+    ('gates', 'an entry of a secret place', [(ENTRY, '    let place: u32 = table[at].into();\n    Secret {\n        value: table[place as usize].into(),\n    }\n')],
+     straight, 'gates: load has another entry than table[at]'),
+    ('gates', 'a sum that calls', [('        value: a.value + b.value,\n', '        value: a.value + u32::from(b.value),\n')], straight, 'gates: sum calls u32::from(b.value)'),
+    ('gates', 'a secret that is widened by a method', [('        value: a.value + b.value,\n', '        value: a.value + b.value.into(),\n')], straight, 'gates: sum calls .into('),
     ('gates', 'a comparison in a sum', [('        value: a.value + b.value,\n', '        value: a.value + b.value + (a.value < b.value) as u32,\n')], straight, 'gates: sum does + + <'),
 
     ('evaluation', 'a weight made of a table', [(
-        'fn two(ab: EdgeEntries, ba: EdgeEntries, t: Tally) -> Gated\n', 'fn two(ab: EdgeEntries, ba: EdgeEntries, w: &[u16], t: Tally) -> Gated\n',
+        'fn two(ab: EdgeEntries, ba: EdgeEntries, t: Tally) -> Gated<Secret>\n', 'fn two(ab: EdgeEntries, ba: EdgeEntries, w: &[u16], t: Tally) -> Gated<Secret>\n',
     ), ('return two(ab, ba, t);', 'return two(ab, ba, w, t);')], by_value, 'evaluation: two takes a table or a reference, and is no driver'),
     ('evaluation', 'a driver that all can call', [('fn edge(n: usize, m', 'pub fn edge(n: usize, m')],
      by_value, 'evaluation: has no fn edge(n: usize, m: &[u8], w: &[u16], i: usize, j: usize) -> EdgeEntries'),
@@ -598,16 +636,21 @@ CHEATS = [
      by_value, 'cursor: entries gives a table'),
     ('cursor', 'a cursor that is lent a table', [('pub fn count(n: usize) -> usize\n', 'pub fn count(table: &[u32], n: usize) -> usize\n')],
      by_value, 'cursor: count takes a table or a reference, and is no driver'),
-    ('choosing', 'a struct that holds an array', [('pub struct Placed {\n', 'pub struct Held {\n    pub s: [u32; 1],\n}\n\n#[derive(Clone, Copy)]\npub struct Placed {\n')], by_value, 'choosing: Held holds a table or a reference'),
-    ('evaluation', 'a tally by another name', [('fn two(ab: EdgeEntries, ba: EdgeEntries, t: Tally) -> Gated\n', 'fn two(ab: EdgeEntries, ba: EdgeEntries, c: Tally) -> Gated\n'), (
+    ('choosing', 'a struct that holds an array', [('pub struct Chosen {\n', 'pub struct Held {\n    pub s: [u32; 1],\n}\n\n#[derive(Clone, Copy)]\npub struct Chosen {\n')], by_value, 'choosing: Held holds a table or a reference'),
+    ('evaluation', 'a tally by another name', [('fn two(ab: EdgeEntries, ba: EdgeEntries, t: Tally) -> Gated<Secret>\n', 'fn two(ab: EdgeEntries, ba: EdgeEntries, c: Tally) -> Gated<Secret>\n'), (
         '    let there = gates::product(ab.m, ba.m, t);\n', '    let there = gates::product(ab.m, ba.m, c);\n')], by_value, 'evaluation: two takes a tally by the name c'),
-    ('choosing', 'a struct with a tally by another name', [('pub struct Placed {\n', 'pub struct Kept {\n    pub count: Tally,\n}\n\n#[derive(Clone, Copy)]\npub struct Placed {\n')], by_value, 'choosing: Kept holds a tally by another name'),
-    ('rounds', 'a driver that grows', [(ROUND, ROUND + '        k += 0;\n' * LONGEST)], by_value, 'rounds: all_rounds is not short'),
+    ('choosing', 'a struct with a tally by another name', [('pub struct Chosen {\n', 'pub struct Kept {\n    pub count: Tally,\n}\n\n#[derive(Clone, Copy)]\npub struct Chosen {\n')], by_value, 'choosing: Kept holds a tally by another name'),
+    ('choosing', 'a struct with a tally of its own', [('pub struct Chosen {\n', 'pub struct Kept {\n    pub tally: Tally,\n}\n\n#[derive(Clone, Copy)]\npub struct Chosen {\n')], by_value, 'choosing: Kept holds a tally'),
+    ('choosing', 'a struct with a tally in what it holds', [('pub struct Chosen {\n', 'pub struct Kept {\n    pub made: Gated<Secret>,\n}\n\n#[derive(Clone, Copy)]\npub struct Chosen {\n')],
+     by_value, 'choosing: Kept holds a tally'),
+    ('choosing', 'a tally in what is taken', [('// A subset\'s places, as secrets.', 'fn again(g: Gated<Secret>) -> Tally {\n    g.tally\n}\n\n// A subset\'s places, as secrets.')],
+     by_value, 'choosing: again takes a tally by the name g'),
+    ('rounds', 'a driver that grows', [(ROUND, ROUND + '        let none: usize = 0;\n' * LONGEST)], by_value, 'rounds: all_rounds is not short'),
 
     ('evaluation', 'an entry that is looked at', [(EDGE, EDGE + '    if w[a * n + b] == 0 {\n        return two(ab, ab, t);\n    }\n')], unread, 'evaluation: weight_at has w[a * n + b]'),
     ('evaluation', 'an entry of a part', [(EDGE, EDGE + '    if w[a..][0] == 0 {\n        return two(ab, ab, t);\n    }\n')], unread, 'evaluation: weight_at has w[a..]'),
     ('evaluation', 'an entry in brackets', [(EDGE, EDGE + '    if (w)[a] == 0 {\n        return two(ab, ab, t);\n    }\n')], unread, 'evaluation: weight_at has w)[a]'),
-    ('choosing', 'a choice that is looked at once it is stored', [('    let at = chosen.at;\n', '    let mut at = chosen.at;\n    if choices[k] == 0 {\n        at = chosen.at;\n    }\n')],
+    ('choosing', 'a choice that is looked at once it is stored', [(STORED, '    let mut at = chosen.value.at;\n    if choices[k] == 0 {\n        at = chosen.value.at;\n    }\n    Gated {\n        value: at,\n        tally: chosen.tally,\n')],
      unread, 'choosing: chosen_in_round has choices[k]'),
     ('clearing', 'a secret stored to an array', [('    let first = gates::product(', '    let mut seen = [0u32; 1];\n    gates::store_u32(&mut seen, 0, choice.u);\n    let first = gates::product(')],
      unread, 'clearing: weight_after has [0u32; 1]'),
@@ -616,8 +659,8 @@ CHEATS = [
 
     ('evaluation', "W under the shuffle's name", [('weight_at(n, m, w, s, p, tally)', 'weight_at(n, m, w, w, p, tally)')], named, 'evaluation: evaluated gives w to weight_at for s'),
     ('evaluation', "W bound to the shuffle's name", [('    let u = p.u;\n', '    let s = w;\n    let u = p.u;\n')], named, 'evaluation: weight_at has w elsewhere than in a call or its length'),
-    ('evaluation', 'the shuffle for a secret', [('    let a = s[u] as usize;\n', '    let a = s[u] as usize;\n    let seen = gates::load_u16(s, 0);\n')],
-     named, 'evaluation: weight_at gives s to load_u16 for table'),
+    ('evaluation', 'the shuffle for a secret', [('    let a = s[u] as usize;\n', '    let a = s[u] as usize;\n    let seen = gates::load(s, 0);\n')],
+     named, 'evaluation: weight_at gives s to load for table'),
 
     ('clearing', 'a call of another crate', [('    if left < 1 {\n', '    if std::num::wrapping_add_u32(0, 1) < 1 {\n        return t;\n    }\n    if left < 1 {\n')],
      within, 'clearing: cleared calls std::num::wrapping_add_u32'),
@@ -652,6 +695,8 @@ CHEATS = [
     ('clearing', 'all weights cleared twice', [('    all_cleared(n, weights, choice, t)\n', '    let c = all_cleared(n, weights, choice, t);\n    let again = all_cleared(n, weights, choice, c);\n    c\n')],
      threaded, 'clearing: cleared goes on with the tally of c 2 times'),
     ('evaluation', 'a step in a loop', [('    *tally = evaluated(n, m, w, s, weights, old);\n', '    let mut i: usize = 0;\n    while i < 2 {\n        *tally = evaluated(n, m, w, s, weights, old);\n        i += 1;\n    }\n')],
+     threaded, 'evaluation: evaluate goes on with the tally of old in each turn'),
+    ('evaluation', 'a step in a loop over places', [('    *tally = evaluated(n, m, w, s, weights, old);\n', '    for i in 0..n {\n        *tally = evaluated(n, m, w, s, weights, old);\n    }\n')],
      threaded, 'evaluation: evaluate goes on with the tally of old in each turn'),
     ('clearing', 'a tally that is thrown away', [('    if p.w == n {\n        return second;\n', '    if p.w == n {\n        return first;\n')],
      threaded, 'clearing: weight_after goes on with the tally of second 0 times'),

@@ -36,10 +36,10 @@ CHANGES = [
      ('Rattle.greedy.specs.Rounds.clear_before', '`c.args.weights.now` (found)'),
      (ASKS, ''), (CLEARED, ' c.args.weights.now c.choose-at.new.tally (mathlib.Core.Path.refl, mathlib.Core.Path.refl)\n')),
     ('rounds', 'all_rounds', 'each choice is written in the place of the first',
-     [('    let mut k: usize = 0;\n', '    let first: usize = 0;\n    let mut k: usize = 0;\n'), ('choices, k, tally', 'choices, first, tally')],
+     [('    for k in', '    let first: usize = 0;\n    for k in'), ('choices, k, tally', 'choices, first, tally')],
      ('`c.loop-k.k` (expected)', '`0` (found)')),
     ('rounds', 'all_rounds', 'the floor is not asked: all above 0 is chosen',
-     [('    let mut k: usize = 0;\n', '    let none: u32 = 0;\n    let mut k: usize = 0;\n'), ('(n, floor, weights', '(n, none, weights')],
+     [('    for k in', '    let none: u32 = 0;\n    for k in'), ('(n, floor, weights', '(n, none, weights')],
      ('`c.args.floor` (expected)', '`0` (found)')),
 ]
 

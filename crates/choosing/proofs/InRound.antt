@@ -11,6 +11,7 @@ use Rattle.greedy.specs.Rounds.{choosing}
 use Rattle.exchange.specs.Subsets.{up_to_three, order}
 use Rattle.gates.specs.Counting.{counted}
 use Rattle.gates.specs.Secrets.{value_of}
+use Rattle.gates.specs.declared.Gated.{Gated}
 use Rattle.gates.specs.declared.Tally.{Tally}
 use Rattle.cursor.specs.Cursor.{places_at, shown}
 use Rattle.choosing.specs.Parts.{choice_made, choice_of, Whole, Turn}
@@ -29,13 +30,13 @@ module _ (n : ℕ) (ws cs : List ℕ) (k : ℕ) (t : Tally) (asked : Turn (up_to
     };
   }
 
-  module _ (f : ℕ) (c : Chosen) (ec : (choice_made c ≡ choosing f (order (up_to_three n)) ws (counted v)) × (shown c.at ≡ places_at (up_to_three n) (value_of c.number))) where
+  module _ (f : ℕ) (c : Gated Chosen) (ec : (choice_made c ≡ choosing f (order (up_to_three n)) ws (counted v)) × (shown c.value.at ≡ places_at (up_to_three n) (value_of c.value.number))) where
     chosen_is : choice_made c ≡ choice_of (up_to_three n) f ws t
     chosen_is = ec.0 ∙ ap (choosing f (order (up_to_three n)) ws) ev
 
-    number_is : value_of c.number ≡ (choice_of (up_to_three n) f ws t).number
+    number_is : value_of c.value.number ≡ (choice_of (up_to_three n) f ws t).number
     number_is = ap (λ (x : Rounds.Chosen). x.number) chosen_is
 
-    pub stored_is : (after : List ℕ) → after ≡ set cs k (value_of c.number)
-        → (after ≡ set cs k (choice_of (up_to_three n) f ws t).number) × (counted c.tally ≡ (choice_of (up_to_three n) f ws t).tally) × (shown c.at ≡ places_at (up_to_three n) (choice_of (up_to_three n) f ws t).number)
+    pub stored_is : (after : List ℕ) → after ≡ set cs k (value_of c.value.number)
+        → (after ≡ set cs k (choice_of (up_to_three n) f ws t).number) × (counted c.tally ≡ (choice_of (up_to_three n) f ws t).tally) × (shown c.value.at ≡ places_at (up_to_three n) (choice_of (up_to_three n) f ws t).number)
     stored_is after e = (e ∙ ap (set cs k) number_is, ap (λ (x : Rounds.Chosen). x.tally) chosen_is, ec.1 ∙ ap (places_at (up_to_three n)) number_is)

@@ -14,6 +14,7 @@ use Rattle.greedy.specs.Rounds.{Winner, choosing}
 use Rattle.exchange.specs.Subsets.{up_to_three, order, subset_count}
 use Rattle.gates.specs.Counting.{counted, Raised, TallyRoom}
 use Rattle.gates.specs.Secrets.{value_of}
+use Rattle.gates.specs.declared.Gated.{Gated}
 use Rattle.gates.specs.declared.Tally.{Tally}
 use Rattle.gates.proofs.Gates.{pick_by, raised}
 use Rattle.cursor.specs.Cursor.{places, shown, places_at}
@@ -36,7 +37,7 @@ module _ (n : ℕ) (ws : List ℕ) (t : Tally) (asked : Whole (up_to_three n) ws
   pub asks_part : (p : Places) → p ≡ places_at (up_to_three n) 0 → Part (up_to_three n) ws 0 p t
   asks_part p e = record { few = asked.few; some = asked.some; within = omega (arith, asked.whole); there = e; room = asked.room }
 
-  module _ (r : Won) (er : Ensured n ws 0 t r) where
+  module _ (r : Gated Won) (er : Ensured n ws 0 t r) where
     pub room_test : TallyRoom 1 4 r.tally
     room_test = record {
       comparisons = omega (
@@ -53,22 +54,22 @@ module _ (n : ℕ) (ws : List ℕ) (t : Tally) (asked : Whole (up_to_three n) ws
       );
     }
 
-    pub chosen : (f : ℕ) (c : Chosen) → value_of c.number ≡ cond (ltb f (value_of r.best.weight)) (value_of r.best.number) (length ws)
-        → shown c.at ≡ cond (ltb f (value_of r.best.weight)) (shown r.best.at) (places n n n) → Raised 1 4 r.tally c.tally
-        → (choice_made c ≡ choosing f (order (up_to_three n)) ws (counted t)) × (shown c.at ≡ places_at (up_to_three n) (value_of c.number))
+    pub chosen : (f : ℕ) (c : Gated Chosen) → value_of c.value.number ≡ cond (ltb f (value_of r.value.best.weight)) (value_of r.value.best.number) (length ws)
+        → shown c.value.at ≡ cond (ltb f (value_of r.value.best.weight)) (shown r.value.best.at) (places n n n) → Raised 1 4 r.tally c.tally
+        → (choice_made c ≡ choosing f (order (up_to_three n)) ws (counted t)) × (shown c.value.at ≡ places_at (up_to_three n) (value_of c.value.number))
     unfolding choosing
     chosen f c ei ea es = (
       chosens
-          (ei ∙ ap (λ (k : ℕ). cond (ltb f (value_of r.best.weight)) (value_of r.best.number) k) asked.whole
+          (ei ∙ ap (λ (k : ℕ). cond (ltb f (value_of r.value.best.weight)) (value_of r.value.best.number) k) asked.whole
           ∙ ap (λ (x : Winner). cond (ltb f x.weight) x.number (subset_count (up_to_three n))) er.0)
           (raised 1 4 r.tally c.tally es ∙ ap (λ (x : Winner). raise 1 4 x.tally) er.0),
-      ea ∙ go (ltb f (value_of r.best.weight)) ei,
+      ea ∙ go (ltb f (value_of r.value.best.weight)) ei,
     )
       where
-        go : (b : Bool) → value_of c.number ≡ cond b (value_of r.best.number) (length ws)
-            → cond b (shown r.best.at) (places n n n) ≡ places_at (up_to_three n) (value_of c.number)
+        go : (b : Bool) → value_of c.value.number ≡ cond b (value_of r.value.best.number) (length ws)
+            → cond b (shown r.value.best.at) (places n n n) ≡ places_at (up_to_three n) (value_of c.value.number)
         go true e = er.1 ∙ ap (places_at (up_to_three n)) (sym e)
-        go false e = sym (none-past n (value_of c.number) (omega (arith, asked.whole)))
+        go false e = sym (none-past n (value_of c.value.number) (omega (arith, asked.whole)))
 
 -- ## The test by gates
 

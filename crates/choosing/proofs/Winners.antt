@@ -11,6 +11,7 @@ use Rattle.greedy.specs.Tally.{raise}
 use Rattle.exchange.specs.Subsets.{up_to_three}
 use Rattle.gates.specs.Counting.{counted, Raised, TallyRoom}
 use Rattle.gates.specs.Secrets.{value_of}
+use Rattle.gates.specs.declared.Gated.{Gated}
 use Rattle.gates.specs.declared.Secret.{Secret}
 use Rattle.gates.specs.declared.SecretPlaces.{SecretPlaces}
 use Rattle.gates.specs.declared.Tally.{Tally}
@@ -33,8 +34,8 @@ pub right_length : (ws : List ℕ) → length (right_of ws) ≡ length ws - leng
 right_length ws = ap length (right_is ws) ∙ length_right ws
 
 -- what `choose_part` ensures of a part whose first number is i
-abbrev pub Ensured : ℕ → List ℕ → ℕ → Tally → Won → Type 0
-Ensured n ws i t r = (won_by r ≡ won i ws (counted t)) × (shown r.best.at ≡ places_at (up_to_three n) (value_of r.best.number)) × (r.next ≡ places_at (up_to_three n) (i + length ws))
+abbrev pub Ensured : ℕ → List ℕ → ℕ → Tally → Gated Won → Type 0
+Ensured n ws i t r = (won_by r ≡ won i ws (counted t)) × (shown r.value.best.at ≡ places_at (up_to_three n) (value_of r.value.best.number)) × (r.value.next ≡ places_at (up_to_three n) (i + length ws))
 
 -- ## One subset
 
@@ -62,7 +63,7 @@ module _ (n : ℕ) (ws : List ℕ) (i : ℕ) (p : Places) (t : Tally) (asked : P
 
   -- one weight
   pub one-weight : length ws ≤ 1 → (w : Secret) → value_of w ≡ get_or ws 0 0
-      → (r : Won) → (won_by r ≡ winner (value_of w) i (counted t)) × (shown r.best.at ≡ places_at (up_to_three n) i) × (r.next ≡ places_at (up_to_three n) (i + 1)) → Ensured n ws i t r
+      → (r : Gated Won) → (won_by r ≡ winner (value_of w) i (counted t)) × (shown r.value.best.at ≡ places_at (up_to_three n) i) × (r.value.next ≡ places_at (up_to_three n) (i + 1)) → Ensured n ws i t r
   one-weight h w ew r e =
       let l : 1 ≡ length ws = omega (arith, asked.some) in (
         e.0 ∙ ap (λ (x : ℕ). winner x i (counted t)) ew ∙ one_left i ws (counted t) asked.some h,
@@ -80,7 +81,7 @@ module _ (n : ℕ) (ws : List ℕ) (i : ℕ) (p : Places) (t : Tally) (asked : P
       room = record { comparisons = omega (arith, asked.room.comparisons, length-left ws); products = omega (arith, asked.room.products, length-left ws) };
     }
 
-    module _ (l : Won) (el : Ensured n (take (length ws / 2) ws) i t l) where
+    module _ (l : Gated Won) (el : Ensured n (take (length ws / 2) ws) i t l) where
       left_comparisons : l.tally.comparisons ≡ t.comparisons + (length ws / 2 - 1)
       left_comparisons =
           ap (λ (w : Winner). w.tally.comparisons) el.0
@@ -91,7 +92,7 @@ module _ (n : ℕ) (ws : List ℕ) (i : ℕ) (p : Places) (t : Tally) (asked : P
           ap (λ (w : Winner). w.tally.products) el.0
           ∙ won_products i (take (length ws / 2) ws) (counted t) asks_left.some ∙ ap (λ (k : ℕ). t.products + 5 * (k - 1)) (length-left ws)
 
-      pub asks_right : Part (up_to_three n) (right_of ws) (i + length ws / 2) l.next l.tally
+      pub asks_right : Part (up_to_three n) (right_of ws) (i + length ws / 2) l.value.next l.tally
       asks_right = record {
         few = asked.few;
         some = omega (arith, right_length ws);
@@ -103,7 +104,7 @@ module _ (n : ℕ) (ws : List ℕ) (i : ℕ) (p : Places) (t : Tally) (asked : P
         };
       }
 
-      module _ (r : Won) (er : Ensured n (right_of ws) (i + length ws / 2) l.tally r) where
+      module _ (r : Gated Won) (er : Ensured n (right_of ws) (i + length ws / 2) l.tally r) where
         right_comparisons : r.tally.comparisons ≡ l.tally.comparisons + (length (right_of ws) - 1)
         right_comparisons =
             ap (λ (w : Winner). w.tally.comparisons) er.0 ∙ won_comparisons (i + length ws / 2) (right_of ws) (counted l.tally) asks_right.some
@@ -126,21 +127,21 @@ module _ (n : ℕ) (ws : List ℕ) (i : ℕ) (p : Places) (t : Tally) (asked : P
             ∙ ap (λ (w : Winner). won (i + length ws / 2) (drop (length ws / 2) ws) w.tally) el.0)
             ∙ halved i ws (counted t) more
 
-        pub both : (b : Best) → b ≡ cond (ltb (value_of l.best.weight) (value_of r.best.weight)) r.best l.best → (u : Tally) → Raised 1 5 r.tally u
-            → Ensured n ws i t (record { best = b; next = r.next; tally = u })
+        pub both : (b : Best) → b ≡ cond (ltb (value_of l.value.best.weight) (value_of r.value.best.weight)) r.value.best l.value.best → (u : Tally) → Raised 1 5 r.tally u
+            → Ensured n ws i t (record { value = record { best = b; next = r.value.next }; tally = u })
         unfolding join
         both b eb u eu = (
-          by_case (ltb (value_of l.best.weight) (value_of r.best.weight)) eb ∙ winners_are,
-          at_case (ltb (value_of l.best.weight) (value_of r.best.weight)) eb,
+          by_case (ltb (value_of l.value.best.weight) (value_of r.value.best.weight)) eb ∙ winners_are,
+          at_case (ltb (value_of l.value.best.weight) (value_of r.value.best.weight)) eb,
           er.2 ∙ ap (places_at (up_to_three n)) (omega (arith, right_length ws)),
         )
           where
-            by_case : (z : Bool) → b ≡ cond z r.best l.best
+            by_case : (z : Bool) → b ≡ cond z r.value.best l.value.best
                 → winner (value_of b.weight) (value_of b.number) (counted u)
-                ≡ winner (cond z (value_of r.best.weight) (value_of l.best.weight)) (cond z (value_of r.best.number) (value_of l.best.number)) (raise 1 5 (counted r.tally))
-            by_case true e = ap (λ (x : Best). winner (value_of x.weight) (value_of x.number) (counted u)) e ∙ ap (winner (value_of r.best.weight) (value_of r.best.number)) (raised 1 5 r.tally u eu)
-            by_case false e = ap (λ (x : Best). winner (value_of x.weight) (value_of x.number) (counted u)) e ∙ ap (winner (value_of l.best.weight) (value_of l.best.number)) (raised 1 5 r.tally u eu)
+                ≡ winner (cond z (value_of r.value.best.weight) (value_of l.value.best.weight)) (cond z (value_of r.value.best.number) (value_of l.value.best.number)) (raise 1 5 (counted r.tally))
+            by_case true e = ap (λ (x : Best). winner (value_of x.weight) (value_of x.number) (counted u)) e ∙ ap (winner (value_of r.value.best.weight) (value_of r.value.best.number)) (raised 1 5 r.tally u eu)
+            by_case false e = ap (λ (x : Best). winner (value_of x.weight) (value_of x.number) (counted u)) e ∙ ap (winner (value_of l.value.best.weight) (value_of l.value.best.number)) (raised 1 5 r.tally u eu)
 
-            at_case : (z : Bool) → b ≡ cond z r.best l.best → shown b.at ≡ places_at (up_to_three n) (value_of b.number)
+            at_case : (z : Bool) → b ≡ cond z r.value.best l.value.best → shown b.at ≡ places_at (up_to_three n) (value_of b.number)
             at_case true e = ap (λ (x : Best). shown x.at) e ∙ er.1 ∙ ap (λ (x : Best). places_at (up_to_three n) (value_of x.number)) (sym e)
             at_case false e = ap (λ (x : Best). shown x.at) e ∙ el.1 ∙ ap (λ (x : Best). places_at (up_to_three n) (value_of x.number)) (sym e)

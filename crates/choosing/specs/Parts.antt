@@ -4,6 +4,7 @@ use Rattle.greedy.specs.Rounds as Rounds
 use Rattle.exchange.specs.Subsets.{Scope, order, subset_count}
 use Rattle.gates.specs.Counting.{counted, TallyRoom}
 use Rattle.gates.specs.Secrets.{value_of}
+use Rattle.gates.specs.declared.Gated.{Gated}
 use Rattle.gates.specs.declared.Tally.{Tally}
 use Rattle.cursor.specs.Cursor.{places_at}
 use Rattle.cursor.specs.declared.Places.{Places}
@@ -11,12 +12,12 @@ use Rattle.choosing.specs.declared.Won.{Won}
 use Rattle.choosing.specs.declared.Chosen.{Chosen}
 
 -- the definitions' winner
-abbrev pub won_by : Won → Rounds.Winner
-won_by r = Rounds.winner (value_of r.best.weight) (value_of r.best.number) (counted r.tally)
+abbrev pub won_by : Gated Won → Rounds.Winner
+won_by r = Rounds.winner (value_of r.value.best.weight) (value_of r.value.best.number) (counted r.tally)
 
 -- the definitions' choice
-abbrev pub choice_made : Chosen → Rounds.Chosen
-choice_made r = record { number = value_of r.number; tally = counted r.tally }
+abbrev pub choice_made : Gated Chosen → Rounds.Chosen
+choice_made r = record { number = value_of r.value.number; tally = counted r.tally }
 
 -- the choice above the floor f, of a round that begins with the tally t
 abbrev pub choice_of : Scope → ℕ → List ℕ → Tally → Rounds.Chosen

@@ -24,7 +24,6 @@ use Rattle.gates.specs.declared.Tally.{Tally}
 use Rattle.cursor.specs.Cursor.{OnSubset, places_at, shown, subset_at}
 use Rattle.cursor.specs.declared.Places.{Places}
 use Rattle.cursor.proofs.Order.{Subset, two, three, is_subset, in_range_lem}
-use Rattle.cursor.proofs.Number.{count_le}
 use Rattle.cursor.proofs.Standing.{stands_at}
 use Rattle.clearing.specs.Preconditions.{Clearing}
 
@@ -78,7 +77,6 @@ clear_all c ss old e =
 -- ## The loop of `all_cleared`, before the subset of number i
 
 pub record Cleared (n : ℕ) (old : List ℕ) (choice : SecretPlaces) (t : Tally) (weights : List ℕ) (p : Places) (u : Tally) (i : ℕ) : Type 0 where
-  pub upto : i ≤ subset_count (up_to_three n)
   pub there : p ≡ places_at (up_to_three n) i
   pub filling : Filling i (cleared_at (subset_at n (shown choice)) (order (up_to_three n)) old) old weights
   pub tally : counted u ≡ clearing_tally (take i (order (up_to_three n))) (counted t)
@@ -89,28 +87,25 @@ module _ (n : ℕ) (old : List ℕ) (choice : SecretPlaces) (t : Tally) (asked :
 
   pub begins : (p : Places) → p ≡ places_at (up_to_three n) 0 → Cleared n old choice t old p t 0
   unfolding clearing_tally
-  begins p e = record { upto = omega arith; there = e; filling = filling_none _ old; tally = refl }
+  begins p e = record { there = e; filling = filling_none _ old; tally = refl }
 
   module _ (weights : List ℕ) (p : Places) (u : Tally) (i : ℕ) (inv : Cleared n old choice t weights p u i) where
     pub kept : length weights ≡ length old
     kept = inv.filling.kept
 
-    pub ends : length weights ≤ i → (weights ≡ clear (subset_at n (shown choice)) (order (up_to_three n)) old) × (counted u ≡ clearing_tally (order (up_to_three n)) (counted t))
+    pub ends : i ≡ length old → (weights ≡ clear (subset_at n (shown choice)) (order (up_to_three n)) old) × (counted u ≡ clearing_tally (order (up_to_three n)) (counted t))
     unfolding f
     ends h =
-        let e : i ≡ subset_count (up_to_three n) = omega (arith, kept, asked.whole, inv.upto) in (
+        let e : i ≡ subset_count (up_to_three n) = h ∙ asked.whole in (
           filling_all i (subset_count (up_to_three n)) f old weights inv.filling e
               ∙ filled_whole (table (subset_count (up_to_three n)) f) old (omega (arith, length-table (subset_count (up_to_three n)) f, asked.whole))
               ∙ clear_all (subset_at n (shown choice)) (order (up_to_three n)) old asked.whole,
           inv.tally ∙ ap (λ (ss : List (List ℕ)). clearing_tally ss (counted t)) (take_all i (order (up_to_three n)) (omega arith)),
         )
 
-    module _ (h : i < length weights) where
+    module _ (h : i < length old) where
       pub below : i < subset_count (up_to_three n)
-      below = omega (arith, kept, asked.whole)
-
-      pub below_few : i < 1333333
-      below_few = omega (arith, below, count_le n asked.few)
+      below = omega (arith, asked.whole)
 
       pub ranged : OnSubset n p
       ranged = in_range_lem n i asked.few below p inv.there
@@ -134,7 +129,6 @@ module _ (n : ℕ) (old : List ℕ) (choice : SecretPlaces) (t : Tally) (asked :
             → Cleared n old choice t ws q v (i + 1)
         unfolding f
         again ws ews v ev q eq = subst (λ (z : List ℕ). Cleared n old choice t z q v (i + 1)) (sym ews) record {
-          upto = omega (arith, below);
           there = eq;
           filling = filling_more i f old weights x inv.filling
               (ex ∙ ap₂ (λ (s : List ℕ) (y : ℕ). cond (meets s (subset_at n (shown choice))) 0 y) subset_is (filling_next i f old weights inv.filling))

@@ -15,7 +15,7 @@ use cursor::Places;
 use gates::{Gated, Secret, SecretPlaces, Tally};
 
 // The weight x of the subset at the cursor after the choice: 2 products for a two, 3 for a triple.
-fn weight_after(n: usize, x: Secret, p: Places, choice: SecretPlaces, t: Tally) -> Gated
+fn weight_after(n: usize, x: Secret, p: Places, choice: SecretPlaces, t: Tally) -> Gated<Secret>
     requires { OnSubset n p × TallyRoom 0 3 t }
     ensures { (value_of result.value ≡ cond (meets (subset_at n p) (subset_at n (shown choice))) 0 (value_of x))
         × (counted result.tally ≡ Rounds.clearing_tally (subset_at n p ∷ []) (counted t)) }
@@ -40,14 +40,12 @@ fn all_cleared(n: usize, weights: &mut [u32], choice: SecretPlaces, t: Tally) ->
 {
     let mut p = cursor::first(n);
     let mut tally = t;
-    let mut i: usize = 0;
-    while i < weights.len() {
-        let before = gates::load_u32(weights, i);
+    for i in 0..weights.len() {
+        let before = gates::load(weights, i);
         let after = weight_after(n, before, p, choice, tally);
         gates::store_u32(weights, i, after.value);
         tally = after.tally;
         p = cursor::next(n, p);
-        i += 1;
     }
     tally
 }

@@ -3,7 +3,6 @@ use Prim.Native.Nat.{ℕ, zero, suc, ◌+◌, ◌-◌, ◌*◌, ◌≤◌, ◌<�
 use mathlib.Core.Path.{◌≡◌, refl, ap}
 use native.Mathlib.Omega.{arith}
 use native.Mathlib.Nat.{mul-le-mul}
-use native.Mathlib.Decide.{dec_lt}
 use Rattle.exchange.specs.Subsets.{ascending, subsets}
 use Rattle.exchange.specs.Promises.{how_many}
 use Rattle.exchange.proofs.Counted.{binomial, ones, count_triples, count_twos, twos_are, triples_are, binomial_mono}
@@ -55,20 +54,3 @@ twos_by m a b h e f =
     let one : m ≡ suc (m - 1) = omega arith in
     let sum : a - b + (m - 1) ≡ of_size 2 m = omega (arith, e, f, two_more m (m - 1) one, triple_more m (m - 1) one) in
     (omega (arith, sum, count_twos m, twos_are m), sum)
-
--- ## The place at which a subset begins
-
-module _ (size n k : ℕ) (below : k < of_size size n) where
-  -- below it none begin, and there is a place
-  pub begins_somewhere : (0 < n) × (of_size size n ≤ k + of_size size (n - 0))
-  begins_somewhere = elim (dec_lt 0 n) [
-    | yes h ↦ let e : n - 0 ≡ n = omega arith in (h, omega (arith, ap (of_size size) e))
-    | no h ↦ let e : n ≡ 0 = omega arith in absurd (omega (arith, none_among size, ap (of_size size) e))
-  ]
-
-  -- it is no last place, while those after it begin at k or before
-  pub goes_on : (p : ℕ) → p < n → of_size size n ≤ k + of_size size (n - (p + 1)) → p + 1 < n
-  goes_on p h l = elim (dec_lt (p + 1) n) [
-    | yes g ↦ g
-    | no g ↦ let e : n - (p + 1) ≡ 0 = omega arith in absurd (omega (arith, none_among size, ap (of_size size) e))
-  ]

@@ -73,14 +73,16 @@ pub fn begin_below(table: &[u32], size: usize, n: usize, p: usize) -> usize
     of_size(table, size, n) - of_size(table, size, n - p)
 }
 
-// The place at which the subset of number k begins, of those of this size: the last below which no more than k begin.
+// The place at which the subset of number k begins, of those of this size: the last below which no more than k begin. There is one, since k is less than
+// how many begin below n.
 pub fn lowest(table: &[u32], size: usize, n: usize, k: usize) -> usize
     requires { TripleTable table.now × (2 ≤ size) × (size ≤ 3) × (n ≤ 200) × (k < of_size size n) }
     ensures { Begins size n k result }
 {
-    let mut i: usize = 0;
-    while begin_below(table, size, n, i + 1) <= k {
-        i += 1;
+    for i in 0..n {
+        if begin_below(table, size, n, i + 1) > k {
+            return i;
+        }
     }
-    i
+    n
 }

@@ -52,7 +52,7 @@ pub fn next(n: usize, p: Places) -> Places
     }
     if v + 2 < n {
         return Places {
-            u: u,
+            u,
             v: v + 1,
             w: v + 2,
         };
@@ -128,12 +128,10 @@ fn triple_at(table: &[u32], n: usize, k: usize) -> Places
     let before = counting::begin_below(table, 3, n, u);
     let after = u + 1;
     let others = two_at(table, n - after, k - before);
-    let v = others.u;
-    let w = others.v;
     Places {
         u,
-        v: after + v,
-        w: after + w,
+        v: after + others.u,
+        w: after + others.v,
     }
 }
 

@@ -21,7 +21,6 @@ use Rattle.gates.specs.declared.Tally.{Tally}
 use Rattle.cursor.specs.Cursor.{OnSubset, places_at, subset_at}
 use Rattle.cursor.specs.declared.Places.{Places}
 use Rattle.cursor.proofs.Order.{Subset, two, three, in_range_lem}
-use Rattle.cursor.proofs.Number.{count_le}
 use Rattle.cursor.proofs.Standing.{stands_at}
 use Rattle.entries.specs.Preconditions.{Readable, Shuffled, Pairs}
 use Rattle.evaluation.specs.Preconditions.{Evaluating}
@@ -71,7 +70,6 @@ weight_at n M W s i = subset_weight (entry M n) (entry W n) s (get_or (order (up
 
 -- before the subset of number i
 pub record Evaluated (n : ℕ) (M W s old : List ℕ) (t : Tally) (weights : List ℕ) (p : Places) (u : Tally) (i : ℕ) : Type 0 where
-  pub upto : i ≤ subset_count (up_to_three n)
   pub there : p ≡ places_at (up_to_three n) i
   pub filling : Filling i (weight_at n M W s) old weights
   pub tally : counted u ≡ evaluation_tally (take i (order (up_to_three n))) (counted t)
@@ -86,30 +84,27 @@ weights_all n M W s =
 module _ (n : ℕ) (M W s old : List ℕ) (t : Tally) (asked : Evaluating (up_to_three n) M W s old t) where
   pub begins : (p : Places) → p ≡ places_at (up_to_three n) 0 → Evaluated n M W s old t old p t 0
   unfolding evaluation_tally
-  begins p e = record { upto = omega arith; there = e; filling = filling_none (weight_at n M W s) old; tally = refl }
+  begins p e = record { there = e; filling = filling_none (weight_at n M W s) old; tally = refl }
 
   module _ (weights : List ℕ) (p : Places) (u : Tally) (i : ℕ) (inv : Evaluated n M W s old t weights p u i) where
     pub kept : length weights ≡ length old
     kept = inv.filling.kept
 
-    pub ends : length weights ≤ i → (weights ≡ map (subset_weight (entry M n) (entry W n) s) (order (up_to_three n))) × (counted u ≡ evaluation_tally (order (up_to_three n)) (counted t))
+    pub ends : i ≡ length old → (weights ≡ map (subset_weight (entry M n) (entry W n) s) (order (up_to_three n))) × (counted u ≡ evaluation_tally (order (up_to_three n)) (counted t))
     ends h =
-        let e : i ≡ subset_count (up_to_three n) = omega (arith, kept, asked.whole, inv.upto) in (
+        let e : i ≡ subset_count (up_to_three n) = h ∙ asked.whole in (
           filling_all i (subset_count (up_to_three n)) (weight_at n M W s) old weights inv.filling e
               ∙ filled_whole (table (subset_count (up_to_three n)) (weight_at n M W s)) old (omega (arith, length-table (subset_count (up_to_three n)) (weight_at n M W s), asked.whole))
               ∙ weights_all n M W s,
           inv.tally ∙ ap (λ (ss : List (List ℕ)). evaluation_tally ss (counted t)) (take_all i (order (up_to_three n)) (omega arith)),
         )
 
-    module _ (h : i < length weights) where
+    module _ (h : i < length old) where
       pub below : i < subset_count (up_to_three n)
-      below = omega (arith, kept, asked.whole)
+      below = omega (arith, asked.whole)
 
       pub ranged : OnSubset n p
       ranged = in_range_lem n i asked.readable.few below p inv.there
-
-      pub below_few : i < 1333333
-      below_few = omega (arith, below, count_le n asked.readable.few)
 
       pub room : TallyRoom 1 7 u
       room =
@@ -130,7 +125,6 @@ module _ (n : ℕ) (M W s old : List ℕ) (t : Tally) (asked : Evaluating (up_to
         pub again : (ws : List ℕ) → ws ≡ set weights i x → (v : Tally) → counted v ≡ evaluation_tally (subset_at n p ∷ []) (counted u) → (q : Places) → q ≡ places_at (up_to_three n) (i + 1)
             → Evaluated n M W s old t ws q v (i + 1)
         again ws ews v ev q eq = subst (λ (z : List ℕ). Evaluated n M W s old t z q v (i + 1)) (sym ews) record {
-          upto = omega (arith, below);
           there = eq;
           filling = filling_more i (weight_at n M W s) old weights x inv.filling weight_is (omega (arith, kept));
           tally = ev

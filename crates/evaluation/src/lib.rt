@@ -26,16 +26,14 @@ fn edge(n: usize, m: &[u8], w: &[u16], i: usize, j: usize) -> EdgeEntries
     requires { Readable n m.now w.now × (i < n) × (j < n) }
     ensures { Between n m.now w.now i j result × EdgeInRange result }
 {
-    let there = gates::load_u8(m, i * n + j);
-    let weight = gates::load_u16(w, i * n + j);
     EdgeEntries {
-        m: there,
-        w: weight,
+        m: gates::load(m, i * n + j),
+        w: gates::load(w, i * n + j),
     }
 }
 
 // The weight of the cycle a → b → a: 2 products.
-fn two(ab: EdgeEntries, ba: EdgeEntries, t: Tally) -> Gated
+fn two(ab: EdgeEntries, ba: EdgeEntries, t: Tally) -> Gated<Secret>
     requires { EdgeInRange ab × EdgeInRange ba × TallyRoom 0 2 t }
     ensures { (value_of result.value ≡ cycle_weight (ab ∷ ba ∷ [])) × Raised 0 2 t result.tally }
 {
@@ -45,7 +43,7 @@ fn two(ab: EdgeEntries, ba: EdgeEntries, t: Tally) -> Gated
 }
 
 // The weight of the cycle a → b → c → a: 3 products.
-fn three(ab: EdgeEntries, bc: EdgeEntries, ca: EdgeEntries, t: Tally) -> Gated
+fn three(ab: EdgeEntries, bc: EdgeEntries, ca: EdgeEntries, t: Tally) -> Gated<Secret>
     requires { EdgeInRange ab × EdgeInRange bc × EdgeInRange ca × TallyRoom 0 3 t }
     ensures { (value_of result.value ≡ cycle_weight (ab ∷ bc ∷ ca ∷ [])) × Raised 0 3 t result.tally }
 {
@@ -64,7 +62,7 @@ fn triple(
     cb: EdgeEntries,
     ba: EdgeEntries,
     t: Tally,
-) -> Gated
+) -> Gated<Secret>
     requires { (EdgeInRange ab × EdgeInRange bc × EdgeInRange ca) × (EdgeInRange ac × EdgeInRange cb × EdgeInRange ba) × TallyRoom 1 7 t }
     ensures { (value_of result.value ≡ larger (cycle_weight (ab ∷ bc ∷ ca ∷ [])) (cycle_weight (ac ∷ cb ∷ ba ∷ [])))
         × Raised 1 7 t result.tally }
@@ -76,7 +74,7 @@ fn triple(
 }
 
 // The weight of the subset at the cursor. Place p holds pair s(p).
-fn weight_at(n: usize, m: &[u8], w: &[u16], s: &[u16], p: Places, t: Tally) -> Gated
+fn weight_at(n: usize, m: &[u8], w: &[u16], s: &[u16], p: Places, t: Tally) -> Gated<Secret>
     requires { Readable n m.now w.now × Shuffled n s.now × OnSubset n p × TallyRoom 1 7 t }
     ensures { (value_of result.value ≡ subset_weight (entry m.now n) (entry w.now n) s.now (subset_at n p))
         × (counted result.tally ≡ evaluation_tally (subset_at n p ∷ []) (counted t)) }
@@ -107,13 +105,11 @@ fn evaluated(n: usize, m: &[u8], w: &[u16], s: &[u16], weights: &mut [u32], t: T
 {
     let mut p = cursor::first(n);
     let mut tally = t;
-    let mut i: usize = 0;
-    while i < weights.len() {
+    for i in 0..weights.len() {
         let weighed = weight_at(n, m, w, s, p, tally);
         gates::store_u32(weights, i, weighed.value);
         tally = weighed.tally;
         p = cursor::next(n, p);
-        i += 1;
     }
     tally
 }

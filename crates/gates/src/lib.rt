@@ -33,10 +33,10 @@ pub struct Counts {
     pub rounds: u64,
 }
 
-// What a gate gives, and the tally after it.
+// What a gate gives, or a step made of gates, and the tally after it.
 #[derive(Clone, Copy)]
-pub struct Gated {
-    pub value: Secret,
+pub struct Gated<T> {
+    pub value: T,
     pub tally: Tally,
 }
 
@@ -62,7 +62,7 @@ fn product_counted(t: Tally) -> Tally
     }
 }
 
-pub fn product(a: Secret, b: Secret, t: Tally) -> Gated
+pub fn product(a: Secret, b: Secret, t: Tally) -> Gated<Secret>
     requires { (value_of a * value_of b < 2 ^ 32) × TallyRoom 0 1 t }
     ensures { (value_of result.value ≡ value_of a * value_of b) × Raised 0 1 t result.tally }
 {
@@ -77,9 +77,9 @@ pub fn product(a: Secret, b: Secret, t: Tally) -> Gated
 }
 
 // 1 where a is less than b, else 0.
-pub fn comparison(a: Secret, b: Secret, t: Tally) -> Gated
+pub fn comparison(a: Secret, b: Secret, t: Tally) -> Gated<Secret>
     requires { TallyRoom 1 0 t }
-    ensures { (value_of result.value ≡ one (ltb (value_of a) (value_of b))) × Raised 1 0 t result.tally }
+    ensures { (value_of result.value ≡ one (ltb (value_of a) (value_of b))) × Raised 1 0 t result.tally × (value_of result.value ≤ 1) }
 {
     let counted = Tally {
         comparisons: t.comparisons + 1,
@@ -96,7 +96,7 @@ pub fn comparison(a: Secret, b: Secret, t: Tally) -> Gated
 }
 
 // a where the bit is 1, b where it is 0: one product, bit × (a − b) + b, as the paper has it.
-pub fn pick(bit: Secret, a: Secret, b: Secret, t: Tally) -> Gated
+pub fn pick(bit: Secret, a: Secret, b: Secret, t: Tally) -> Gated<Secret>
     requires { (value_of bit ≤ 1) × TallyRoom 0 1 t }
     ensures { (value_of result.value ≡ cond (eqb (value_of bit) 1) (value_of a) (value_of b)) × Raised 0 1 t result.tally }
 {
@@ -147,29 +147,14 @@ pub fn demux_readout(p: usize, choice: SecretPlaces) -> Secret
 
 // ## Lent tables: where a secret stands in one is public
 
-pub fn load_u8(table: &[u8], at: usize) -> Secret
+// An entry, as the number that it is in 32 bits.
+pub fn load<T: Copy + Into<u32>>(table: &[T], at: usize) -> Secret
     requires { at < length table.now }
-    ensures { value_of result ≡ get_or table.now at 0 }
+    ensures { (x : T) → T.converts (get_or table.now at x) (value_of result) }
 {
     Secret {
-        value: table[at] as u32,
+        value: table[at].into(),
     }
-}
-
-pub fn load_u16(table: &[u16], at: usize) -> Secret
-    requires { at < length table.now }
-    ensures { value_of result ≡ get_or table.now at 0 }
-{
-    Secret {
-        value: table[at] as u32,
-    }
-}
-
-pub fn load_u32(table: &[u32], at: usize) -> Secret
-    requires { at < length table.now }
-    ensures { value_of result ≡ get_or table.now at 0 }
-{
-    Secret { value: table[at] }
 }
 
 pub fn store_u32(table: &mut [u32], at: usize, x: Secret)

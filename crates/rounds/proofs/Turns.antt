@@ -49,7 +49,6 @@ after_first : (cs : List ℕ) (i : ℕ) (rest : Left) → after cs (chosen_first
 after_first cs i rest = ap (λ (l : List ℕ). left rest.weights l rest.tally) (sym (append_assoc cs (i ∷ []) rest.choices))
 
 pub record BeforeRound (n f : ℕ) (old first : List ℕ) (t : Tally) (weights choices : List ℕ) (u : Tally) (k : ℕ) : Type 0 where
-  pub upto : k ≤ length first
   pub long : length weights ≡ length old
   pub wide : length choices ≡ length first
   pub same : after (take k choices) (rounds f (length first - k) (order (up_to_three n)) weights (counted u)) ≡ rounds f (length first) (order (up_to_three n)) old (counted t)
@@ -60,7 +59,6 @@ module _ (n f : ℕ) (old first : List ℕ) (t : Tally) (asked : Rounding (up_to
   begins =
       let z : length first - 0 ≡ length first = omega arith in
       record {
-        upto = omega arith;
         long = refl;
         wide = refl;
         same = ap (λ (m : ℕ). rounds f m (order (up_to_three n)) old (counted t)) z;
@@ -156,7 +154,6 @@ module _ (n f : ℕ) (old first : List ℕ) (t : Tally) (asked : Rounding (up_to
               let c : Chosen = choice_of (up_to_three n) f weights u in
               let z : length first - k ≡ suc m = omega arith in
               record {
-                upto = omega arith;
                 long = weights_long ∙ inv.long;
                 wide = ap length ec.0 ∙ length-set choices k c.number ∙ inv.wide;
                 same = ap₂ (λ (l : List ℕ) (x : Left). after l x)

@@ -15,10 +15,8 @@ pub fn all_rounds(n: usize, floor: u32, weights: &mut [u32], choices: &mut [u32]
     ensures { Rounds.left weights.new choices.new (counted tally.new)
         ≡ Rounds.rounds floor (length choices.old) (order (up_to_three n)) weights.old (counted tally.old) }
 {
-    let mut k: usize = 0;
-    while k < choices.len() {
+    for k in 0..choices.len() {
         let at = choosing::choose(n, floor, weights, choices, k, tally);
         clearing::clear(n, weights, at, choices.len() - k - 1, tally);
-        k += 1;
     }
 }

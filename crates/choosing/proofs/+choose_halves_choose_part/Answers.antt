@@ -1,13 +1,8 @@
 -- `choosing::choose_part` and `choosing::choose_halves` meet their contracts: a part of one weight is its own winner, and the winners of two halves are
 -- joined. Assumes nothing.
 use native.Mathlib.Omega.{arith}
-use Rattle.choosing.proofs.Halves.{length-left}
-use Rattle.choosing.proofs.Winners.{right_length, index_few, one-weight, asks_left, asks_right, join-room, both}
+use Rattle.choosing.proofs.Winners.{right_length, index_few, one-weight, asks_right, join-room, both}
 use Rattle.choosing.proofs.+choose_halves_choose_part.Goals as goal
-
-pub choose_halves-choose_part-left-requires : goal.choose_halves-choose_part-left-requires
-choose_halves-choose_part-left-requires t c =
-    (omega (arith, c.decreases, length-left c.args.weights.now), asks_left _ _ _ _ _ c.requires.0 c.requires.1)
 
 pub choose_halves-overflow_add-first : goal.choose_halves-overflow_add-first
 choose_halves-overflow_add-first t c = record { fits = omega (arith, index_few _ _ _ _ _ c.requires.0) }
@@ -28,7 +23,4 @@ choose_halves-returns t c =
 
 pub choose_part-returns-then-weights-le1 : goal.choose_part-returns-then-weights-le1
 choose_part-returns-then-weights-le1 t c =
-    one-weight _ _ _ _ _ c.requires c.if-weights-le1.true _ c.load_u32.ensures _ c.single.ensures
-
-pub choose_part-choose_halves-requires : goal.choose_part-choose_halves-requires
-choose_part-choose_halves-requires t c = (omega (arith, c.decreases), (c.requires, omega arith))
+    one-weight _ _ _ _ _ c.requires c.if-weights-le1.true _ (c.load.ensures 0) _ c.single.ensures

@@ -1,11 +1,8 @@
 -- `choosing::choice` meets its contract. Assumes nothing.
 use native.Mathlib.Omega.{arith}
 use Rattle.cursor.proofs.Number.{count_le}
-use Rattle.choosing.proofs.Tested.{asks_part, room_test, chosen}
+use Rattle.choosing.proofs.Tested.{room_test, chosen}
 use Rattle.choosing.proofs.choice.Goals as goal
-
-pub choose_part-won-requires : goal.choose_part-won-requires
-choose_part-won-requires c = asks_part _ _ _ c.requires _ c.first-start.ensures
 
 pub final_test-requires : goal.final_test-requires
 final_test-requires c =

@@ -1,20 +1,7 @@
 -- `choosing::final_test` meets its contract. Assumes nothing.
-use borrow.Author.Rules.{rules}
-use Rattle.gates.proofs.Gates.{bit_le, raised_then}
+use Rattle.gates.proofs.Gates.{raised_then}
 use Rattle.choosing.proofs.Tested.{number_is, places_are_tested}
 use Rattle.choosing.proofs.final_test.Goals as goal
-
-pub pick-number-requires : goal.pick-number-requires
-pick-number-requires c = (bit_le _ _ c.comparison-some.ensures.0, search rules)
-
-pub pick-u-requires : goal.pick-u-requires
-pick-u-requires c = (bit_le _ _ c.comparison-some.ensures.0, search rules)
-
-pub pick-v-requires : goal.pick-v-requires
-pick-v-requires c = (bit_le _ _ c.comparison-some.ensures.0, search rules)
-
-pub pick-w-requires : goal.pick-w-requires
-pick-w-requires c = let some = c in (bit_le _ _ some.comparison-some.ensures.0, search (rules, some.requires.2))
 
 pub returns : goal.returns
 returns c =

@@ -1,23 +1,7 @@
 -- `choosing::join` meets its contract. Assumes nothing.
-use borrow.Author.Rules.{rules}
-use Rattle.gates.proofs.Gates.{bit_le, raised_then}
+use Rattle.gates.proofs.Gates.{raised_then}
 use Rattle.choosing.proofs.Joins.{joined}
 use Rattle.choosing.proofs.join.Goals as goal
-
-pub pick-weight-requires : goal.pick-weight-requires
-pick-weight-requires c = (bit_le _ _ c.comparison-right.ensures.0, search rules)
-
-pub pick-number-requires : goal.pick-number-requires
-pick-number-requires c = (bit_le _ _ c.comparison-right.ensures.0, search rules)
-
-pub pick-u-requires : goal.pick-u-requires
-pick-u-requires c = (bit_le _ _ c.comparison-right.ensures.0, search rules)
-
-pub pick-v-requires : goal.pick-v-requires
-pick-v-requires c = (bit_le _ _ c.comparison-right.ensures.0, search rules)
-
-pub pick-w-requires : goal.pick-w-requires
-pick-w-requires c = (bit_le _ _ c.comparison-right.ensures.0, search rules)
 
 pub returns : goal.returns
 returns c =

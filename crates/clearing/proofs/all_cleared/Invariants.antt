@@ -1,11 +1,6 @@
 -- `clearing::all_cleared` meets its contract. The loop's invariant is `Cleared`. Assumes nothing.
-use Prim.Native.Nat.{◌-◌}
-use lib.ListN.{length}
 use Rattle.clearing.proofs.AllCleared.{Cleared}
 use Rattle.clearing.proofs.all_cleared.Given as goal
 
 abbrev pub invariant-loop-i : goal.invariant-loop-i
 invariant-loop-i l = Cleared l.n l.initial.weights l.choice l.initial.tally l.weights l.p l.tally l.i
-
-abbrev pub decreases-loop-i : goal.decreases-loop-i
-decreases-loop-i l = length l.initial.weights - l.i

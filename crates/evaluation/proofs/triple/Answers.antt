@@ -1,11 +1,7 @@
 -- `evaluation::triple` meets its contract. Assumes nothing.
-use borrow.Author.Rules.{rules}
-use Rattle.gates.proofs.Gates.{bit_le, raised_then}
+use Rattle.gates.proofs.Gates.{raised_then}
 use Rattle.evaluation.proofs.Subsets.{larger_is}
 use Rattle.evaluation.proofs.triple.Goals as goal
-
-pub pick-requires : goal.pick-requires
-pick-requires c = (bit_le _ _ c.comparison-later.ensures.0, search rules)
 
 pub returns : goal.returns
 returns c =

@@ -2,23 +2,8 @@
 use native.Mathlib.Omega.{arith}
 use borrow.Author.Rules.{rules}
 use Rattle.gates.specs.Secrets.{value_of}
-use Rattle.gates.proofs.Picked.{difference_fits, product_fits, picked_fits, value_fits, value_is, not_negative}
+use Rattle.gates.proofs.Picked.{value_fits, value_is, not_negative}
 use Rattle.gates.proofs.pick.Goals as goal
-
-pub overflow_sub-difference : goal.overflow_sub-difference
-overflow_sub-difference c =
-    let s = c in
-    difference_fits (value_of s.args.bit) (value_of s.args.a) (value_of s.args.b) s.requires.0 (omega arith) (omega arith)
-
-pub overflow_mul-picked : goal.overflow_mul-picked
-overflow_mul-picked c =
-    let s = c in
-    product_fits (value_of s.args.bit) (value_of s.args.a) (value_of s.args.b) s.requires.0 (omega arith) (omega arith)
-
-pub overflow_add-picked : goal.overflow_add-picked
-overflow_add-picked c =
-    let s = c in
-    picked_fits (value_of s.args.bit) (value_of s.args.a) (value_of s.args.b) s.requires.0 (omega arith) (omega arith)
 
 pub overflow_cast-made : goal.overflow_cast-made
 overflow_cast-made c =

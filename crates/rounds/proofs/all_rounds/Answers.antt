@@ -19,4 +19,4 @@ loop-k-preserved c =
     (simp (c.choose-at.auto.choices, c.loop-k.auto.choices) at c.clear.ensures)
 
 pub returns : goal.returns
-returns c = ends _ _ _ _ _ c.requires _ _ _ _ c.loop-k.invariant (omega (arith, c.loop-k.invariant.upto))
+returns c = ends _ _ _ _ _ c.requires _ _ _ _ c.loop-k.invariant (omega arith)

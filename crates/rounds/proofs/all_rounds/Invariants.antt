@@ -1,11 +1,6 @@
 -- The loop's invariant is `BeforeRound`: the choices made so far, before what the rounds left make, are what all rounds make. Assumes nothing.
-use Prim.Native.Nat.{◌-◌}
-use lib.ListN.{length}
 use Rattle.rounds.proofs.Turns.{BeforeRound}
 use Rattle.rounds.proofs.all_rounds.Given as goal
 
 abbrev pub invariant-loop-k : goal.invariant-loop-k
 invariant-loop-k l = BeforeRound l.n l.floor l.initial.weights l.initial.choices l.initial.tally l.weights l.choices l.tally l.k
-
-abbrev pub decreases-loop-k : goal.decreases-loop-k
-decreases-loop-k l = length l.initial.choices - l.k
