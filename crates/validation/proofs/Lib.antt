@@ -1,2 +1,3 @@
 -- `Faults`: what the checks find, as document 01's faults.
 pub mod Faults
+pub mod Anywhere
