@@ -6,8 +6,8 @@
 ghost use Rattle.std.specs.Prelude.{◌≡◌, ◌≤◌, length};
 ghost use Rattle.refusal.specs.Answer.{finished, outcome};
 ghost use Rattle.refusal.specs.Number.{number_of};
-ghost use Rattle.pool.specs.Tables.{item_in, pair_in, points_of_table};
-ghost use Rattle.pool.specs.Lent.{lent_tables, tables_now};
+ghost use Rattle.pool.specs.Tables.{item_in, tables, pair_in, points_of_table};
+ghost use Rattle.fields.specs.Lent.{fields_in};
 ghost use Rattle.exchange.specs.Input.{no_floor, input_of, request};
 ghost use Rattle.printout.specs.Printed.{plan_text, refusal_text};
 ghost use Rattle.buffers.specs.Preconditions.{FaultlessTables};
@@ -15,6 +15,7 @@ ghost use Rattle.answers.specs.Answering.{plan_by, printed_plan_of, putting};
 ghost use Rattle.answers.specs.Promises.{AnswersSheet};
 ghost use Rattle.answering.specs.Preconditions.{Read};
 
+use fields::Fields;
 use printout::Printing;
 use reader::Reading;
 use refusal::Refusal;
@@ -59,45 +60,20 @@ fn print_pool(
     version: u16,
     n: usize,
     points: &[u16],
-    ids: &[u32],
-    donor_blood: &[u8],
-    patient_blood: &[u8],
-    donor_age: &[u8],
-    patient_age: &[u8],
-    donor_antigens: &[u64],
-    patient_antigens: &[u64],
-    patient_antibodies: &[u64],
+    fields: Fields,
     shuffle: &[u16],
     out: &mut [u8; 1458],
 ) -> usize
-    requires { Read version n
-        (tables_now points ids donor_blood patient_blood donor_age patient_age
-        donor_antigens patient_antigens patient_antibodies shuffle) }
-    ensures { let t = lent_tables points ids donor_blood patient_blood donor_age patient_age
-        donor_antigens patient_antigens patient_antibodies shuffle in
-        let q = points_of_table version t.entry.points in
-        let plan = printed_plan_of q n (pair_in t.entry.fields) (item_in t.entry.shuffle) in
+    requires { Read version n (tables points.now (fields_in fields) shuffle.now) }
+    ensures { let q = points_of_table version points.now in
+        let plan = printed_plan_of q n (pair_in (fields_in fields.entry)) (item_in shuffle.now) in
         outcome (finished result) out.new ≡ putting (plan_text plan) out.old }
 {
     // 40 rows of 40.
     let mut m = [0u8; 1600];
     let mut w = [0u16; 1600];
-    match weighing::build(
-        version,
-        n,
-        points,
-        ids,
-        donor_blood,
-        patient_blood,
-        donor_age,
-        patient_age,
-        donor_antigens,
-        patient_antigens,
-        patient_antibodies,
-        &mut m,
-        &mut w,
-    ) {
-        Building::Built => print_planned(n, &ids[..n], &m, &w, &shuffle[..n], out),
+    match weighing::build(version, n, points, fields, &mut m, &mut w) {
+        Building::Built => print_planned(n, &fields.ids[..n], &m, &w, &shuffle[..n], out),
         Building::Refused(_) => 0,
     }
 }
@@ -144,14 +120,16 @@ pub fn answer(sheet: &[u8], out: &mut [u8; 1458]) -> usize
             version,
             n,
             &points,
-            &ids,
-            &donor_blood,
-            &patient_blood,
-            &donor_age,
-            &patient_age,
-            &donor_antigens,
-            &patient_antigens,
-            &patient_antibodies,
+            Fields {
+                ids: &ids,
+                donor_blood: &donor_blood,
+                patient_blood: &patient_blood,
+                donor_age: &donor_age,
+                patient_age: &patient_age,
+                donor_antigens: &donor_antigens,
+                patient_antigens: &patient_antigens,
+                patient_antibodies: &patient_antibodies,
+            },
             &shuffle,
             out,
         ),

@@ -42,11 +42,9 @@ fn put_raised(out: &mut [u8], at: usize, sheet: &[u8], version: u16, n: usize, m
         out.new ≡ stored at (flat_map (bytes 2) s) out.old }
 {
     let from = layout::pair_place(version, n) + layout::START_LENGTH;
-    let mut j: usize = 0;
-    while j < n {
+    for j in 0..n {
         let drawn = framing::number(sheet, from + 2 * j, 2);
         encoding::put(out, at + 2 * j, 2, drawn + more as u64);
-        j += 1;
     }
 }
 
@@ -59,7 +57,7 @@ pub fn put_joined(out: &mut [u8], first: &[u8], second: &[u8]) -> usize
     let version = framing::version_in(first);
     let n = framing::pairs_in(first);
     let m = framing::pairs_in(second);
-    encoding::put_head(out, version as u64, (n + m) as u64);
+    encoding::put_head(out, u64::from(version), (n + m) as u64);
     put_points(out, first, version);
     put_pairs(out, layout::first_pair(version), first, version, n);
     put_pairs(out, layout::pair_place(version, n), second, version, m);

@@ -18,7 +18,7 @@ use Rattle.std.specs.Prelude.{Result, Ok, Err}
 use Rattle.refusal.proofs.Faults.{sound_none, faulty_fault, then_none, none_then, fault_then, refuse_none, none_refuse, fault_refuse, first_hit}
 use Rattle.pool.specs.Pool.{Pair}
 use Rattle.pool.specs.Points.{known_version, point_count, points_of}
-use Rattle.pool.specs.Tables.{item_in, fields, pair_in}
+use Rattle.pool.specs.Tables.{item_in, Fields, pair_in}
 use Rattle.pool.specs.Faults.{version_fault, group_fault, id_fault, pair_fault, points_fault, room_fault, tables_fault, before_fault, pairs_fault}
 use Rattle.pool.proofs.Points.{known_version_lem, version_none}
 use Rattle.pool.proofs.Reading.{room_none, tables_passed}
@@ -60,11 +60,10 @@ module _ (o : ℕ) (p : ℕ → Pair) (i : ℕ) (ids : List ℕ) (donor_blood pa
       pair_sound h = sym (pair_id ∙ rw h)
 
 -- a pair of lent tables has what stands there
-pub agree_in : (ids donor_blood patient_blood donor_age patient_age f g h : List ℕ) (i : ℕ)
-    → PairAgrees (pair_in (fields ids donor_blood patient_blood donor_age patient_age f g h)) i ids (get_or donor_blood i 0) (get_or patient_blood i 0) (get_or donor_age i 0)
-    (get_or patient_age i 0)
+pub agree_in : (f : Fields) (i : ℕ)
+    → PairAgrees (pair_in f) i f.ids (get_or f.donor_blood i 0) (get_or f.patient_blood i 0) (get_or f.donor_age i 0) (get_or f.patient_age i 0)
 unfolding pair_in
-agree_in ids donor_blood patient_blood donor_age patient_age f g h i =
+agree_in f i =
     record { id = λ j l. refl; has_donor_blood = refl; has_patient_blood = refl; has_donor_age = refl; has_patient_age = refl }
 
 -- ## 9 of the tables, by their lengths

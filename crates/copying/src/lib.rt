@@ -9,9 +9,5 @@ pub fn put_bytes(out: &mut [u8], at: usize, piece: &[u8])
     requires { at + length piece.now ≤ length out.old }
     ensures { out.new ≡ stored at piece.now out.old }
 {
-    let mut i: usize = 0;
-    while i < piece.len() {
-        out[at + i] = piece[i];
-        i += 1;
-    }
+    out[at..at + piece.len()].copy_from_slice(piece);
 }

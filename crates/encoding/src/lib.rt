@@ -17,11 +17,9 @@ pub fn put(out: &mut [u8], at: usize, k: usize, x: u64)
     ensures { out.new ≡ stored at (bytes k x) out.old }
 {
     let mut left = x;
-    let mut i: usize = 0;
-    while i < k {
-        i += 1;
-        out[at + k - i] = (left % 256) as u8;
-        left = left / 256;
+    for i in (0..k).rev() {
+        out[at + i] = (left % 256) as u8;
+        left /= 256;
     }
 }
 
@@ -56,10 +54,10 @@ fn put_groups(
     requires { at + 4 ≤ length out.old }
     ensures { out.new ≡ stored at (group_bytes donor_blood patient_blood donor_age patient_age) out.old }
 {
-    put(out, at, 1, donor_blood as u64);
-    put(out, at + 1, 1, patient_blood as u64);
-    put(out, at + 2, 1, donor_age as u64);
-    put(out, at + 3, 1, patient_age as u64);
+    put(out, at, 1, u64::from(donor_blood));
+    put(out, at + 1, 1, u64::from(patient_blood));
+    put(out, at + 2, 1, u64::from(donor_age));
+    put(out, at + 3, 1, u64::from(patient_age));
 }
 
 // The three eight-byte numbers of a pair.
@@ -96,7 +94,7 @@ pub fn put_pair(
         out.new ≡ stored at (pair_field q) out.old }
 {
     put_start(out, at, layout::PAIR_TAG, layout::PAIR_LENGTH as u64);
-    put(out, at + layout::ID_AT, 4, id as u64);
+    put(out, at + layout::ID_AT, 4, u64::from(id));
     put_groups(
         out,
         at + layout::DONOR_BLOOD_AT,
@@ -120,10 +118,8 @@ fn put_numbers(out: &mut [u8], at: usize, n: usize, t: &[u16])
     ensures { let s = table n (item_in t.now) in
         out.new ≡ stored at (flat_map (bytes 2) s) out.old }
 {
-    let mut j: usize = 0;
-    while j < n {
-        put(out, at + 2 * j, 2, t[j] as u64);
-        j += 1;
+    for j in 0..n {
+        put(out, at + 2 * j, 2, u64::from(t[j]));
     }
 }
 

@@ -26,9 +26,6 @@ module _ (n : ℕ) (M W : List ℕ) (typed : (i : ℕ) → get_or W i 0 < 2 ^ 16
       both_le : x * y ≤ 1
       both_le = ones_le x y x_le (one_of b a asked.second asked.first y ey)
 
-      pub two_fits : x * y < 2 ^ 64
-      two_fits = omega (arith, both_le)
-
       module _ (p : ℕ) (ep : p ≡ x * y) (v w : ℕ) (ev : v ≡ entry W n a b) (ew : w ≡ entry W n b a) where
         pub two_sum : v + w < 2 ^ 64
         two_sum = omega (arith, points_of_lem a b v ev, points_of_lem b a w ew)
@@ -45,15 +42,9 @@ module _ (n : ℕ) (M W : List ℕ) (typed : (i : ℕ) → get_or W i 0 < 2 ^ 16
       ab_le : x * y ≤ 1
       ab_le = ones_le x y x_le (one_of b c asked.second asked.third y ey)
 
-      pub three_fits : x * y < 2 ^ 64
-      three_fits = omega (arith, ab_le)
-
       module _ (p : ℕ) (ep : p ≡ x * y) (z : ℕ) (ez : z ≡ entry M n c a) where
         all_le : p * z ≤ 1
         all_le = ones_le p z (omega (arith, ab_le)) (one_of c a asked.third asked.first z ez)
-
-        pub three_fits_all : p * z < 2 ^ 64
-        three_fits_all = omega (arith, all_le)
 
         module _ (q : ℕ) (eq : q ≡ p * z) (u v w : ℕ) (eu : u ≡ entry W n a b) (ev : v ≡ entry W n b c) (ew : w ≡ entry W n c a) where
           pub three_sum : u + v + w ≤ 196605

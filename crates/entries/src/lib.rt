@@ -11,7 +11,7 @@ pub fn compatible(m: &[u8], n: usize, i: usize, j: usize) -> usize
     requires { (i < n) × (j < n) × (n ≤ 200) × (n * n ≤ length m.now) }
     ensures { result ≡ entry m.now n i j }
 {
-    m[i * n + j] as usize
+    usize::from(m[i * n + j])
 }
 
 // W(i, j), in the open.
@@ -19,7 +19,7 @@ pub fn points(w: &[u16], n: usize, i: usize, j: usize) -> usize
     requires { (i < n) × (j < n) × (n ≤ 200) × (n * n ≤ length w.now) }
     ensures { result ≡ entry w.now n i j }
 {
-    w[i * n + j] as usize
+    usize::from(w[i * n + j])
 }
 
 // The weight of a two's cycle.

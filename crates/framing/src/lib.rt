@@ -15,10 +15,8 @@ pub fn number(b: &[u8], at: usize, k: usize) -> u64
     ensures { result ≡ big_endian k b.now at }
 {
     let mut x: u64 = 0;
-    let mut left = k;
-    while 0 < left {
-        x = x * 256 + (b[at + (k - left)] as u64);
-        left -= 1;
+    for &byte in &b[at..at + k] {
+        x = x * 256 + u64::from(byte);
     }
     x
 }

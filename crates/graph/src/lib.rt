@@ -5,32 +5,24 @@ ghost use Rattle.std.specs.Prelude.{◌≡◌};
 ghost use Rattle.pool.specs.Tables.{pair_in};
 ghost use Rattle.pool.specs.Faultless.{SoundPoints};
 ghost use Rattle.points.specs.Named.{named};
+ghost use Rattle.fields.specs.Lent.{fields_in};
 ghost use Rattle.donation.specs.Compatibility.{compatibility};
 ghost use Rattle.donation.specs.Weight.{weight};
 ghost use Rattle.graph.specs.Graph.{filled_graph, with_row};
 ghost use Rattle.graph.specs.Lent.{graph_now, lent_graph};
-ghost use Rattle.graph.specs.Sources.{idless_now, lent_idless, lent_for_m, lent_for_w};
 ghost use Rattle.graph.specs.Preconditions.{Row, ReadableForM, ReadableForW, Buildable};
 
+use fields::Fields;
 use points::Points;
 
 // Row i of M: donor i, and each patient.
-fn compatibility_row(
-    i: usize,
-    n: usize,
-    donor_blood: &[u8],
-    patient_blood: &[u8],
-    donor_antigens: &[u64],
-    patient_antibodies: &[u64],
-    compatibilities: &mut [u8],
-)
+fn compatibility_row(i: usize, n: usize, fields: Fields, compatibilities: &mut [u8])
     requires row { Row i n compatibilities.old }
-    requires readable_for_m { ReadableForM n donor_blood.now patient_blood.now donor_antigens.now patient_antibodies.now }
-    ensures { let f = lent_for_m donor_blood patient_blood donor_antigens patient_antibodies in
-        compatibilities.new ≡ with_row n (compatibility (pair_in f)) i compatibilities.old }
+    requires readable_for_m { ReadableForM n (fields_in fields) }
+    ensures { compatibilities.new ≡ with_row n (compatibility (pair_in (fields_in fields.entry))) i compatibilities.old }
 {
-    let blood = donor_blood[i];
-    let antigens = donor_antigens[i];
+    let blood = fields.donor_blood[i];
+    let antigens = fields.donor_antigens[i];
     let start = i * n;
     let mut j: usize = 0;
     while j < n {
@@ -38,33 +30,23 @@ fn compatibility_row(
             i,
             j,
             blood,
-            patient_blood[j],
+            fields.patient_blood[j],
             antigens,
-            patient_antibodies[j],
+            fields.patient_antibodies[j],
         );
         j += 1;
     }
 }
 
 // Row i of W: the same donor and patients, by these points.
-fn weight_row(
-    points: Points,
-    i: usize,
-    n: usize,
-    donor_age: &[u8],
-    patient_age: &[u8],
-    donor_antigens: &[u64],
-    patient_antigens: &[u64],
-    weights: &mut [u16],
-)
+fn weight_row(points: Points, i: usize, n: usize, fields: Fields, weights: &mut [u16])
     requires row { Row i n weights.old }
-    requires readable_for_w { ReadableForW n donor_age.now patient_age.now donor_antigens.now patient_antigens.now }
+    requires readable_for_w { ReadableForW n (fields_in fields) }
     requires sound_points { SoundPoints (named points) }
-    ensures { let f = lent_for_w donor_age patient_age donor_antigens patient_antigens in
-        weights.new ≡ with_row n (weight (named points) (pair_in f)) i weights.old }
+    ensures { weights.new ≡ with_row n (weight (named points) (pair_in (fields_in fields.entry))) i weights.old }
 {
-    let age = donor_age[i];
-    let antigens = donor_antigens[i];
+    let age = fields.donor_age[i];
+    let antigens = fields.donor_antigens[i];
     let start = i * n;
     let mut j = 0;
     while j < n {
@@ -73,9 +55,9 @@ fn weight_row(
             i,
             j,
             age,
-            patient_age[j],
+            fields.patient_age[j],
             antigens,
-            patient_antigens[j],
+            fields.patient_antigens[j],
         );
         j += 1;
     }
@@ -85,43 +67,18 @@ fn weight_row(
 pub fn fill(
     points: Points,
     n: usize,
-    donor_blood: &[u8],
-    patient_blood: &[u8],
-    donor_age: &[u8],
-    patient_age: &[u8],
-    donor_antigens: &[u64],
-    patient_antigens: &[u64],
-    patient_antibodies: &[u64],
+    fields: Fields,
     compatibilities: &mut [u8],
     weights: &mut [u16],
 )
-    requires { let f = idless_now donor_blood patient_blood donor_age patient_age donor_antigens patient_antigens patient_antibodies in
-        Buildable (named points) n f (graph_now compatibilities weights) }
-    ensures { let f = lent_idless donor_blood patient_blood donor_age patient_age donor_antigens patient_antigens patient_antibodies in
-        let g = lent_graph compatibilities weights in
-        g.exit ≡ filled_graph (named points) n (pair_in f.entry) g.entry }
+    requires { Buildable (named points) n (fields_in fields) (graph_now compatibilities weights) }
+    ensures { let g = lent_graph compatibilities weights in
+        g.exit ≡ filled_graph (named points) n (pair_in (fields_in fields.entry)) g.entry }
 {
     let mut i: usize = 0;
     while i < n {
-        compatibility_row(
-            i,
-            n,
-            donor_blood,
-            patient_blood,
-            donor_antigens,
-            patient_antibodies,
-            compatibilities,
-        );
-        weight_row(
-            points,
-            i,
-            n,
-            donor_age,
-            patient_age,
-            donor_antigens,
-            patient_antigens,
-            weights,
-        );
+        compatibility_row(i, n, fields, compatibilities);
+        weight_row(points, i, n, fields, weights);
         i += 1;
     }
 }

@@ -37,25 +37,26 @@ module _ {A : Type 0} where
       rw (f, e, drop-cons old i x l) (set_at new (get_or old i x) (drop (suc i) old) x i e ∙ rw append_assoc)
 
 -- a store takes a table filled to i to one filled to i + 1
-filled_more : (i : ℕ) (f : ℕ → ℕ) (old : List ℕ) → i < length old → set (filled (table i f) old) i (f i) ≡ filled (table (i + 1) f) old
+filled_more : {A : Type 0} (i : ℕ) (f : ℕ → A) (old : List A) → i < length old → set (filled (table i f) old) i (f i) ≡ filled (table (i + 1) f) old
 unfolding table
 filled_more i f old l = rw add-one (filled_next (table i f) old (f i) i (length-table i f) l)
 
 -- a loop that fills a table: t is `old` filled to i, and as long
-pub record Filling (i : ℕ) (f : ℕ → ℕ) (old t : List ℕ) : Type 0 where
+pub record Filling {A : Type 0} (i : ℕ) (f : ℕ → A) (old t : List A) : Type 0 where
   pub holds : t ≡ filled (table i f) old
   pub kept : length t ≡ length old
 
-pub filling_none : (f : ℕ → ℕ) (old : List ℕ) → Filling 0 f old old
-unfolding filled table
-filling_none f old = record { holds = refl; kept = refl }
+module _ {A : Type 0} where
+  pub filling_none : (f : ℕ → A) (old : List A) → Filling 0 f old old
+  unfolding filled table
+  filling_none f old = record { holds = refl; kept = refl }
 
-pub filling_more : (i : ℕ) (f : ℕ → ℕ) (old t : List ℕ) (x : ℕ) → Filling i f old t → x ≡ f i → i < length old → Filling (i + 1) f old (set t i x)
-filling_more i f old t x w g l =
-    record { holds = ap₂ (λ (s : List ℕ) (y : ℕ). set s i y) w.holds g ∙ filled_more i f old l; kept = length-set t i x ∙ w.kept }
+  pub filling_more : (i : ℕ) (f : ℕ → A) (old t : List A) (x : A) → Filling i f old t → x ≡ f i → i < length old → Filling (i + 1) f old (set t i x)
+  filling_more i f old t x w g l =
+      record { holds = ap₂ (λ (s : List A) (y : A). set s i y) w.holds g ∙ filled_more i f old l; kept = length-set t i x ∙ w.kept }
 
-pub filling_all : (i n : ℕ) (f : ℕ → ℕ) (old t : List ℕ) → Filling i f old t → i ≡ n → t ≡ filled (table n f) old
-filling_all i n f old t w g = w.holds ∙ ap (λ (k : ℕ). filled (table k f) old) g
+  pub filling_all : (i n : ℕ) (f : ℕ → A) (old t : List A) → Filling i f old t → i ≡ n → t ≡ filled (table n f) old
+  filling_all i n f old t w g = w.holds ∙ ap (λ (k : ℕ). filled (table k f) old) g
 
 -- what stands in a table that was filled
 pub filled_at : (n : ℕ) (f : ℕ → ℕ) (old new : List ℕ) → new ≡ filled (table n f) old → (j : ℕ) → j < n → get_or new j 0 ≡ f j

@@ -1,3 +1,2 @@
 -- `Given`: the numbers that each function gives. `Own`: the promises of the numbers.
-pub mod Given
 pub mod Own

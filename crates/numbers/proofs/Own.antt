@@ -1,29 +1,26 @@
 -- The promises of the numbers: what each call answers has a number and place as they ask, and no two such answers have the same numbers. Assumes nothing.
+use Rattle.std.specs.Prelude.{Result, Ok, Err}
 use mathlib.Core.Path.{◌≡◌, refl, sym, ap}
 use Prim.Native.Nat.{ℕ, ◌≤◌}
 use native.Mathlib.Omega.{arith}
 use Rattle.refusal.specs.Answer.{Answer, finished, refused}
 use Rattle.refusal.specs.Number.{number_of}
 use Rattle.refusal.specs.declared.Refusal.{Refusal}
+use Rattle.refusal.specs.declared.Refused.{Refused}
 use Rattle.refusal.specs.declared.Refusal.TheVariants.{CutOff, WrongField, WrongVersion, TooManyPairs, LeftOver, OutOfRange, RepeatedId, NotAShuffle, TooShort, NotCompatibility}
 use Rattle.refusal.specs.declared.Refusal.TheVariants.{SharedId, TooManyTogether, FloorTooHigh, WrongPoints, DifferentPoints, UnknownId, WeightlessEdge}
 use Rattle.greedy.specs.Tally.{tally}
 use Rattle.pool.specs.Calls.{head}
 use Rattle.exchange.specs.Planning.{Plan, plan}
 use Rattle.reader.specs.Answers as Reader
-use Rattle.reader.specs.declared.Reading.{Reading}
+use Rattle.reader.specs.declared.Head.{Head}
 use Rattle.writer.specs.Answers as Writer
-use Rattle.writer.specs.declared.Writing.{Writing}
 use Rattle.joining.specs.Answers as Joiner
-use Rattle.joining.specs.declared.Joining.{Joining}
 use Rattle.weighing.specs.Answers as Weighing
-use Rattle.weighing.specs.declared.Building.{Building}
 use Rattle.live.specs.Answers as Live
-use Rattle.live.specs.declared.Change.{Change}
 use Rattle.planner.specs.Answers as Planner
-use Rattle.planner.specs.declared.Planning.{Planning}
+use Rattle.planner.specs.declared.Planned.{Planned}
 use Rattle.printout.specs.Answers as Printout
-use Rattle.printout.specs.declared.Printing.{Printing}
 use Rattle.numbers.specs.declared.PlanAnswer.{PlanAnswer}
 use Rattle.numbers.specs.Numbers.{read_numbers, write_numbers, join_numbers, build_numbers, live_numbers, plan_numbers, print_numbers}
 use Rattle.numbers.specs.Promises.{Numbered, NumberedAt0, Own, OneAnswer}
@@ -49,49 +46,49 @@ from_one DifferentPoints = omega arith
 from_one UnknownId = omega arith
 from_one WeightlessEdge = omega arith
 
-at_0 : {Result : Type 0} (why : Refusal) → NumberedAt0 {Result = Result} (refused (number_of why) 0)
+at_0 : {Given : Type 0} (why : Refusal) → NumberedAt0 {Result = Given} (refused (number_of why) 0)
 at_0 why k o e = let f : k ≡ number_of why = cc in let g : o ≡ 0 = cc in (rw f (from_one why), g)
 
-of_finished : {Result : Type 0} (x : Result) → NumberedAt0 (finished x)
+of_finished : {Given : Type 0} (x : Result) → NumberedAt0 (finished x)
 of_finished x k o e = let z : ◌≡◌ {A = ℕ} 0 1 = cc in absurd (omega arith)
 
-of_refused : {Result : Type 0} (why : Refusal) (place : ℕ) → Numbered {Result = Result} (refused (number_of why) place)
+of_refused : {Given : Type 0} (why : Refusal) (place : ℕ) → Numbered {Result = Given} (refused (number_of why) place)
 of_refused why place k o e = let f : k ≡ number_of why = cc in rw f (from_one why)
 
-pub read_numbered : (r : Reading) → Numbered (Reader.answer_of r)
+pub read_numbered : (r : Result Head Refused) → Numbered (Reader.answer_of r)
 unfolding Reader.answer_of
-read_numbered (Reading.Pairs v n) k o e = (of_finished (head v n) k o e).0
-read_numbered (Reading.Refused why place) k o e = of_refused why place k o e
+read_numbered (Ok h) k o e = (of_finished (head h.version h.pairs) k o e).0
+read_numbered (Err r) k o e = of_refused r.why r.place k o e
 
-pub write_numbered : (r : Writing) → NumberedAt0 (Writer.answer_of r)
+pub write_numbered : (r : Result ℕ Refusal) → NumberedAt0 (Writer.answer_of r)
 unfolding Writer.answer_of
-write_numbered (Writing.Length n) = of_finished n
-write_numbered (Writing.Refused why) = at_0 why
+write_numbered (Ok n) = of_finished n
+write_numbered (Err why) = at_0 why
 
-pub join_numbered : (r : Joining) → Numbered (Joiner.answer_of r)
+pub join_numbered : (r : Result ℕ Refused) → Numbered (Joiner.answer_of r)
 unfolding Joiner.answer_of
-join_numbered (Joining.Length n) k o e = (of_finished n k o e).0
-join_numbered (Joining.Refused why place) k o e = of_refused why place k o e
+join_numbered (Ok n) k o e = (of_finished n k o e).0
+join_numbered (Err r) k o e = of_refused r.why r.place k o e
 
-pub build_numbered : (r : Building) → NumberedAt0 (Weighing.answer_of r)
+pub build_numbered : (r : Result Unit Refusal) → NumberedAt0 (Weighing.answer_of r)
 unfolding Weighing.answer_of
-build_numbered Building.Built = of_finished tt
-build_numbered (Building.Refused why) = at_0 why
+build_numbered (Ok _) = of_finished tt
+build_numbered (Err why) = at_0 why
 
-pub live_numbered : (r : Change) → NumberedAt0 (Live.answer_of r)
+pub live_numbered : (r : Result Unit Refusal) → NumberedAt0 (Live.answer_of r)
 unfolding Live.answer_of
-live_numbered Change.Done = of_finished tt
-live_numbered (Change.Refused why) = at_0 why
+live_numbered (Ok _) = of_finished tt
+live_numbered (Err why) = at_0 why
 
-pub plan_numbered : (r : Planning) → NumberedAt0 (Planner.answer_of r)
+pub plan_numbered : (r : Result Planned Refusal) → NumberedAt0 (Planner.answer_of r)
 unfolding Planner.answer_of
-plan_numbered (Planning.Made p) = of_finished _
-plan_numbered (Planning.Refused why) = at_0 why
+plan_numbered (Ok p) = of_finished _
+plan_numbered (Err why) = at_0 why
 
-pub print_numbered : (r : Printing) → NumberedAt0 (Printout.answer_of r)
+pub print_numbered : (r : Result ℕ Refusal) → NumberedAt0 (Printout.answer_of r)
 unfolding Printout.answer_of
-print_numbered (Printing.Length n) = of_finished n
-print_numbered (Printing.Refused why) = at_0 why
+print_numbered (Ok n) = of_finished n
+print_numbered (Err why) = at_0 why
 
 -- ## No two answers have the same numbers
 
@@ -105,7 +102,7 @@ own_read (finished m) (refused k o) p q e = not_0 (q k o refl) (ap (λ x. x.refu
 own_read (refused k o) (finished n) p q e = not_0 (p k o refl) (sym (ap (λ x. x.refusal) e))
 own_read (refused k o) (refused l u) p q e = ap (λ x. refused x.refusal x.place) e
 
-same_refusal : {Result : Type 0} {k l o u at : ℕ} → k ≡ l → o ≡ at → u ≡ at → ◌≡◌ {A = Answer Result} (refused k o) (refused l u)
+same_refusal : {Given : Type 0} {k l o u at : ℕ} → k ≡ l → o ≡ at → u ≡ at → ◌≡◌ {A = Answer Given} (refused k o) (refused l u)
 same_refusal e f g = cc
 
 own_write : Own NumberedAt0 write_numbers

@@ -13,14 +13,9 @@ ghost use Rattle.planner.specs.Answers.{answer_of as Planner·answerOf};
 ghost use Rattle.printout.specs.Answers.{answer_of as Printout·answerOf};
 ghost use Rattle.numbers.specs.Numbers.{read_numbers, write_numbers, join_numbers, build_numbers, live_numbers, plan_numbers, print_numbers};
 
-use joining::Joining;
-use live::Change;
-use planner::Planning;
-use printout::Printing;
-use reader::Reading;
-use refusal::Refusal;
-use weighing::Building;
-use writer::Writing;
+use planner::Planned;
+use reader::Head;
+use refusal::{Refusal, Refused};
 
 // The sheet's version and N, or the refusal's place.
 #[repr(C)]
@@ -86,119 +81,131 @@ pub struct PrintAnswer {
 fn number_of(why: Refusal) -> u32
     ensures { result ≡ number_of why }
 {
-    refusal::number(why) as u32
+    why.number() as u32
 }
 
-pub fn read_numbers(answer: Reading) -> ReadAnswer
-    ensures { result ≡ read_numbers (Reader·answerOf answer) }
-{
-    match answer {
-        Reading::Refused(why, place) => ReadAnswer {
-            refusal: number_of(why),
-            version: 0,
-            place: place,
-            pairs: 0,
-        },
-        Reading::Pairs(version, n) => ReadAnswer {
-            refusal: 0,
-            version: version,
-            place: 0,
-            pairs: n,
-        },
-    }
-}
+impl From<Result<Head, Refused>> for ReadAnswer {
+    ghost from_gives = { λ answer r. r ≡ read_numbers (Reader·answerOf answer) };
 
-pub fn write_numbers(answer: Writing) -> WriteAnswer
-    ensures { result ≡ write_numbers (Writer·answerOf answer) }
-{
-    match answer {
-        Writing::Refused(why) => WriteAnswer {
-            refusal: number_of(why),
-            length: 0,
-        },
-        Writing::Length(length) => WriteAnswer {
-            refusal: 0,
-            length: length,
-        },
-    }
-}
-
-pub fn join_numbers(answer: Joining) -> JoinAnswer
-    ensures { result ≡ join_numbers (Joiner·answerOf answer) }
-{
-    match answer {
-        Joining::Refused(why, at) => JoinAnswer {
-            refusal: number_of(why),
-            place: at,
-            length: 0,
-        },
-        Joining::Length(bytes) => JoinAnswer {
-            refusal: 0,
-            place: 0,
-            length: bytes,
-        },
-    }
-}
-
-pub fn build_numbers(answer: Building) -> BuildAnswer
-    ensures { result ≡ build_numbers (Weighing·answerOf answer) }
-{
-    match answer {
-        Building::Refused(why) => BuildAnswer {
-            refusal: number_of(why),
-        },
-        Building::Built => BuildAnswer { refusal: 0 },
-    }
-}
-
-pub fn live_numbers(answer: Change) -> LiveAnswer
-    ensures { result ≡ live_numbers (Live·answerOf answer) }
-{
-    match answer {
-        Change::Refused(why) => LiveAnswer {
-            refusal: number_of(why),
-        },
-        Change::Done => LiveAnswer { refusal: 0 },
-    }
-}
-
-pub fn plan_numbers(answer: Planning) -> PlanAnswer
-    ensures { result ≡ plan_numbers (Planner·answerOf answer) }
-{
-    match answer {
-        Planning::Refused(why) => PlanAnswer {
-            refusal: number_of(why),
-            cycles: 0,
-            weight: 0,
-            comparisons: 0,
-            products: 0,
-            rounds: 0,
-        },
-        Planning::Made(made) => {
-            let tally = made.tally;
-            PlanAnswer {
+    #[tactic(auto, unfolding(crate::specs::Numbers::read_numbers, reader::specs::Answers::answer_of))]
+    fn from(answer: Result<Head, Refused>) -> ReadAnswer {
+        match answer {
+            Err(fault) => ReadAnswer {
+                refusal: number_of(fault.why),
+                version: 0,
+                place: fault.place,
+                pairs: 0,
+            },
+            Ok(head) => ReadAnswer {
                 refusal: 0,
-                cycles: made.cycles,
-                weight: made.weight,
-                comparisons: tally.comparisons,
-                products: tally.products,
-                rounds: tally.rounds,
-            }
+                version: head.version,
+                place: 0,
+                pairs: head.pairs,
+            },
         }
     }
 }
 
-pub fn print_numbers(answer: Printing) -> PrintAnswer
-    ensures { result ≡ print_numbers (Printout·answerOf answer) }
-{
-    match answer {
-        Printing::Refused(why) => PrintAnswer {
-            refusal: number_of(why),
-            length: 0,
-        },
-        Printing::Length(size) => PrintAnswer {
-            refusal: 0,
-            length: size,
-        },
+impl From<Result<usize, Refusal>> for WriteAnswer {
+    ghost from_gives = { λ answer r. r ≡ write_numbers (Writer·answerOf answer) };
+
+    #[tactic(auto, unfolding(crate::specs::Numbers::write_numbers, writer::specs::Answers::answer_of))]
+    fn from(answer: Result<usize, Refusal>) -> WriteAnswer {
+        match answer {
+            Err(why) => WriteAnswer {
+                refusal: number_of(why),
+                length: 0,
+            },
+            Ok(length) => WriteAnswer { refusal: 0, length },
+        }
+    }
+}
+
+impl From<Result<usize, Refused>> for JoinAnswer {
+    ghost from_gives = { λ answer r. r ≡ join_numbers (Joiner·answerOf answer) };
+
+    #[tactic(auto, unfolding(crate::specs::Numbers::join_numbers, joining::specs::Answers::answer_of))]
+    fn from(answer: Result<usize, Refused>) -> JoinAnswer {
+        match answer {
+            Err(refused) => JoinAnswer {
+                refusal: number_of(refused.why),
+                place: refused.place,
+                length: 0,
+            },
+            Ok(length) => JoinAnswer {
+                refusal: 0,
+                place: 0,
+                length,
+            },
+        }
+    }
+}
+
+impl From<Result<(), Refusal>> for BuildAnswer {
+    ghost from_gives = { λ answer r. r ≡ build_numbers (Weighing·answerOf answer) };
+
+    #[tactic(auto, unfolding(crate::specs::Numbers::build_numbers, weighing::specs::Answers::answer_of))]
+    fn from(answer: Result<(), Refusal>) -> BuildAnswer {
+        match answer {
+            Err(why) => BuildAnswer {
+                refusal: number_of(why),
+            },
+            Ok(()) => BuildAnswer { refusal: 0 },
+        }
+    }
+}
+
+impl From<Result<(), Refusal>> for LiveAnswer {
+    ghost from_gives = { λ answer r. r ≡ live_numbers (Live·answerOf answer) };
+
+    #[tactic(auto, unfolding(crate::specs::Numbers::live_numbers, live::specs::Answers::answer_of))]
+    fn from(answer: Result<(), Refusal>) -> LiveAnswer {
+        match answer {
+            Err(why) => LiveAnswer {
+                refusal: number_of(why),
+            },
+            Ok(()) => LiveAnswer { refusal: 0 },
+        }
+    }
+}
+
+impl From<Result<Planned, Refusal>> for PlanAnswer {
+    ghost from_gives = { λ answer r. r ≡ plan_numbers (Planner·answerOf answer) };
+
+    #[tactic(auto, unfolding(crate::specs::Numbers::plan_numbers, planner::specs::Answers::answer_of))]
+    fn from(answer: Result<Planned, Refusal>) -> PlanAnswer {
+        match answer {
+            Err(why) => PlanAnswer {
+                refusal: number_of(why),
+                cycles: 0,
+                weight: 0,
+                comparisons: 0,
+                products: 0,
+                rounds: 0,
+            },
+            Ok(plan) => PlanAnswer {
+                refusal: 0,
+                cycles: plan.cycles,
+                weight: plan.weight,
+                comparisons: plan.tally.comparisons,
+                products: plan.tally.products,
+                rounds: plan.tally.rounds,
+            },
+        }
+    }
+}
+
+impl From<Result<usize, Refusal>> for PrintAnswer {
+    ghost from_gives = { λ answer r. r ≡ print_numbers (Printout·answerOf answer) };
+
+    #[tactic(auto, unfolding(crate::specs::Numbers::print_numbers, printout::specs::Answers::answer_of))]
+    fn from(answer: Result<usize, Refusal>) -> PrintAnswer {
+        match answer {
+            Err(why) => PrintAnswer {
+                refusal: number_of(why),
+                length: 0,
+            },
+            Ok(length) => PrintAnswer { refusal: 0, length },
+        }
     }
 }

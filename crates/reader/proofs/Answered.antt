@@ -1,4 +1,5 @@
 -- What reading answers and leaves, by what was found. Assumes nothing.
+use Rattle.std.specs.Prelude.{Result, Ok, Err}
 use mathlib.Core.Path.{◌≡◌, sym, ap, subst, ◌∙◌}
 use mathlib.Core.List.{List}
 use Prim.Native.Nat.{ℕ}
@@ -14,8 +15,8 @@ use Rattle.pool.specs.Calls.{Head, head, head_in, reading}
 use Rattle.pool.specs.Promises.{ReadsRightly}
 use Rattle.pool.proofs.Rooms.{hold_room}
 use Rattle.pool.proofs.ReadingCall.{reading_passed, reads_rightly}
-use Rattle.reader.specs.declared.Reading.{Reading}
-use Rattle.reader.specs.declared.Reading.TheVariants.{Pairs, Refused}
+use Rattle.refusal.specs.declared.Refused.{Refused}
+use Rattle.reader.specs.declared.Head.{Head as Found}
 use Rattle.reader.specs.Answers.{answer_of}
 use Rattle.reader.specs.Preconditions.{Fillable}
 
@@ -44,23 +45,23 @@ same_tables e f g points = rw (e, f, g)
 
 -- ## The outcome, where the answer is known
 
-module _ (b : List ℕ) (t : Tables) (r : Reading) (a : answer_of r ≡ (reading b t).answer) where
-  pub refused_leaves : (why : Refusal) (o : ℕ) → r ≡ Refused why o → outcome (answer_of (Refused why o)) t ≡ reading b t
+module _ (b : List ℕ) (t : Tables) (r : Result Found Refused) (a : answer_of r ≡ (reading b t).answer) where
+  pub refused_leaves : (e : Refused) → r ≡ Err e → outcome (answer_of (Err e)) t ≡ reading b t
   unfolding answer_of reading
-  refused_leaves why o e = sym (unless_fault _ _ _ _ _ _ (refused_fault _ _ _ _ (sym a ∙ ap answer_of e)))
+  refused_leaves o e = sym (unless_fault _ _ _ _ _ _ (refused_fault _ _ _ _ (sym a ∙ ap answer_of e)))
 
-  pub finished_leaves : (v n : ℕ) → r ≡ Pairs v n → outcome (answer_of (Pairs v n)) (filled_tables (pool_of b) t) ≡ reading b t
+  pub finished_leaves : (h : Found) → r ≡ Ok h → outcome (answer_of (Ok h)) (filled_tables (pool_of b) t) ≡ reading b t
   unfolding answer_of reading
-  finished_leaves v n e =
+  finished_leaves _ e =
       let f = finished_none _ _ _ _ (sym a ∙ ap answer_of e) in
       sym (unless_none _ _ _ _ f.0 ∙ ap (λ (h : Head). outcome (finished h) (filled_tables (pool_of b) t)) f.1)
 
-  pub fillable : (v n : ℕ) → r ≡ Pairs v n → Fillable b v n t
+  pub fillable : (h : Found) → r ≡ Ok h → Fillable b h.version h.pairs t
   unfolding answer_of
-  fillable v n e =
-      let p = reading_passed b t (head v n) (sym a ∙ ap answer_of e) in
-      let version : v ≡ version_in b = ap (λ (h : Head). h.version) p.0 in
-      let many : n ≡ pairs_in b = ap (λ (h : Head). h.pairs) p.0 in
+  fillable f e =
+      let p = reading_passed b t (head f.version f.pairs) (sym a ∙ ap answer_of e) in
+      let version : f.version ≡ version_in b = ap (λ (h : Head). h.version) p.0 in
+      let many : f.pairs ≡ pairs_in b = ap (λ (h : Head). h.pairs) p.0 in
       let held = hold_room (version_in b) (pairs_in b) t p.2 in
       record {
         version = version;
@@ -76,10 +77,10 @@ pub rightly : (b : List ℕ) (t : Tables) {o : Outcome Head Tables} → o ≡ re
 rightly b t e = subst (λ (o : Outcome Head Tables). ReadsRightly b t o) (sym e) (reads_rightly b t)
 
 -- the two at once, where the tables left are those filled
-pub finished_rightly : (b : List ℕ) (t : Tables) (r : Reading)
-    → answer_of r ≡ (reading b t).answer → (v n : ℕ) → r ≡ Pairs v n → (left : Tables)
+pub finished_rightly : (b : List ℕ) (t : Tables) (r : Result Found Refused)
+    → answer_of r ≡ (reading b t).answer → (h : Found) → r ≡ Ok h → (left : Tables)
     → left ≡ filled_tables (pool_of b) t
-    → (outcome (answer_of (Pairs v n)) left ≡ reading b t) × ReadsRightly b t (outcome (answer_of (Pairs v n)) left)
-finished_rightly b t r a v n e left f =
-    let w = ap (outcome (answer_of (Pairs v n))) f ∙ finished_leaves b t r a v n e in
+    → (outcome (answer_of (Ok h)) left ≡ reading b t) × ReadsRightly b t (outcome (answer_of (Ok h)) left)
+finished_rightly b t r a h e left f =
+    let w = ap (outcome (answer_of (Ok h))) f ∙ finished_leaves b t r a h e in
     (w, rightly b t w)

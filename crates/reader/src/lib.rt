@@ -12,31 +12,25 @@ ghost use Rattle.pool.specs.Promises.{ReadsRightly};
 ghost use Rattle.reader.specs.Answers.{answer_of};
 ghost use Rattle.reader.specs.Preconditions.{Fillable};
 
-use refusal::{Refusal, Verdict};
-use scan::Found;
+use fields::Fields;
+use refusal::{At, Refused};
 
-// What reading a sheet answers: its version and N, or the refusal and its place.
+// What a sheet's head says: its version, and N.
 #[derive(Clone, Copy)]
-pub enum Reading {
-    Pairs(u16, usize),
-    Refused(Refusal, usize),
+pub struct Head {
+    pub version: u16,
+    pub pairs: usize,
 }
 
 // The answer, where the shortest of the lent tables has `space` entries, and that of the points so many.
-fn judge(b: &[u8], space: usize, points: usize) -> Reading
+fn judge(b: &[u8], space: usize, points: usize) -> Result<Head, Refused>
     ensures { (t : Tables) → room t ≡ space → length t.points ≡ points → answer_of result ≡ (reading b.now t).answer }
 {
-    match scan::check(b) {
-        Found::Fault(why, place) => Reading::Refused(why, place),
-        Found::Nothing => {
-            let version = framing::version_in(b);
-            let n = framing::pairs_in(b);
-            match checks::tables(version, n, space, points) {
-                Verdict::Faulty(why) => Reading::Refused(why, 0),
-                Verdict::Sound => Reading::Pairs(version, n),
-            }
-        }
-    }
+    scan::check(b)?;
+    let version = framing::version_in(b);
+    let pairs = framing::pairs_in(b);
+    checks::tables(version, pairs, space, points).at(0)?;
+    Ok(Head { version, pairs })
 }
 
 // Fills the tables from a sheet of n pairs that was accepted. Version 1 has no points, and their table is left.
@@ -68,14 +62,14 @@ fn fill(
         layout::point_count(version),
         points,
     );
-    columns::fill_ids(b, version, n, ids);
-    columns::fill_groups(b, version, n, layout::DONOR_BLOOD_AT, donor_blood);
-    columns::fill_groups(b, version, n, layout::PATIENT_BLOOD_AT, patient_blood);
-    columns::fill_groups(b, version, n, layout::DONOR_AGE_AT, donor_age);
-    columns::fill_groups(b, version, n, layout::PATIENT_AGE_AT, patient_age);
-    columns::fill_tissue(b, version, n, layout::DONOR_ANTIGENS_AT, donor_antigens);
-    columns::fill_tissue(b, version, n, layout::PATIENT_ANTIGENS_AT, patient_antigens);
-    columns::fill_tissue(
+    columns::fill_column(b, version, n, layout::ID_AT, ids);
+    columns::fill_column(b, version, n, layout::DONOR_BLOOD_AT, donor_blood);
+    columns::fill_column(b, version, n, layout::PATIENT_BLOOD_AT, patient_blood);
+    columns::fill_column(b, version, n, layout::DONOR_AGE_AT, donor_age);
+    columns::fill_column(b, version, n, layout::PATIENT_AGE_AT, patient_age);
+    columns::fill_column(b, version, n, layout::DONOR_ANTIGENS_AT, donor_antigens);
+    columns::fill_column(b, version, n, layout::PATIENT_ANTIGENS_AT, patient_antigens);
+    columns::fill_column(
         b,
         version,
         n,
@@ -98,7 +92,7 @@ pub fn read(
     patient_antigens: &mut [u64],
     patient_antibodies: &mut [u64],
     shuffle: &mut [u16],
-) -> Reading
+) -> Result<Head, Refused>
     ensures equals { let t = mut_lent_tables points ids donor_blood patient_blood donor_age patient_age
         donor_antigens patient_antigens patient_antibodies shuffle in
         outcome (answer_of result) t.exit ≡ reading sheet.now t.entry }
@@ -106,36 +100,32 @@ pub fn read(
         donor_antigens patient_antigens patient_antibodies shuffle in
         ReadsRightly sheet.now t.entry (outcome (answer_of result) t.exit) }
 {
-    let held = checks::room(
-        ids.len(),
-        donor_blood.len(),
-        patient_blood.len(),
-        donor_age.len(),
-        patient_age.len(),
-        donor_antigens.len(),
-        patient_antigens.len(),
-        patient_antibodies.len(),
+    let fields = Fields {
+        ids,
+        donor_blood,
+        patient_blood,
+        donor_age,
+        patient_age,
+        donor_antigens,
+        patient_antigens,
+        patient_antibodies,
+    };
+    let space = fields.room().min(shuffle.len());
+    let head = judge(sheet, space, points.len())?;
+    fill(
+        sheet,
+        head.version,
+        head.pairs,
+        points,
+        ids,
+        donor_blood,
+        patient_blood,
+        donor_age,
+        patient_age,
+        donor_antigens,
+        patient_antigens,
+        patient_antibodies,
+        shuffle,
     );
-    let space = checks::lesser(held, shuffle.len());
-    match judge(sheet, space, points.len()) {
-        Reading::Refused(why, place) => Reading::Refused(why, place),
-        Reading::Pairs(version, n) => {
-            fill(
-                sheet,
-                version,
-                n,
-                points,
-                ids,
-                donor_blood,
-                patient_blood,
-                donor_age,
-                patient_age,
-                donor_antigens,
-                patient_antigens,
-                patient_antibodies,
-                shuffle,
-            );
-            Reading::Pairs(version, n)
-        }
-    }
+    Ok(head)
 }

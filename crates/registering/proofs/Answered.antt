@@ -16,7 +16,7 @@ use Rattle.pool.specs.Points.{Points}
 use Rattle.pool.specs.Tables.{Fields, pair_in}
 use Rattle.graph.specs.Graph.{Graph, filled_graph}
 use Rattle.graph.specs.Preconditions.{Buildable}
-use Rattle.weighing.proofs.Promised.{idless, buildable, filled_whole}
+use Rattle.weighing.proofs.Promised.{buildable, filled_whole}
 use Rattle.live.specs.Live.{Live, live, live_version, weighed_by, pair_of, pair_room}
 use Rattle.live.specs.Suitable.{with_numbers}
 use Rattle.live.specs.Faults.{stored_fault, range_fault, like_fault, more_fault, register_fault}
@@ -38,12 +38,12 @@ add_countable p l w m e =
 -- ## A pair that is added: f is what is left of the fields, q what the pool is weighed by
 
 module _ (p : Pair) (l : Live) (f : Fields) (stored : f ≡ with_pair l.count p l.fields) (q : Points) (r : q ≡ weighed_by l) where
-  pub add_buildable : Registrable p l → Buildable q (l.count + 1) (idless f) l.graph
+  pub add_buildable : Registrable p l → Buildable q (l.count + 1) f l.graph
   add_buildable w =
       rw stored
       (buildable live_version (l.count + 1) l.points (with_pair l.count p l.fields) l.graph q r (new_faultless p l w) w.more.graph)
 
-  pub is_added : (g : Graph) → g ≡ filled_graph q (l.count + 1) (pair_in (idless f)) l.graph → (s : List ℕ)
+  pub is_added : (g : Graph) → g ≡ filled_graph q (l.count + 1) (pair_in f) l.graph → (s : List ℕ)
       → s ≡ with_numbers (l.count + 1) g.compatibilities l.suitable → live (l.count + 1) l.points f g s ≡ registered p l
   unfolding registered
   is_added g k s h =

@@ -18,6 +18,7 @@ use Rattle.refusal.proofs.Faults.{then_none, none_then, fault_then, then_assoc, 
 use Rattle.pool.specs.Pool.{Pair}
 use Rattle.pool.specs.Faults.{id_fault, room_fault}
 use Rattle.pool.proofs.Reading.{room_none}
+use Rattle.pool.specs.Tables.{Fields}
 use Rattle.checks.specs.Preconditions.{TablesHaveRoom}
 use Rattle.live.specs.Faults.{graph_fault, stored_fault, groups_fault, range_fault, like_fault, more_fault}
 use Rattle.live.proofs.Sizes.{sizes_passed}
@@ -98,8 +99,8 @@ stored_fits n space m weights points numbers found e g =
     (s.0, s.1)
 
 -- tables with room for `space` have room for fewer
-pub room_fewer : (n space : ℕ) {ids donor_blood patient_blood donor_age patient_age : List ℕ} → n ≤ space
-    → TablesHaveRoom space ids donor_blood patient_blood donor_age patient_age → TablesHaveRoom n ids donor_blood patient_blood donor_age patient_age
+pub room_fewer : (n space : ℕ) {f : Fields} → n ≤ space
+    → TablesHaveRoom space f → TablesHaveRoom n f
 room_fewer n space l h =
     record {
       in_ids = le_trans l h.in_ids;

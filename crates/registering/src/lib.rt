@@ -6,9 +6,10 @@ ghost use Rattle.std.specs.Prelude.{◌≡◌, List, ℕ, ◌+◌, ◌≤◌, le
 ghost use Rattle.refusal.specs.Fault.{◌then◌};
 ghost use Rattle.refusal.specs.Answer.{outcome};
 ghost use Rattle.refusal.specs.Number.{fault_at};
-ghost use Rattle.pool.specs.Tables.{fields, pair_in};
+ghost use Rattle.pool.specs.Tables.{pair_in};
 ghost use Rattle.pool.specs.Lent.{mut_fields_now, mut_lent_fields};
 ghost use Rattle.pool.specs.Faultless.{FieldsHold};
+ghost use Rattle.fields.specs.Lent.{fields_in};
 ghost use Rattle.graph.specs.Lent.{graph_now, lent_graph};
 ghost use Rattle.checks.specs.Preconditions.{TablesHaveRoom};
 ghost use Rattle.live.specs.Faults.{stored_fault, range_fault, like_fault, more_fault};
@@ -19,26 +20,23 @@ ghost use Rattle.live.specs.Answers.{answer_of, named};
 ghost use Rattle.live.specs.Lent.{lent_live};
 ghost use Rattle.live.specs.Promises.{RegistersRightly};
 
+use fields::Fields;
 use live::{Change, Pair};
 use refusal::{Refusal, Verdict};
 
 // 6 over all pairs, the first n and the new one, and then 7 over them.
-fn pairs(
-    n: usize,
-    ids: &[u32],
-    donor_blood: &[u8],
-    patient_blood: &[u8],
-    donor_age: &[u8],
-    patient_age: &[u8],
-    pair: Pair,
-) -> Verdict
-    requires { TablesHaveRoom n ids.now donor_blood.now patient_blood.now donor_age.now patient_age.now }
-    ensures { (f g h : List ℕ)
-        → let stored = pair_in (fields ids.now donor_blood.now patient_blood.now donor_age.now
-        patient_age.now f g h) in
+fn pairs(n: usize, fields: Fields, pair: Pair) -> Verdict
+    requires { TablesHaveRoom n (fields_in fields) }
+    ensures { let stored = pair_in (fields_in fields.entry) in
         fault_at 0 result ≡ (range_fault n stored (named pair) then like_fault n stored (named pair)) }
 {
-    match keeping::groups(n, donor_blood, patient_blood, donor_age, patient_age) {
+    match keeping::groups(
+        n,
+        fields.donor_blood,
+        fields.patient_blood,
+        fields.donor_age,
+        fields.patient_age,
+    ) {
         Verdict::Faulty(why) => {
             return Verdict::Faulty(why);
         }
@@ -55,13 +53,13 @@ fn pairs(
         }
         Verdict::Sound => {}
     }
-    match keeping::ids(n, ids) {
+    match keeping::ids(n, fields.ids) {
         Verdict::Faulty(why) => {
             return Verdict::Faulty(why);
         }
         Verdict::Sound => {}
     }
-    if checks::among(ids, n, pair.id) {
+    if checks::among(fields.ids, n, pair.id) {
         return Verdict::Faulty(Refusal::RepeatedId);
     }
     Verdict::Sound
@@ -87,21 +85,15 @@ fn judge(
     n: usize,
     space: usize,
     points: &[u16],
-    ids: &[u32],
-    donor_blood: &[u8],
-    patient_blood: &[u8],
-    donor_age: &[u8],
-    patient_age: &[u8],
+    fields: Fields,
     compatibilities: &[u8],
     weights: usize,
     suitable: &[u16],
     pair: Pair,
 ) -> Verdict
-    requires tables_have_room { TablesHaveRoom space ids.now donor_blood.now patient_blood.now donor_age.now patient_age.now }
+    requires tables_have_room { TablesHaveRoom space (fields_in fields) }
     requires space_in_bounds { space ≤ length suitable.now }
-    ensures { (f g h : List ℕ)
-        → let stored = pair_in (fields ids.now donor_blood.now patient_blood.now donor_age.now
-        patient_age.now f g h) in
+    ensures { let stored = pair_in (fields_in fields.entry) in
         let m = compatibilities.now in
         fault_at 0 result ≡ (stored_fault n space m weights points.now suitable.now then range_fault n stored (named pair)
         then like_fault n stored (named pair) then more_fault n space (length m) weights) }
@@ -112,15 +104,7 @@ fn judge(
         }
         Verdict::Sound => {}
     }
-    match pairs(
-        n,
-        ids,
-        donor_blood,
-        patient_blood,
-        donor_age,
-        patient_age,
-        pair,
-    ) {
+    match pairs(n, fields, pair) {
         Verdict::Faulty(why) => Verdict::Faulty(why),
         Verdict::Sound => more(n, space, compatibilities.len(), weights),
     }
@@ -198,13 +182,16 @@ fn add(
     graph::fill(
         points::own(points),
         n + 1,
-        donor_blood,
-        patient_blood,
-        donor_age,
-        patient_age,
-        donor_antigens,
-        patient_antigens,
-        patient_antibodies,
+        Fields {
+            ids,
+            donor_blood,
+            patient_blood,
+            donor_age,
+            patient_age,
+            donor_antigens,
+            patient_antigens,
+            patient_antibodies,
+        },
         compatibilities,
         weights,
     );
@@ -236,26 +223,22 @@ pub fn register(
         RegistersRightly (named pair) l.entry (outcome (answer_of result) l.exit) }
 {
     let n = *count;
-    let held = checks::room(
-        ids.len(),
-        donor_blood.len(),
-        patient_blood.len(),
-        donor_age.len(),
-        patient_age.len(),
-        donor_antigens.len(),
-        patient_antigens.len(),
-        patient_antibodies.len(),
-    );
-    let space = checks::lesser(held, suitable.len());
-    match judge(
-        n,
-        space,
-        points,
+    let fields = Fields {
         ids,
         donor_blood,
         patient_blood,
         donor_age,
         patient_age,
+        donor_antigens,
+        patient_antigens,
+        patient_antibodies,
+    };
+    let space = checks::lesser(fields.room(), suitable.len());
+    match judge(
+        n,
+        space,
+        points,
+        fields,
         compatibilities,
         weights.len(),
         suitable,

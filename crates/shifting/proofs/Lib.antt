@@ -1,2 +1,3 @@
--- `Moves`: entries moved down in place, and a table without one entry, or without one row and one column.
+-- `Moves`: entries moved down in place. `Numbers`: tables of numbers without one entry, or without one row and one column.
 pub mod Moves
+pub mod Numbers

@@ -1,77 +1,113 @@
--- Entries moved down in place: a turn of the loop, a table and a row without one entry, and a turn of the loop over the rows that stay. Assumes nothing.
-use mathlib.Core.Path.{◌≡◌, sym, ap, ap₂, ◌∙◌}
-use mathlib.Core.List.{List, ◌++◌}
-use Prim.Native.Nat.{ℕ, ◌+◌, ◌-◌, ◌*◌, ◌≤◌, ◌<◌}
-use native.Mathlib.Nat.{mul-le-mul}
+-- Entries moved down in place: a table and a row without one entry, and a turn of the loop over the rows that stay. Assumes nothing.
+use mathlib.Core.Path.{◌≡◌, refl, sym, ap, ap₂, ◌∙◌}
+use mathlib.Core.List.{List, ◌++◌, append_assoc, flat_map}
+use Prim.Native.Nat.{ℕ, zero, suc, ◌+◌, ◌-◌, ◌*◌, ◌≤◌, ◌<◌}
+use native.Mathlib.Nat.{zero-add, mul-le-mul, suc-mul, zero-mul}
+use native.Mathlib.Numerals.{add-one}
 use native.Mathlib.Omega.{arith}
 use mir.Syntax.{w64}
 use mir.Val.{Fits}
-use lib.ListN.{length, take, set, length-take}
-use lib.Seq.{get_or-take}
+use lib.ListN.{get_or, set, length, take, drop, length-append, length-take, length-drop}
+use lib.Seq.{paste, get_or-drop, drop-paste, take-take, drop-drop, drop-append-add}
+use Rattle.std.specs.List.{remove, copy_within}
+use Rattle.std.proofs.lemmas.List.{drop-take}
+use Rattle.std.proofs.lemmas.List.Edits.{length-remove, paste_more}
 use Rattle.laws.specs.Below.{table}
 use Rattle.laws.specs.Lent.{filled, stored}
-use Rattle.laws.proofs.Below.{length-table, table_cong, table_add, table-get_or}
-use Rattle.laws.proofs.Lent.{Filling, stored_then, filled-stored, get_or-stored_past}
-use Rattle.pool.specs.Tables.{item_in}
-use Rattle.graph.proofs.Rows.{Storing, storing_more, cell, rows_more}
-use Rattle.live.specs.Calls.{up, without_entry}
-use Rattle.live.proofs.Tables.{filled_past, up_before, up_from, up_least, up-below}
+use Rattle.laws.proofs.Lists.{flat_map_suc}
+use Rattle.laws.proofs.Lent.{length-stored, stored_then, stored-filled}
+use Rattle.graph.proofs.Rows.{row_fits}
+use Rattle.live.specs.Calls.{up}
+use Rattle.live.proofs.Tables.{up_least, up-below}
 use Rattle.shifting.specs.Preconditions.{Later, Entry, Square}
+use Rattle.shifting.specs.Without.{one_out, row_without}
 
 -- ## A loop that moves entries to an earlier place
 
--- the entries from a place on
-abbrev pub entries : List ℕ → ℕ → ℕ → ℕ
-entries t from k = item_in t (from + k)
-
--- what is still to be moved stands as it did
-pub moving_more : (to from count k : ℕ) (old t : List ℕ) → Later to from count old → k < count → Storing to k (entries old from) old t
-    → Storing to (k + 1) (entries old from) old (set t (to + k) (item_in t (from + k)))
-moving_more to from count k old t p l w =
-    let n : length (table k (entries old from)) ≡ k = length-table k (entries old from) in
-    let e : item_in t (from + k) ≡ item_in old (from + k) =
-    ap (λ (s : List ℕ). item_in s (from + k)) w.holds
-    ∙ get_or-stored_past to (table k (entries old from)) old 0 (from + k) (omega (arith, p.later, p.inside)) (omega (arith, p.later)) in
-    storing_more to (entries old from) old k t _ w e (omega (arith, p.later, p.inside))
+-- it reads past what it has stored
+pub move_more : {A : Type 0} (to from k : ℕ) (x : A) (old t : List A) → to ≤ from → from + k < length old → t ≡ paste old to (drop from old) k
+    → x ≡ get_or t (from + k) x → set t (to + k) x ≡ paste old to (drop from old) (k + 1)
+move_more {A} to from k x old t l h e f =
+    let s = drop from old in
+    let n : k < length s = rw length-drop (omega arith) in
+    let i : from + k ≡ to + k + (from - to) = omega arith in
+    let kept : get_or (paste old to s k) (from + k) x ≡ get_or old (from + k) x =
+    ap (λ (j : ℕ). get_or (paste old to s k) j x) i
+    ∙ sym (get_or-drop (to + k) (paste old to s k) (from - to) x)
+    ∙ ap (λ (y : List A). get_or y (from - to) x) (drop-paste old to s k (omega arith) (omega arith))
+    ∙ get_or-drop (to + k) old (from - to) x
+    ∙ ap (λ (j : ℕ). get_or old j x) (sym i) in
+    let g : x ≡ get_or s k x = f ∙ ap (λ (y : List A). get_or y (from + k) x) e ∙ kept ∙ sym (get_or-drop from old k x) in
+    ap₂ (λ (y : List A) (z : A). set y (to + k) z) e g ∙ paste_more old to s k x (omega arith) n
 
 -- ## Without one entry
 
--- what stands before the gap, and then what stood after it
-gap_table : (a m : ℕ) (f : ℕ → ℕ) → a ≤ m → table m (λ i. f (up a i)) ≡ table a f ++ table (m - a) (λ k. f (a + 1 + k))
-gap_table a m f l =
-    let e : m ≡ a + (m - a) = omega arith in
-    ap (λ (k : ℕ). table k (λ i. f (up a i))) e
-    ∙ table_add a (m - a) (λ i. f (up a i))
-    ∙ ap₂ (λ (x y : List ℕ). x ++ y) (table_cong a _ _ (λ i k. ap f (up_before a i k)))
-    (table_cong (m - a) _ _ (λ j k. let q : a + j + 1 ≡ a + 1 + j = omega arith in ap f (up_from a (a + j) (omega arith) ∙ q)))
+module _ {A : Type 0} where
+  -- what stands before the gap, and then what stood after it
+  parts : (a n : ℕ) (t : List A) → a < n → remove (take n t) a ≡ take a t ++ take (n - (a + 1)) (drop (a + 1) t)
+  parts a n t l =
+      let e : a + 1 + (n - (a + 1)) ≡ n = omega arith in
+      ap₂ (λ (x y : List A). x ++ y) (take-take a n t (omega arith))
+      (ap (λ (k : ℕ). drop k (take n t)) (sym (add-one a))
+      ∙ ap (λ (k : ℕ). drop (a + 1) (take k t)) (sym e)
+      ∙ drop-take (a + 1) (n - (a + 1)) t)
 
-pub entry_out : (a n : ℕ) (old new : List ℕ) → Entry a n old → new ≡ stored a (table (n - 1 - a) (entries old (a + 1))) old → new ≡ without_entry a n old
-unfolding without_entry
-entry_out a n old new p e =
-    let g : table a (item_in old) ≡ take a old =
-    table-get_or 0 (take a old) a (item_in old) (rw length-take (omega arith)) (λ i k. sym (get_or-take a old i 0 k)) in
-    e
-    ∙ sym (filled-stored a (table (n - 1 - a) (entries old (a + 1))) old (omega arith))
-    ∙ ap (λ (x : List ℕ). filled (x ++ table (n - 1 - a) (entries old (a + 1))) old) (sym g)
-    ∙ ap (λ (x : List ℕ). filled x old) (sym (gap_table a (n - 1) (item_in old) (omega arith)))
+  pub length_out : (a n : ℕ) (t : List A) → a < n → n ≤ length t → length (remove (take n t) a) ≡ n - 1
+  length_out a n t l h =
+      let e : length (take n t) ≡ n = rw length-take (omega arith) in
+      omega (arith, length-remove (take n t) a (rw e l))
 
--- ## A row without one entry
+  pub entry_out : (a n : ℕ) (old new : List A) → Entry a n old → new ≡ copy_within old (a + 1) n a → new ≡ one_out a n old
+  unfolding one_out filled
+  entry_out a n old new p e =
+      let k : a + (n - (a + 1)) ≡ n - 1 = omega (arith, p.inside) in
+      e
+      ∙ ap₂ (λ (x : List A) (j : ℕ). x ++ drop j old) (sym (parts a n old p.inside)) (k ∙ sym (length_out a n old p.inside p.fits))
 
--- it is moved in two parts, before the gap and after it
-pub row_out : (to from a m : ℕ) (old mid new : List ℕ) → Later to from (m + 1) old → a ≤ m → mid ≡ stored to (table a (entries old from)) old
-    → new ≡ stored (to + a) (table (m - a) (entries mid (from + a + 1))) mid → new ≡ stored to (table m (λ j. item_in old (from + up a j))) old
-row_out to from a m old mid new p l e f =
-    let first = table a (entries old from) in
-    let second = table (m - a) (entries mid (from + a + 1)) in
-    let g : length first ≡ a = length-table a (entries old from) in
-    let h : to + a ≤ length old = omega (arith, p.later, p.inside) in
-    let kept : (k : ℕ) → item_in mid (from + a + 1 + k) ≡ item_in old (from + (a + 1 + k)) =
-    λ k. let q : from + a + 1 + k ≡ from + (a + 1 + k) = omega arith in ap (λ (t : List ℕ). item_in t (from + a + 1 + k)) e
-    ∙ get_or-stored_past to first old 0 (from + a + 1 + k) (omega arith) (omega (arith, p.later))
-    ∙ ap (item_in old) q in
-    stored_then to a first second old mid new g h e f
-    ∙ ap (λ (x : List ℕ). stored to (first ++ x) old) (table_cong (m - a) _ _ (λ k b. kept k))
-    ∙ ap (λ (x : List ℕ). stored to x old) (sym (gap_table a m (entries old from) l))
+  -- ## A row without one entry
+
+  -- what lies past what is stored
+  drop_stored : (at : ℕ) (l old : List A) (k : ℕ) → at + length l ≤ length old → at + length l ≤ k → drop k (stored at l old) ≡ drop k old
+  unfolding stored
+  drop_stored at l old k h i =
+      let xs : List A = take at old ++ l in
+      let j = k - (at + length l) in
+      let g : length xs ≡ at + length l = simp (length-append, length-take) (omega arith) in
+      let e : k ≡ length xs + j = omega arith in
+      let f : at + length l + j ≡ k = omega arith in
+      ap₂ (λ (n : ℕ) (x : List A). drop n x) e (sym (append_assoc (take at old) l (drop (at + length l) old)))
+      ∙ drop-append-add xs (drop (at + length l) old) j
+      ∙ drop-drop j (at + length l) old
+      ∙ ap (λ (n : ℕ). drop n old) f
+
+  -- entries from i up to j are stored at another place
+  copied : (i j k to : ℕ) (t : List A) → i + k ≡ j → j ≤ length t → copy_within t i j to ≡ stored to (take k (drop i t)) t
+  unfolding stored
+  copied i j k to t e h =
+      let d : j - i ≡ k = omega arith in
+      let n : length (take k (drop i t)) ≡ k = simp (length-take, length-drop) (omega arith) in
+      ap (λ (m : ℕ). (take to t ++ take m (drop i t)) ++ drop (to + m) t) d
+      ∙ append_assoc (take to t) (take k (drop i t)) (drop (to + k) t)
+      ∙ ap (λ (m : ℕ). take to t ++ (take k (drop i t) ++ drop (to + m) t)) (sym n)
+
+  -- it is moved in two parts, before the gap and after it
+  pub row_out : (to from a m : ℕ) (old mid new : List A) → Later to from (m + 1) old → a ≤ m → mid ≡ copy_within old from (from + a) to
+      → new ≡ copy_within mid (from + a + 1) (from + a + 1 + (m - a)) (to + a) → new ≡ stored to (remove (take (m + 1) (drop from old)) a) old
+  row_out to from a m old mid new p l e f =
+      let before = take a (drop from old) in
+      let h : to + a ≤ length old = omega (arith, p.later, p.inside) in
+      let n : length before ≡ a = simp (length-take, length-drop) (omega (arith, p.inside)) in
+      let w : mid ≡ stored to before old = e ∙ copied from (from + a) a to old refl (omega (arith, p.inside)) in
+      let long : length mid ≡ length old = ap length w ∙ length-stored to before old (omega arith) in
+      let kept : drop (from + a + 1) mid ≡ drop (a + 1) (drop from old) =
+      ap (drop (from + a + 1)) w
+      ∙ drop_stored to before old (from + a + 1) (omega arith) (omega (arith, p.later))
+      ∙ ap (λ (k : ℕ). drop k old) (omega arith)
+      ∙ sym (drop-drop (a + 1) from old) in
+      stored_then to a before (take (m - a) (drop (from + a + 1) mid)) old mid new n h w
+      (f ∙ copied (from + a + 1) (from + a + 1 + (m - a)) (m - a) (to + a) mid refl (omega (arith, p.inside)))
+      ∙ ap (λ (x : List A). stored to (before ++ take (m - a) x) old) kept
+      ∙ ap (λ (x : List A). stored to x old) (ap (λ (k : ℕ). before ++ take k (drop (a + 1) (drop from old))) (omega arith) ∙ sym (parts a (m + 1) (drop from old) (omega arith)))
 
 -- ## Rows that stay
 
@@ -89,26 +125,42 @@ module _ (a i : ℕ) {r : ℕ} (e : r ≡ up a i) where
   pub row_inside : {n : ℕ} → i < n - 1 → r < n
   row_inside {n} l = rw e (up-below a n i l)
 
--- the entries of the rows and columns that stay
-abbrev pub staying : ℕ → ℕ → List ℕ → ℕ → ℕ → ℕ
-staying a n old i j = item_in old (up a i * n + up a j)
+module _ {A : Type 0} (a n : ℕ) (old : List A) where
+  -- the first i of them
+  abbrev pub moved : ℕ → List A
+  moved i = flat_map (row_without a n old) (table i (up a))
 
--- i rows are moved
-abbrev pub Moving : ℕ → ℕ → ℕ → List ℕ → List ℕ → Type 0
-Moving a n i old t = Filling (i * (n - 1)) (cell (n - 1) (staying a n old)) old t
+  module _ (p : Square a n old) where
+    pub row_there : (r : ℕ) → r < n → n ≤ length (drop (r * n) old)
+    row_there r l = rw length-drop (omega (arith, row_fits l, p.fits))
 
--- the next one, from where it stood: nothing is stored there yet
-pub row_more : (a n i r : ℕ) (old t new : List ℕ) → Square a n old → i < n - 1 → r ≡ up a i → Moving a n i old t
-    → new ≡ stored (i * (n - 1)) (table (n - 1) (λ j. item_in t (r * n + up a j))) t → Moving a n (i + 1) old new
-row_more a n i r old t new p l e w f =
-    let m = n - 1 in
-    let passed = table (i * m) (cell m (staying a n old)) in
-    let g : length passed ≡ i * m = length-table (i * m) (cell m (staying a n old)) in
-    let b : i * m ≤ r * n = mul-le-mul (row_later a i e) (omega arith) in
-    let s : m * m ≤ n * n = mul-le-mul (omega arith) (omega arith) in
-    let kept : (j : ℕ) → item_in t (r * n + j) ≡ item_in old (r * n + j) =
-    λ j. ap (λ (x : List ℕ). item_in x (r * n + j)) w.holds ∙ filled_past passed old (r * n + j) (omega arith) in
-    rows_more m (staying a n old) old i t new l (omega (arith, p.fits)) w
-    (f
-    ∙ ap (λ (x : List ℕ). stored (i * m) x t)
-    (table_cong m _ _ (λ j k. kept (up a j) ∙ ap (λ (q : ℕ). item_in old (q * n + up a j)) e)))
+    length_moved : (i : ℕ) → i ≤ n - 1 → length (moved i) ≡ i * (n - 1)
+    unfolding table flat_map row_without
+    length_moved zero l = sym (zero-mul (n - 1))
+    length_moved (suc i) l =
+        let r = up a i in
+        ap length (flat_map_suc (row_without a n old) (up a) i)
+        ∙ length-append (moved i) (row_without a n old r)
+        ∙ ap₂ (λ (x y : ℕ). x + y) (length_moved i (omega arith)) (length_out a n (drop (r * n) old) p.inside (row_there r (up-below a n i (omega arith))))
+        ∙ sym (suc-mul i (n - 1))
+
+    -- the next one, from where it stood: nothing is stored there yet
+    pub row_more : (i r : ℕ) (t new : List A) → i < n - 1 → r ≡ up a i → t ≡ filled (moved i) old
+        → new ≡ stored (i * (n - 1)) (remove (take (n - 1 + 1) (drop (r * n) t)) a) t → new ≡ filled (moved (i + 1)) old
+    unfolding row_without
+    row_more i r t new l e w f =
+        let m = n - 1 in
+        let k : length (moved i) ≡ i * m = length_moved i (omega arith) in
+        let b : i * m ≤ r * n = mul-le-mul (row_later a i e) (omega arith) in
+        let s : i * m ≤ n * n = mul-le-mul (omega arith) (omega arith) in
+        let u : n - 1 + 1 ≡ n = omega (arith, p.inside) in
+        let v : t ≡ stored 0 (moved i) old = w ∙ sym (stored-filled (moved i) old) in
+        let kept : drop (r * n) t ≡ drop (up a i * n) old =
+        ap (drop (r * n)) v ∙ drop_stored 0 (moved i) old (r * n) (omega (arith, p.fits)) (omega arith) ∙ ap (λ (q : ℕ). drop (q * n) old) e in
+        stored_then 0 (i * m) (moved i) (row_without a n old (up a i)) old t new k (omega (arith, p.fits)) v
+        (f
+        ∙ ap₂ (λ (x : ℕ) (y : List A). stored (i * m) (remove (take x y) a) t) u kept
+        ∙ ap (λ (x : ℕ). stored x (row_without a n old (up a i)) t) (sym (zero-add (i * m))))
+        ∙ stored-filled _ old
+        ∙ ap (λ (x : List A). filled x old)
+        (sym (flat_map_suc (row_without a n old) (up a) i) ∙ ap moved (sym (add-one i)))

@@ -1,2 +1,3 @@
--- `Preconditions`: what the steps ask of their tables.
+-- `Preconditions`: what the steps ask of their tables. `Without`: what they leave in a table, whatever stands in it.
 pub mod Preconditions
+pub mod Without

@@ -2,97 +2,40 @@
 // one column.
 #![tactic(auto)]
 
-ghost use Rattle.std.specs.Prelude.{◌≡◌, ◌+◌, ◌≤◌, ◌<◌};
-ghost use Rattle.laws.specs.Below.{table};
+ghost use Rattle.std.specs.Prelude.{◌≡◌, ◌+◌, ◌≤◌, ◌<◌, take, drop};
+ghost use Rattle.std.specs.List.{remove, copy_within};
 ghost use Rattle.laws.specs.Lent.{stored};
-ghost use Rattle.pool.specs.Tables.{item_in};
-ghost use Rattle.live.specs.Calls.{up, without_entry, without_row};
+ghost use Rattle.live.specs.Calls.{up};
 ghost use Rattle.shifting.specs.Preconditions.{Later, Entry, Square};
-
-// So many entries move from a place on to an earlier one: in each type that the tables have.
-fn move_u8(t: &mut [u8], to: usize, from: usize, count: usize)
-    requires { Later to from count t.old }
-    ensures { t.new ≡ stored to (table count (λ k. item_in t.old (from + k))) t.old }
-{
-    let mut k: usize = 0;
-    while k < count {
-        t[to + k] = t[from + k];
-        k += 1;
-    }
-}
-
-fn move_u16(t: &mut [u16], to: usize, from: usize, count: usize)
-    requires { Later to from count t.old }
-    ensures { t.new ≡ stored to (table count (λ k. item_in t.old (from + k))) t.old }
-{
-    let mut k: usize = 0;
-    while k < count {
-        t[to + k] = t[from + k];
-        k += 1;
-    }
-}
-
-fn move_u32(t: &mut [u32], to: usize, from: usize, count: usize)
-    requires { Later to from count t.old }
-    ensures { t.new ≡ stored to (table count (λ k. item_in t.old (from + k))) t.old }
-{
-    let mut k: usize = 0;
-    while k < count {
-        t[to + k] = t[from + k];
-        k += 1;
-    }
-}
-
-fn move_u64(t: &mut [u64], to: usize, from: usize, count: usize)
-    requires { Later to from count t.old }
-    ensures { t.new ≡ stored to (table count (λ k. item_in t.old (from + k))) t.old }
-{
-    let mut k: usize = 0;
-    while k < count {
-        t[to + k] = t[from + k];
-        k += 1;
-    }
-}
+ghost use Rattle.shifting.specs.Without.{one_out, cross_out};
 
 // Entry a of n goes, and those after it move down by one.
-pub fn without_entry_u8(t: &mut [u8], a: usize, n: usize)
+pub fn without_entry<T: Copy>(t: &mut [T], a: usize, n: usize)
     requires { Entry a n t.old }
-    ensures { t.new ≡ without_entry a n t.old }
+    ensures { t.new ≡ one_out a n t.old }
 {
-    move_u8(t, a, a + 1, n - 1 - a);
+    t.copy_within(a + 1..n, a);
 }
 
-pub fn without_entry_u32(t: &mut [u32], a: usize, n: usize)
-    requires { Entry a n t.old }
-    ensures { t.new ≡ without_entry a n t.old }
+// So many entries move from a place on to an earlier one. `copy_within`, which leaves the same, asks first which way to go: of a row's two short parts that
+// is a tenth of the time that withdrawing takes.
+fn move_down<T: Copy>(t: &mut [T], to: usize, from: usize, count: usize)
+    requires { Later to from count t.old }
+    ensures { t.new ≡ copy_within t.old from (from + count) to }
 {
-    move_u32(t, a, a + 1, n - 1 - a);
-}
-
-pub fn without_entry_u64(t: &mut [u64], a: usize, n: usize)
-    requires { Entry a n t.old }
-    ensures { t.new ≡ without_entry a n t.old }
-{
-    move_u64(t, a, a + 1, n - 1 - a);
+    for k in 0..count {
+        t[to + k] = t[from + k];
+    }
 }
 
 // A row of m + 1 entries moves without entry a: what stands before it, then what stands after it.
-fn row_u8(t: &mut [u8], to: usize, from: usize, a: usize, m: usize)
+fn move_row<T: Copy>(t: &mut [T], to: usize, from: usize, a: usize, m: usize)
     requires later { Later to from (m + 1) t.old }
     requires a_le_m { a ≤ m }
-    ensures { t.new ≡ stored to (table m (λ j. item_in t.old (from + up a j))) t.old }
+    ensures { t.new ≡ stored to (remove (take (m + 1) (drop from t.old)) a) t.old }
 {
-    move_u8(t, to, from, a);
-    move_u8(t, to + a, from + a + 1, m - a);
-}
-
-fn row_u16(t: &mut [u16], to: usize, from: usize, a: usize, m: usize)
-    requires later { Later to from (m + 1) t.old }
-    requires a_le_m { a ≤ m }
-    ensures { t.new ≡ stored to (table m (λ j. item_in t.old (from + up a j))) t.old }
-{
-    move_u16(t, to, from, a);
-    move_u16(t, to + a, from + a + 1, m - a);
+    move_down(t, to, from, a);
+    move_down(t, to + a, from + a + 1, m - a);
 }
 
 // Where a row stood before row a went.
@@ -104,26 +47,14 @@ pub fn place_before(a: usize, i: usize) -> usize
 }
 
 // Row a and column a of n rows of n go. Each of the rows that stay goes to its place or to an earlier one: nothing is stored to that is still to be moved.
-pub fn without_row_u8(t: &mut [u8], a: usize, n: usize)
+// Drawn into the call, with all the tables that it holds, these loops are slower.
+#[inline(never)]
+pub fn without_row<T: Copy>(t: &mut [T], a: usize, n: usize)
     requires { Square a n t.old }
-    ensures { t.new ≡ without_row a n t.old }
+    ensures { t.new ≡ cross_out a n t.old }
 {
     let m = n - 1;
-    let mut i: usize = 0;
-    while i < m {
-        row_u8(t, i * m, place_before(a, i) * n, a, m);
-        i += 1;
-    }
-}
-
-pub fn without_row_u16(t: &mut [u16], a: usize, n: usize)
-    requires { Square a n t.old }
-    ensures { t.new ≡ without_row a n t.old }
-{
-    let m = n - 1;
-    let mut i: usize = 0;
-    while i < m {
-        row_u16(t, i * m, place_before(a, i) * n, a, m);
-        i += 1;
+    for i in 0..m {
+        move_row(t, i * m, place_before(a, i) * n, a, m);
     }
 }

@@ -1,14 +1,15 @@
 -- Turns of the loops that count, compare and take out. Assumes nothing.
 use mathlib.Core.Path.{◌≡◌, refl, sym, ap, ap₂, ◌∙◌}
 use mathlib.Core.Bool.{not}
-use mathlib.Core.List.{List}
+use mathlib.Core.List.{List, ◌++◌}
 use Prim.Native.Nat.{ℕ, zero, suc, ◌+◌, ◌-◌, ◌*◌, ◌≤◌, ◌<◌}
 use native.Mathlib.Omega.{arith}
 use lib.Dec.{eqb}
-use lib.ListN.{length, set}
+use lib.ListN.{length, set, take, drop, replicate, length-replicate, get_or-replicate}
+use lib.Seq.{length-take-le}
 use Rattle.laws.specs.Below.{table, count_below, one}
 use Rattle.laws.specs.Lent.{filled}
-use Rattle.laws.proofs.Below.{length-table, table_cong, count_more, count_most}
+use Rattle.laws.proofs.Below.{length-table, table-get_or, table_cong, count_more, count_most}
 use Rattle.laws.proofs.Lent.{length-filled, filled_at, Filling, filling_more}
 use Rattle.refusal.specs.Fault.{Fault, refuse, ◌then◌, first_below}
 use Rattle.pool.specs.Tables.{item_in}
@@ -23,6 +24,16 @@ use Rattle.suiting.specs.Preconditions.{Countable, CountedAbove, Lowerable}
 -- what stands past the entries that are filled
 filling_past : (j k : ℕ) (f : ℕ → ℕ) (old t : List ℕ) → Filling j f old t → j ≤ k → item_in t k ≡ item_in old k
 filling_past j k f old t w l = ap (λ (s : List ℕ). item_in s k) w.holds ∙ filled_past (table j f) old k (rw (length-table) l)
+
+-- n zeros, and what stood past them
+pub cleared : (n : ℕ) (old zeros : List ℕ) → n ≤ length old → zeros ≡ replicate (length (take n old)) 0 → zeros ++ drop n old ≡ filled (table n (λ _. 0)) old
+unfolding filled
+cleared n old zeros l e =
+    let f : zeros ≡ table n (λ _. 0) =
+    e
+    ∙ ap (λ (k : ℕ). replicate k 0) (length-take-le n old l)
+    ∙ sym (table-get_or 0 (replicate n 0) n (λ _. 0) (length-replicate n 0) (λ i k. sym (get_or-replicate n i 0 0 k))) in
+    ap₂ (λ (x : List ℕ) (k : ℕ). x ++ drop k old) f (sym (length-table n (λ _. 0)))
 
 -- ## A row is counted
 
@@ -110,17 +121,18 @@ is_compared n m counts old t e =
 
 -- ## A pair goes
 
+-- where a patient's number stood
+pub before_inside : (a n j : ℕ) → j < n - 1 → (before : ℕ) → before ≡ up a j → before < n
+before_inside a n j l before e = rw e (up-below a n j l)
+
 module _ (a n : ℕ) (m old : List ℕ) (w : Lowerable a n m old) (j : ℕ) (l : j < n - 1) (t : List ℕ)
     (v : Filling j (ones_in (n - 1) (without_row a n m)) old t) (before : ℕ) (e : before ≡ up a j) where
-  pub before_inside : before < n
-  before_inside = rw e (up-below a n j l)
-
   -- the number that the patient had, with the donor that goes
   module _ (x : ℕ) (s : x ≡ one (eqb (item_in m (a * n + before)) 1)) where
     number_before : item_in t before ≡ ones_in (n - 1) (without_row a n m) j + x
     number_before =
         filling_past j before _ old t v (rw e (up_least a j))
-        ∙ w.numbered before before_inside
+        ∙ w.numbered before (before_inside a n j l before e)
         ∙ ap (ones_in n m) e
         ∙ ones_without a n m j w.inside l
         ∙ ap (λ (y : ℕ). ones_in (n - 1) (without_row a n m) j + y) (sym (rw e at s))

@@ -20,19 +20,7 @@ use refusal::{Refusal, Verdict};
 fn one_of(entry: u8) -> u16
     ensures { result ≡ one (eqb entry 1) }
 {
-    if entry == 1 { 1 } else { 0 }
-}
-
-// Zeros in the first n entries.
-fn clear(n: usize, counts: &mut [u16])
-    requires { n ≤ length counts.old }
-    ensures { counts.new ≡ filled (table n (λ _. 0)) counts.old }
-{
-    let mut j: usize = 0;
-    while j < n {
-        counts[j] = 0;
-        j += 1;
-    }
+    (entry == 1) as u16
 }
 
 // Row i, donor i's, is counted too, where the rows above it are.
@@ -41,10 +29,8 @@ fn add_row(i: usize, n: usize, compatibilities: &[u8], counts: &mut [u16])
     ensures { counts.new ≡ filled (table n (ones_above (i + 1) n compatibilities.now)) counts.old }
 {
     let start = i * n;
-    let mut j: usize = 0;
-    while j < n {
-        counts[j] = counts[j] + one_of(compatibilities[start + j]);
-        j += 1;
+    for j in 0..n {
+        counts[j] += one_of(compatibilities[start + j]);
     }
 }
 
@@ -53,11 +39,9 @@ pub fn count(n: usize, compatibilities: &[u8], counts: &mut [u16])
     requires { Countable n compatibilities.now counts.old }
     ensures { counts.new ≡ with_numbers n compatibilities.now counts.old }
 {
-    clear(n, counts);
-    let mut i: usize = 0;
-    while i < n {
+    counts[..n].fill(0);
+    for i in 0..n {
         add_row(i, n, compatibilities, counts);
-        i += 1;
     }
 }
 
@@ -67,12 +51,10 @@ fn compare(n: usize, counts: &[u16], suitable: &[u16]) -> Verdict
     requires n_in_bounds_2 { n ≤ length suitable.now }
     ensures { fault_at 0 result ≡ first_below n (λ j. refuse 10 0 (not (eqb (item_in suitable.now j) (item_in counts.now j)))) }
 {
-    let mut j: usize = 0;
-    while j < n {
+    for j in 0..n {
         if suitable[j] != counts[j] {
             return Verdict::Faulty(Refusal::NotCompatibility);
         }
-        j += 1;
     }
     Verdict::Sound
 }
@@ -94,10 +76,8 @@ pub fn take_out(a: usize, n: usize, compatibilities: &[u8], suitable: &mut [u16]
 {
     let start = a * n;
     let m = n - 1;
-    let mut j: usize = 0;
-    while j < m {
+    for j in 0..m {
         let before = shifting::place_before(a, j);
         suitable[j] = suitable[before] - one_of(compatibilities[start + before]);
-        j += 1;
     }
 }

@@ -5,6 +5,7 @@
 
 ghost use Rattle.std.specs.Prelude.{◌≤◌, length};
 
+use fields::Fields;
 use refusal::Refusal;
 use weighing::Building;
 
@@ -151,14 +152,16 @@ fn build_two(
         version,
         n,
         points,
-        &ids,
-        &donor_blood,
-        &patient_blood,
-        &donor_age,
-        &patient_age,
-        &donor_antigens,
-        &patient_antigens,
-        &patient_antibodies,
+        Fields {
+            ids: &ids,
+            donor_blood: &donor_blood,
+            patient_blood: &patient_blood,
+            donor_age: &donor_age,
+            patient_age: &patient_age,
+            donor_antigens: &donor_antigens,
+            patient_antigens: &patient_antigens,
+            patient_antibodies: &patient_antibodies,
+        },
         m,
         w,
     )
@@ -478,9 +481,17 @@ fn try_most() {
     let mut m = [99u8; 40001];
     let mut w = [99u16; 40001];
     print(b"200 pairs:");
-    print_answer(weighing::build(
-        1, 200, &points, &ids, &bloods, &bloods, &ages, &ages, &none, &none, &none, &mut m, &mut w,
-    ));
+    let fields = Fields {
+        ids: &ids,
+        donor_blood: &bloods,
+        patient_blood: &bloods,
+        donor_age: &ages,
+        patient_age: &ages,
+        donor_antigens: &none,
+        patient_antigens: &none,
+        patient_antibodies: &none,
+    };
+    print_answer(weighing::build(1, 200, &points, fields, &mut m, &mut w));
     print(b" M");
     print_byte(m[0]);
     print_byte(m[199]);

@@ -4,6 +4,7 @@
 
 ghost use Rattle.std.specs.Prelude.{◌≤◌};
 
+use fields::Fields;
 use reader::Reading;
 use writer::Writing;
 
@@ -360,14 +361,16 @@ fn try_writing(row: [u16; 8], points: &[u16], out: &mut [u8]) {
         row[0],
         row[1] as usize,
         points,
-        &ids,
-        &donor_blood,
-        &patient_blood,
-        &ages,
-        &ages,
-        &tissue,
-        &tissue,
-        &tissue,
+        Fields {
+            ids: &ids,
+            donor_blood: &donor_blood,
+            patient_blood: &patient_blood,
+            donor_age: &ages,
+            patient_age: &ages,
+            donor_antigens: &tissue,
+            patient_antigens: &tissue,
+            patient_antibodies: &tissue,
+        },
         &shuffle,
         out,
     );
@@ -443,14 +446,16 @@ fn write_again(sheet: &[u8], out: &mut [u8]) {
             version,
             n,
             &points,
-            &ids,
-            &donor_blood,
-            &patient_blood,
-            &donor_age,
-            &patient_age,
-            &donor_antigens,
-            &patient_antigens,
-            &patient_antibodies,
+            Fields {
+                ids: &ids,
+                donor_blood: &donor_blood,
+                patient_blood: &patient_blood,
+                donor_age: &donor_age,
+                patient_age: &patient_age,
+                donor_antigens: &donor_antigens,
+                patient_antigens: &patient_antigens,
+                patient_antibodies: &patient_antibodies,
+            },
             &shuffle,
             out,
         )),
@@ -481,8 +486,21 @@ fn write_greatest(version: u16, out: &mut [u8]) -> Writing {
     let groups = [0u8; 200];
     let tissue = [0u64; 200];
     writer::write(
-        version, 200, &points, &ids, &groups, &groups, &groups, &groups, &tissue, &tissue, &tissue,
-        &shuffle, out,
+        version,
+        200,
+        &points,
+        Fields {
+            ids: &ids,
+            donor_blood: &groups,
+            patient_blood: &groups,
+            donor_age: &groups,
+            patient_age: &groups,
+            donor_antigens: &tissue,
+            patient_antigens: &tissue,
+            patient_antibodies: &tissue,
+        },
+        &shuffle,
+        out,
     )
 }
 

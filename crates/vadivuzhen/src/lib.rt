@@ -26,6 +26,7 @@ ghost use Rattle.numbers.specs.Numbers.{read_numbers, write_numbers, join_number
 ghost use Rattle.numbers.specs.Promises.{Numbered, NumberedAt0};
 
 use cycle::Cycle;
+use fields::Fields;
 use live::Pair;
 use numbers::{
     BuildAnswer, JoinAnswer, LiveAnswer, PlanAnswer, PrintAnswer, ReadAnswer, WriteAnswer,
@@ -63,7 +64,7 @@ pub extern "C" fn vadivuzhen_read(
         let due = reading sheet.now t.entry in
         ReadsRightly sheet.now t.entry due }
 {
-    let answer = reader::read(
+    reader::read(
         sheet,
         points,
         ids,
@@ -75,8 +76,7 @@ pub extern "C" fn vadivuzhen_read(
         patient_antigens,
         patient_antibodies,
         shuffle,
-    );
-    numbers::read_numbers(answer)
+    ).into()
 }
 
 // Writes the pool of this version in the first n entries of the tables as a sheet into the lent buffer. Of version 1 the points are not looked at.
@@ -109,22 +109,23 @@ pub extern "C" fn vadivuzhen_write(
         let due = writing version n t.entry out.old in
         WritesRightly version n t.entry out.old due }
 {
-    let answer = writer::write(
+    writer::write(
         version,
         n,
         points,
-        ids,
-        donor_blood,
-        patient_blood,
-        donor_age,
-        patient_age,
-        donor_antigens,
-        patient_antigens,
-        patient_antibodies,
+        Fields {
+            ids,
+            donor_blood,
+            patient_blood,
+            donor_age,
+            patient_age,
+            donor_antigens,
+            patient_antigens,
+            patient_antibodies,
+        },
         shuffle,
         out,
-    );
-    numbers::write_numbers(answer)
+    ).into()
 }
 
 // Joins the second sheet to the first, as one sheet in the lent buffer.
@@ -137,7 +138,7 @@ pub extern "C" fn vadivuzhen_join(first: &[u8], second: &[u8], out: &mut [u8]) -
     ensures rightly { let due = joining first.now second.now out.old in
         JoinsRightly first.now second.now out.old due }
 {
-    numbers::join_numbers(joining::join(first, second, out))
+    joining::join(first, second, out).into()
 }
 
 // Builds the tables M and W from the first n entries of a pool's fields, by its own points in version 2 and by document 01's in version 1.
@@ -173,22 +174,23 @@ pub extern "C" fn vadivuzhen_build(
         let due = building version n points.now f.entry g.entry in
         BuildsRightly version n points.now f.entry g.entry due }
 {
-    let answer = weighing::build(
+    weighing::build(
         version,
         n,
         points,
-        ids,
-        donor_blood,
-        patient_blood,
-        donor_age,
-        patient_age,
-        donor_antigens,
-        patient_antigens,
-        patient_antibodies,
+        Fields {
+            ids,
+            donor_blood,
+            patient_blood,
+            donor_age,
+            patient_age,
+            donor_antigens,
+            patient_antigens,
+            patient_antibodies,
+        },
         compatibilities,
         weights,
-    );
-    numbers::build_numbers(answer)
+    ).into()
 }
 
 // Starts a live pool with no pairs and these points.
@@ -208,7 +210,7 @@ pub extern "C" fn vadivuzhen_start(
         let due = starting (named_points given) b.entry in
         StartsRightly (named_points given) b.entry due }
 {
-    numbers::live_numbers(keeping::start(given, points, count))
+    keeping::start(given, points, count).into()
 }
 
 // Registers a pair at the end of a live pool, builds its tables anew, and counts each patient's donors in them.
@@ -242,7 +244,7 @@ pub extern "C" fn vadivuzhen_register(
         let due = registering (named pair) l.entry in
         RegistersRightly (named pair) l.entry due }
 {
-    let answer = registering::register(
+    registering::register(
         count,
         points,
         ids,
@@ -257,8 +259,7 @@ pub extern "C" fn vadivuzhen_register(
         weights,
         suitable,
         pair,
-    );
-    numbers::live_numbers(answer)
+    ).into()
 }
 
 // Withdraws the first pair of a live pool that has this id, with its row, its column, and its donor in the others' numbers.
@@ -292,7 +293,7 @@ pub extern "C" fn vadivuzhen_withdraw(
         let due = withdrawing id l.entry in
         WithdrawsRightly id l.entry due }
 {
-    let answer = withdrawing::withdraw(
+    withdrawing::withdraw(
         count,
         points,
         ids,
@@ -307,8 +308,7 @@ pub extern "C" fn vadivuzhen_withdraw(
         weights,
         suitable,
         id,
-    );
-    numbers::live_numbers(answer)
+    ).into()
 }
 
 // Plans the pool of n pairs whose tables are m and w, with the floor and the shuffle.
@@ -338,10 +338,9 @@ pub extern "C" fn vadivuzhen_plan(
         let due = planning a t.entry in
         PlansRightly a t.entry due }
 {
-    let answer = planner::plan(
+    planner::plan(
         n, floor, m, w, shuffle, weights, choices, donors, recipients, records,
-    );
-    numbers::plan_numbers(answer)
+    ).into()
 }
 
 // Prints a plan of n pairs into the lent buffer.
@@ -368,7 +367,7 @@ pub extern "C" fn vadivuzhen_print_plan(
         let due = printing_plan p out.old in
         PrintsPlan p out.old due }
 {
-    let answer = printout::print_plan(
+    printout::print_plan(
         n,
         cycles,
         weight,
@@ -379,8 +378,7 @@ pub extern "C" fn vadivuzhen_print_plan(
         products,
         rounds,
         out,
-    );
-    numbers::print_numbers(answer)
+    ).into()
 }
 
 // Prints `REFUSED`, any number and a place into the lent buffer.
@@ -393,5 +391,5 @@ pub extern "C" fn vadivuzhen_print_refusal(number: u32, place: usize, out: &mut 
     ensures rightly { let due = printing_refusal number place out.old in
         PrintsRefused number place out.old due }
 {
-    numbers::print_numbers(printout::print_refused(number, place, out))
+    printout::print_refused(number, place, out).into()
 }

@@ -10,8 +10,7 @@ use Rattle.refusal.specs.Fault.{none, fault, ◌then◌}
 use Rattle.refusal.specs.Number.{fault_at}
 use Rattle.refusal.specs.declared.Refusal.{Refusal}
 use Rattle.refusal.specs.declared.Refusal.TheVariants.{TooShort}
-use Rattle.refusal.specs.declared.Verdict.{Verdict}
-use Rattle.refusal.specs.declared.Verdict.TheVariants.{Sound, Faulty}
+use Rattle.std.specs.Prelude.{Result, Ok, Err}
 use Rattle.refusal.proofs.Faults.{none_then, fault_then, then_none, fault_refuse, sound_none, faulty_fault, by_then}
 use Rattle.pool.specs.Pool.{Pair}
 use Rattle.pool.specs.Points.{point_count}
@@ -29,7 +28,7 @@ use Rattle.weighing.specs.Promises.{FaultlessFields, Fit, BuildFault}
 
 -- the shortest of the tables is the shortest of those that are looked at, or shorter
 pub held-fields : (space : ℕ) (f : Fields) → FieldsHold space f
-    → TablesHaveRoom space f.ids f.donor_blood f.patient_blood f.donor_age f.patient_age
+    → TablesHaveRoom space f
 held-fields space f h =
     record {
       in_ids = h.ids;
@@ -40,7 +39,7 @@ held-fields space f h =
     }
 
 pub spaced_fields : (space : ℕ) (f : Fields) → space ≡ field_room f
-    → TablesHaveRoom space f.ids f.donor_blood f.patient_blood f.donor_age f.patient_age
+    → TablesHaveRoom space f
 spaced_fields space f e = held-fields space f (field_room_hold space f (rw e (le_refl (field_room f))))
 
 -- tables that hold the pairs and the points are those with room for them
@@ -55,28 +54,28 @@ fields_holding v n l f =
     }
 
 -- pairs that pass are at most 200
-pub passed_few : (v n space : ℕ) (l : List ℕ) (pair : ℕ → Pair) (found : Verdict) → fault_at 0 found ≡ pairs_fault v n space l pair → found ≡ Sound → n ≤ 200
+pub passed_few : (v n space : ℕ) (l : List ℕ) (pair : ℕ → Pair) (found : Result Unit Refusal) → fault_at 0 found ≡ pairs_fault v n space l pair → found ≡ (Ok tt) → n ≤ 200
 passed_few v n space l pair found e g =
     let holding : Holding v n space l ((n ≤ space) × (point_count v ≤ length l)) = record { hold = λ a b. (a, b); long = λ h. h } in
     (pairs_passed v n space l pair _ holding (sound_none 0 found e g)).0.few
 
 -- ## The code's tests, one after another: `found` is what the check of the fields found
 
-module _ (v n space : ℕ) (l : List ℕ) (f : Fields) (compatibilities weights : ℕ) (s : space ≡ field_room f) (found : Verdict)
+module _ (v n space : ℕ) (l : List ℕ) (f : Fields) (compatibilities weights : ℕ) (s : space ≡ field_room f) (found : Result Unit Refusal)
     (e : fault_at 0 found ≡ pairs_fault v n space l (pair_in f)) where
   fields_fault : fault_at 0 found ≡ pairs_fault v n (field_room f) l (pair_in f)
   fields_fault = e ∙ ap (λ (m : ℕ). pairs_fault v n m l (pair_in f)) s
 
-  pub judge_fields : (why : Refusal) → found ≡ Faulty why → fault_at 0 (Faulty why) ≡ build_fault v n l f compatibilities weights
+  pub judge_fields : (why : Refusal) → found ≡ Err why → fault_at 0 (Err why) ≡ build_fault v n l f compatibilities weights
   unfolding build_fault fault_at
   judge_fields why g = sym (fault_then _ _ (faulty_fault 0 found fields_fault why g))
 
-  module _ (g : found ≡ Sound) where
+  module _ (g : found ≡ (Ok tt)) where
     after-fields : build_fault v n l f compatibilities weights ≡ (room_fault compatibilities (n * n) then room_fault weights (n * n))
     unfolding build_fault
     after-fields = none_then _ _ (sound_none 0 found fields_fault g)
 
-    pub judge_compatibilities : compatibilities < n * n → fault_at 0 (Faulty TooShort) ≡ build_fault v n l f compatibilities weights
+    pub judge_compatibilities : compatibilities < n * n → fault_at 0 (Err TooShort) ≡ build_fault v n l f compatibilities weights
     unfolding fault_at room_fault
     judge_compatibilities short = sym (after-fields ∙ fault_then _ _ (fault_refuse 9 0 _ (lt-ltb compatibilities (n * n) short)))
 
@@ -84,11 +83,11 @@ module _ (v n space : ℕ) (l : List ℕ) (f : Fields) (compatibilities weights 
       after-compatibilities : build_fault v n l f compatibilities weights ≡ room_fault weights (n * n)
       after-compatibilities = after-fields ∙ none_then _ _ (room_none compatibilities (n * n) fit)
 
-      pub judge_weights : weights < n * n → fault_at 0 (Faulty TooShort) ≡ build_fault v n l f compatibilities weights
+      pub judge_weights : weights < n * n → fault_at 0 (Err TooShort) ≡ build_fault v n l f compatibilities weights
       unfolding fault_at room_fault
       judge_weights short = sym (after-compatibilities ∙ fault_refuse 9 0 _ (lt-ltb weights (n * n) short))
 
-      pub judge_sound : n * n ≤ weights → fault_at 0 Sound ≡ build_fault v n l f compatibilities weights
+      pub judge_sound : n * n ≤ weights → fault_at 0 (Ok tt) ≡ build_fault v n l f compatibilities weights
       unfolding fault_at
       judge_sound fits = sym (after-compatibilities ∙ room_none weights (n * n) fits)
 
@@ -140,8 +139,8 @@ module _ (v n : ℕ) (l : List ℕ) (f : Fields) (g : Graph) where
       (λ _. room_fault_lem P _ _ (λ short. (refl, BuildFault.tables_too_short w (λ h. omega (arith, short, h.weights))))))
 
 -- points that pass are as many as the version has
-pub passed_points : (v n : ℕ) (l : List ℕ) (f : Fields) (compatibilities weights : ℕ) (found : Verdict)
-    → fault_at 0 found ≡ build_fault v n l f compatibilities weights → found ≡ Sound → point_count v ≤ length l
+pub passed_points : (v n : ℕ) (l : List ℕ) (f : Fields) (compatibilities weights : ℕ) (found : Result Unit Refusal)
+    → fault_at 0 found ≡ build_fault v n l f compatibilities weights → found ≡ (Ok tt) → point_count v ≤ length l
 unfolding build_fault
 passed_points v n l f compatibilities weights found e g =
     hold_count v l

@@ -1,16 +1,15 @@
 -- What is built, and the promise of the call. Assumes nothing.
 use mathlib.Core.Path.{◌≡◌, refl, sym, ap, subst, ◌∙◌}
-use mathlib.Core.List.{List, []}
+use mathlib.Core.List.{List}
 use Prim.Native.Nat.{ℕ}
 use lib.ListN.{length}
 use Rattle.refusal.specs.Answer.{Answer, finished, Outcome, outcome}
 use Rattle.refusal.specs.Number.{number_of, fault_at}
 use Rattle.refusal.specs.declared.Refusal.{Refusal}
-use Rattle.refusal.specs.declared.Verdict.{Verdict}
-use Rattle.refusal.specs.declared.Verdict.TheVariants.{Sound, Faulty}
+use Rattle.std.specs.Prelude.{Result, Ok, Err}
 use Rattle.refusal.proofs.Faults.{sound_none, faulty_fault, unless_none, unless_fault, finished_none, refused_fault}
 use Rattle.pool.specs.Points.{Points}
-use Rattle.pool.specs.Tables.{Fields, fields, pair_in, points_of_table}
+use Rattle.pool.specs.Tables.{Fields, pair_in, points_of_table}
 use Rattle.pool.specs.Faultless.{SoundPoints}
 use Rattle.pool.proofs.Points.{sound_heaviest}
 use Rattle.donation.specs.Compatibility.{compatibility}
@@ -19,7 +18,6 @@ use Rattle.graph.specs.Graph.{Graph, filled_graph}
 use Rattle.weighing.specs.Building.{build_fault, building}
 use Rattle.weighing.specs.Answers.{answer_of}
 use Rattle.graph.specs.Preconditions.{Buildable}
-use Rattle.weighing.specs.declared.Building.TheVariants.{Built, Refused}
 use Rattle.weighing.specs.Promises.{FaultlessFields, Fit, Entries, DonorsSide, Plannable, BuildsRightly}
 use Rattle.donation.proofs.Compatible.{compatibility-most, compatibility_same}
 use Rattle.donation.proofs.Points.{weight_same, weight_least, weight-most, present_weighs, weight_alike, weight-counted}
@@ -99,13 +97,8 @@ module _ (v n : ℕ) (l : List ℕ) (f : Fields) (old : Graph) where
 
 -- ## What filling asks of the fields, and what it gives
 
--- the fields without the ids, which play no part in the tables
-abbrev pub idless : Fields → Fields
-idless f =
-    fields [] f.donor_blood f.patient_blood f.donor_age f.patient_age f.donor_antigens f.patient_antigens f.patient_antibodies
-
 module _ (v n : ℕ) (l : List ℕ) (f : Fields) (old : Graph) (q : Points) (r : q ≡ points_of_table v l) where
-  pub buildable : FaultlessFields v n l f → Fit n old → Buildable q n (idless f) old
+  pub buildable : FaultlessFields v n l f → Fit n old → Buildable q n f old
   unfolding pair_in
   buildable w fit =
       record {
@@ -131,26 +124,25 @@ module _ (v n : ℕ) (l : List ℕ) (f : Fields) (old : Graph) (q : Points) (r :
         points = subst SoundPoints (sym r) w.points;
       }
 
-  pub filled_whole : (new : Graph) → new ≡ filled_graph q n (pair_in (idless f)) old → new ≡ filled_graph (points_of_table v l) n (pair_in f) old
-  unfolding filled_graph compatibility weight pair_in
+  pub filled_whole : (new : Graph) → new ≡ filled_graph q n (pair_in f) old → new ≡ filled_graph (points_of_table v l) n (pair_in f) old
   filled_whole new g = g ∙ ap (λ (p : Points). filled_graph p n (pair_in f) old) r
 
 -- ## The call, by what `judge` found
 
-module _ (v n : ℕ) (l : List ℕ) (f : Fields) (old : Graph) (found : Verdict)
+module _ (v n : ℕ) (l : List ℕ) (f : Fields) (old : Graph) (found : Result Unit Refusal)
     (e : fault_at 0 found ≡ build_fault v n l f (length old.compatibilities) (length old.weights)) where
-  pub call_refused : (why : Refusal) → found ≡ Faulty why → outcome (answer_of (Refused why)) old ≡ building v n l f old
+  pub call_refused : (why : Refusal) → found ≡ Err why → outcome (answer_of (Err why)) old ≡ building v n l f old
   unfolding building answer_of
   call_refused why h = sym (unless_fault _ tt (filled_graph (points_of_table v l) n (pair_in f) old) old (number_of why) 0 (faulty_fault 0 found e why h))
 
   -- q is what the pool is weighed by
-  module _ (h : found ≡ Sound) (q : Points) (r : q ≡ points_of_table v l) where
-    pub call_buildable : Buildable q n (idless f) old
+  module _ (h : found ≡ (Ok tt)) (q : Points) (r : q ≡ points_of_table v l) where
+    pub call_buildable : Buildable q n f old
     call_buildable =
         let passed = build_passed v n l f old (sound_none 0 found e h) in
         buildable v n l f old q r passed.0 passed.1
 
-    pub call_built : (new : Graph) → new ≡ filled_graph q n (pair_in (idless f)) old → outcome (answer_of Built) new ≡ building v n l f old
+    pub call_built : (new : Graph) → new ≡ filled_graph q n (pair_in f) old → outcome (answer_of (Ok tt)) new ≡ building v n l f old
     unfolding building answer_of
     call_built new g =
         ap (outcome (finished tt)) (filled_whole v n l f old q r new g)

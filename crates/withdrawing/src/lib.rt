@@ -15,6 +15,7 @@ ghost use Rattle.live.specs.Lent.{lent_live};
 ghost use Rattle.live.specs.Promises.{WithdrawsRightly};
 ghost use Rattle.withdrawing.specs.Preconditions.{OneOf};
 
+use fields::Fields;
 use live::Change;
 use refusal::{Refusal, Verdict};
 
@@ -23,14 +24,7 @@ fn place_of(ids: &[u32], n: usize, id: u32) -> usize
     requires { n ≤ length ids.now }
     ensures { result ≡ place_of n (item_in ids.now) id }
 {
-    let mut at: usize = 0;
-    while at < n {
-        if ids[at] == id {
-            return at;
-        }
-        at += 1;
-    }
-    n
+    ids[..n].iter().position(|known| *known == id).unwrap_or(n)
 }
 
 // Pair a of n goes out of the tables: its number, and its donor out of the others', its fields, and its row and column of M and W.
@@ -66,16 +60,16 @@ fn take_out(
         suitable.new ≡ with_numbers (n - 1) (without_row a n g.entry.compatibilities) suitable.old }
 {
     suiting::take_out(a, n, compatibilities, suitable);
-    shifting::without_entry_u32(ids, a, n);
-    shifting::without_entry_u8(donor_blood, a, n);
-    shifting::without_entry_u8(patient_blood, a, n);
-    shifting::without_entry_u8(donor_age, a, n);
-    shifting::without_entry_u8(patient_age, a, n);
-    shifting::without_entry_u64(donor_antigens, a, n);
-    shifting::without_entry_u64(patient_antigens, a, n);
-    shifting::without_entry_u64(patient_antibodies, a, n);
-    shifting::without_row_u8(compatibilities, a, n);
-    shifting::without_row_u16(weights, a, n);
+    shifting::without_entry(ids, a, n);
+    shifting::without_entry(donor_blood, a, n);
+    shifting::without_entry(patient_blood, a, n);
+    shifting::without_entry(donor_age, a, n);
+    shifting::without_entry(patient_age, a, n);
+    shifting::without_entry(donor_antigens, a, n);
+    shifting::without_entry(patient_antigens, a, n);
+    shifting::without_entry(patient_antibodies, a, n);
+    shifting::without_row(compatibilities, a, n);
+    shifting::without_row(weights, a, n);
 }
 
 // Withdraws the first pair with this id; the later ones move down by one. Of M and W, whatever they hold, one row and one column are taken out, and
@@ -104,17 +98,17 @@ pub fn withdraw(
         WithdrawsRightly id l.entry (outcome (answer_of result) l.exit) }
 {
     let n = *count;
-    let held = checks::room(
-        ids.len(),
-        donor_blood.len(),
-        patient_blood.len(),
-        donor_age.len(),
-        patient_age.len(),
-        donor_antigens.len(),
-        patient_antigens.len(),
-        patient_antibodies.len(),
-    );
-    let space = checks::lesser(held, suitable.len());
+    let fields = Fields {
+        ids,
+        donor_blood,
+        patient_blood,
+        donor_age,
+        patient_age,
+        donor_antigens,
+        patient_antigens,
+        patient_antibodies,
+    };
+    let space = checks::lesser(fields.room(), suitable.len());
     match keeping::judge(n, space, compatibilities, weights.len(), suitable, points) {
         Verdict::Faulty(why) => {
             return Change::Refused(why);

@@ -10,22 +10,16 @@ ghost use Rattle.refusal.specs.Answer.{outcome};
 ghost use Rattle.refusal.specs.Number.{fault_at};
 ghost use Rattle.pool.specs.Points.{point_count};
 ghost use Rattle.pool.specs.Sheet.{first_pair, pair_place, sheet_length, opening, pair_field, sheet_of};
-ghost use Rattle.pool.specs.Tables.{item_in, pair_in, pool_in};
-ghost use Rattle.pool.specs.Lent.{fields_now, lent_fields, tables_now, lent_tables};
+ghost use Rattle.pool.specs.Tables.{item_in, tables, pair_in, pool_in};
 ghost use Rattle.pool.specs.Faults.{pool_fault};
 ghost use Rattle.pool.specs.Calls.{writing};
 ghost use Rattle.pool.specs.Faultless.{FieldsHold, TablesHold};
 ghost use Rattle.pool.specs.Promises.{WritesRightly};
+ghost use Rattle.fields.specs.Lent.{fields_in};
 ghost use Rattle.writer.specs.Answers.{answer_of};
 
-use refusal::{Refusal, Verdict};
-
-// What writing a sheet answers: its length, or the refusal, whose place is 0.
-#[derive(Clone, Copy)]
-pub enum Writing {
-    Length(usize),
-    Refused(Refusal),
-}
+use fields::Fields;
+use refusal::Refusal;
 
 // What stands before the pairs: the head, and the points of version 2.
 fn put_opening(out: &mut [u8], version: u16, n: usize, points: &[u16])
@@ -46,42 +40,24 @@ fn put_opening(out: &mut [u8], version: u16, n: usize, points: &[u16])
 }
 
 // The fields of the first n pairs.
-fn put_pairs(
-    out: &mut [u8],
-    version: u16,
-    n: usize,
-    ids: &[u32],
-    donor_blood: &[u8],
-    patient_blood: &[u8],
-    donor_age: &[u8],
-    patient_age: &[u8],
-    donor_antigens: &[u64],
-    patient_antigens: &[u64],
-    patient_antibodies: &[u64],
-)
+fn put_pairs(out: &mut [u8], version: u16, n: usize, fields: Fields)
     requires n_bound { (n ≤ 200) × (pair_place version n ≤ length out.old) }
-    requires fact { let f = fields_now ids donor_blood patient_blood donor_age patient_age
-        donor_antigens patient_antigens patient_antibodies in
-        FieldsHold n f }
-    ensures { let f = lent_fields ids donor_blood patient_blood donor_age patient_age
-        donor_antigens patient_antigens patient_antibodies in
-        out.new ≡ stored (first_pair version) (flat_map pair_field (table n (pair_in f.entry))) out.old }
+    requires fact { FieldsHold n (fields_in fields) }
+    ensures { out.new ≡ stored (first_pair version) (flat_map pair_field (table n (pair_in (fields_in fields.entry)))) out.old }
 {
-    let mut i: usize = 0;
-    while i < n {
+    for i in 0..n {
         encoding::put_pair(
             out,
             layout::pair_place(version, i),
-            ids[i],
-            donor_blood[i],
-            patient_blood[i],
-            donor_age[i],
-            patient_age[i],
-            donor_antigens[i],
-            patient_antigens[i],
-            patient_antibodies[i],
+            fields.ids[i],
+            fields.donor_blood[i],
+            fields.patient_blood[i],
+            fields.donor_age[i],
+            fields.patient_age[i],
+            fields.donor_antigens[i],
+            fields.patient_antigens[i],
+            fields.patient_antibodies[i],
         );
-        i += 1;
     }
 }
 
@@ -91,38 +67,16 @@ fn put_sheet(
     version: u16,
     n: usize,
     points: &[u16],
-    ids: &[u32],
-    donor_blood: &[u8],
-    patient_blood: &[u8],
-    donor_age: &[u8],
-    patient_age: &[u8],
-    donor_antigens: &[u64],
-    patient_antigens: &[u64],
-    patient_antibodies: &[u64],
+    fields: Fields,
     shuffle: &[u16],
 )
-    requires fact { let t = tables_now points ids donor_blood patient_blood donor_age patient_age
-        donor_antigens patient_antigens patient_antibodies shuffle in
-        TablesHold version n t }
+    requires fact { TablesHold version n (tables points.now (fields_in fields) shuffle.now) }
     requires n_bound { (n ≤ 200) × (sheet_length version n ≤ length out.old) }
-    ensures { let t = lent_tables points ids donor_blood patient_blood donor_age patient_age
-        donor_antigens patient_antigens patient_antibodies shuffle in
-        out.new ≡ filled (sheet_of (pool_in version n t.entry)) out.old }
+    ensures { let t = tables points.now (fields_in fields.entry) shuffle.now in
+        out.new ≡ filled (sheet_of (pool_in version n t)) out.old }
 {
     put_opening(out, version, n, points);
-    put_pairs(
-        out,
-        version,
-        n,
-        ids,
-        donor_blood,
-        patient_blood,
-        donor_age,
-        patient_age,
-        donor_antigens,
-        patient_antigens,
-        patient_antibodies,
-    );
+    put_pairs(out, version, n, fields);
     encoding::put_field(
         out,
         layout::pair_place(version, n),
@@ -137,107 +91,37 @@ fn judge(
     version: u16,
     n: usize,
     points: &[u16],
-    ids: &[u32],
-    donor_blood: &[u8],
-    patient_blood: &[u8],
-    donor_age: &[u8],
-    patient_age: &[u8],
-    donor_antigens: &[u64],
-    patient_antigens: &[u64],
-    patient_antibodies: &[u64],
+    fields: Fields,
     shuffle: &[u16],
-) -> Verdict
-    ensures { let t = lent_tables points ids donor_blood patient_blood donor_age patient_age
-        donor_antigens patient_antigens patient_antibodies shuffle in
-        fault_at 0 result ≡ pool_fault version n t.entry }
+) -> Result<(), Refusal>
+    ensures { let t = tables points.now (fields_in fields.entry) shuffle.now in
+        fault_at 0 result ≡ pool_fault version n t }
 {
-    let held = checks::room(
-        ids.len(),
-        donor_blood.len(),
-        patient_blood.len(),
-        donor_age.len(),
-        patient_age.len(),
-        donor_antigens.len(),
-        patient_antigens.len(),
-        patient_antibodies.len(),
-    );
-    let shortest = checks::lesser(held, shuffle.len());
-    match checks::pairs(
-        version,
-        n,
-        shortest,
-        points,
-        ids,
-        donor_blood,
-        patient_blood,
-        donor_age,
-        patient_age,
-    ) {
-        Verdict::Faulty(why) => Verdict::Faulty(why),
-        Verdict::Sound => checks::shuffle(shuffle, n),
-    }
+    let shortest = fields.room().min(shuffle.len());
+    checks::pairs(version, n, shortest, points, fields)?;
+    checks::shuffle(shuffle, n)
 }
 
-// Writes the pool of this version in the first n entries of the tables into the lent buffer. Of version 1 the points are not looked at.
+// Writes the pool of this version in the first n entries of the tables into the lent buffer, and gives the sheet's length; a refusal has place 0. Of version 1
+// the points are not looked at.
 pub fn write(
     version: u16,
     n: usize,
     points: &[u16],
-    ids: &[u32],
-    donor_blood: &[u8],
-    patient_blood: &[u8],
-    donor_age: &[u8],
-    patient_age: &[u8],
-    donor_antigens: &[u64],
-    patient_antigens: &[u64],
-    patient_antibodies: &[u64],
+    fields: Fields,
     shuffle: &[u16],
     out: &mut [u8],
-) -> Writing
-    ensures equals { let t = lent_tables points ids donor_blood patient_blood donor_age patient_age
-        donor_antigens patient_antigens patient_antibodies shuffle in
-        outcome (answer_of result) out.new ≡ writing version n t.entry out.old }
-    ensures rightly { let t = lent_tables points ids donor_blood patient_blood donor_age patient_age
-        donor_antigens patient_antigens patient_antibodies shuffle in
-        WritesRightly version n t.entry out.old (outcome (answer_of result) out.new) }
+) -> Result<usize, Refusal>
+    ensures equals { let t = tables points.now (fields_in fields.entry) shuffle.now in
+        outcome (answer_of result) out.new ≡ writing version n t out.old }
+    ensures rightly { let t = tables points.now (fields_in fields.entry) shuffle.now in
+        WritesRightly version n t out.old (outcome (answer_of result) out.new) }
 {
-    match judge(
-        version,
-        n,
-        points,
-        ids,
-        donor_blood,
-        patient_blood,
-        donor_age,
-        patient_age,
-        donor_antigens,
-        patient_antigens,
-        patient_antibodies,
-        shuffle,
-    ) {
-        Verdict::Faulty(why) => {
-            return Writing::Refused(why);
-        }
-        Verdict::Sound => {}
-    }
+    judge(version, n, points, fields, shuffle)?;
     let length = layout::sheet_length(version, n);
     if out.len() < length {
-        return Writing::Refused(Refusal::TooShort);
+        return Err(Refusal::TooShort);
     }
-    put_sheet(
-        out,
-        version,
-        n,
-        points,
-        ids,
-        donor_blood,
-        patient_blood,
-        donor_age,
-        patient_age,
-        donor_antigens,
-        patient_antigens,
-        patient_antibodies,
-        shuffle,
-    );
-    Writing::Length(length)
+    put_sheet(out, version, n, points, fields, shuffle);
+    Ok(length)
 }

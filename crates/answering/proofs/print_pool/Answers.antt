@@ -19,7 +19,7 @@ pub print_planned-requires : goal.print_planned-requires
 print_planned-requires c =
     let b = c.build in (
       plannable _ _ _ c.requires empty roomy b.result _ b.ensures.rightly (omega arith, omega arith),
-      omega (arith, length-take-le c.args.n c.args.ids.now c.requires.faultless.hold.fields.ids),
+      omega (arith, length-take-le c.args.n c.args.fields.ids.now c.requires.faultless.hold.fields.ids),
     )
 
 pub returns-in-Built : goal.returns-in-Built

@@ -2,9 +2,7 @@
 use mathlib.Core.Path.{ap, ◌∙◌}
 use mathlib.Core.List.{List}
 use Prim.Native.Nat.{ℕ}
-use native.Mathlib.Omega.{arith}
 use Rattle.laws.specs.Lent.{stored}
-use Rattle.pool.specs.Sheet.{points_size}
 use Rattle.appending.proofs.Pieces.{pairs_there}
 use Rattle.appending.proofs.put_pairs.Goals as goal
 
@@ -14,11 +12,3 @@ returns c =
     ∙ ap (λ (l : List ℕ). stored c.args.at l c.args.out.now)
     (pairs_there c.args.sheet.now c.args.version c.args.n _ _ (λ j. (c.type_inv.sheet j).fits) c.requires.0 c.requires.1 c.requires.2
     c.first_pair-from.ensures.0 c.pair_place-to.ensures.0)
-
-pub pair_place-to-requires : goal.pair_place-to-requires
-pair_place-to-requires c =
-    omega (arith, c.requires.2, c.requires.0.head.few)
-
-pub slice_bounds-put_bytes-end : goal.slice_bounds-put_bytes-end
-slice_bounds-put_bytes-end c =
-    omega (arith, c.pair_place-to.ensures, c.requires.0.nothing_after, ap points_size c.requires.1, c.requires.2)

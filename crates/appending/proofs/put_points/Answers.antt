@@ -2,9 +2,8 @@
 use mathlib.Core.Path.{ap, ◌∙◌}
 use mathlib.Core.List.{List}
 use Prim.Native.Nat.{ℕ}
-use native.Mathlib.Omega.{arith}
 use Rattle.laws.specs.Lent.{stored}
-use Rattle.pool.specs.Sheet.{head_size, points_size}
+use Rattle.pool.specs.Sheet.{head_size}
 use Rattle.appending.proofs.Pieces.{points_there}
 use Rattle.appending.proofs.put_points.Goals as goal
 
@@ -13,7 +12,3 @@ returns c =
     c.put_bytes.ensures
     ∙ ap (λ (l : List ℕ). stored head_size l c.args.out.now)
     (points_there c.args.sheet.now c.args.version _ (λ j. (c.type_inv.sheet j).fits) c.requires.0 c.requires.1 c.first_pair-to.ensures.0)
-
-pub slice_bounds-put_bytes-end : goal.slice_bounds-put_bytes-end
-slice_bounds-put_bytes-end c =
-    omega (arith, c.first_pair-to.ensures, c.requires.0.nothing_after, ap points_size c.requires.1)

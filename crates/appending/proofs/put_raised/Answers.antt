@@ -5,12 +5,12 @@ use native.Mathlib.Omega.{arith}
 use Rattle.laws.specs.Digits.{bytes}
 use Rattle.laws.specs.Lent.{stored}
 use Rattle.laws.proofs.Digits.{length-bytes, big_endian_lt}
-use Rattle.laws.proofs.Lent.{pieces_none, pieces_more, pieces_all}
+use Rattle.laws.proofs.Lent.{pieces_none, pieces_more}
 use Rattle.pool.specs.Sheet.{pair_place, number_at, version_in, shuffle_at}
 use Rattle.appending.proofs.put_raised.Goals as goal
 
 pub loop-j-init : goal.loop-j-init
-loop-j-init c = (omega arith, pieces_none _ (bytes 2) _ _)
+loop-j-init c = pieces_none _ (bytes 2) _ _
 
 pub overflow_add-drawn : goal.overflow_add-drawn
 overflow_add-drawn c =
@@ -24,19 +24,8 @@ loop-j-preserved c =
     c.pair_place-from.ensures.0 ∙ ap (λ v. pair_place v c.args.n) c.requires.2 in
     let drawn : c.number-drawn.result ≡ shuffle_at c.args.sheet.now c.args.n c.loop-j.j =
     rw (← due) c.number-drawn.ensures in
-    let l = c.loop-j in
-    let s = c.args in (
-      omega (arith, c.loop-j-test.true),
-      pieces_more s.at (bytes 2) (λ k. shuffle_at s.sheet.now s.n k + s.more) s.out.now 2 l.j l.out _ (length-bytes 2)
-          (omega (arith, c.requires)) l.invariant.1
-          (c.put.ensures ∙ ap (λ (x : ℕ). stored (s.at + 2 * l.j) (bytes 2 (x + s.more)) l.out) drawn) c.put.auto.out,
-    )
-
-pub shape_of-out : goal.shape_of-out
-shape_of-out c = c.loop-j.invariant.1.kept
-
-pub returns : goal.returns
-returns c =
-    let l = c.loop-j in
     let s = c.args in
-    pieces_all s.at (bytes 2) (λ k. shuffle_at s.sheet.now s.n k + s.more) s.out.now l.j s.n l.out l.invariant.1 (omega arith)
+    let l = c.loop-j in
+    pieces_more _ (bytes 2) _ _ 2 _ _ _ (length-bytes 2) (omega (arith, c.requires)) l.invariant
+    (c.put.ensures ∙ ap (λ (x : ℕ). stored (s.at + 2 * l.j) (bytes 2 (x + s.more)) l.out) drawn)
+    c.put.auto.out

@@ -10,8 +10,9 @@ use Rattle.encoding.proofs.put_pair.Goals as goal
 pub returns : goal.returns
 unfolding pair_field field group_bytes tissue_bytes bytes
 returns c =
-    stored_then c.args.at donor_antigens_at _ _ _ _ _ refl (omega (arith, c.requires))
+    rw (← c.from.ensures)
+    (stored_then c.args.at donor_antigens_at _ _ _ _ _ refl (omega (arith, c.requires))
     (stored_then c.args.at donor_blood_at _ _ _ _ _ refl (omega (arith, c.requires))
     (stored_then c.args.at id_at _ _ _ _ _ refl (omega (arith, c.requires)) c.put_start.ensures c.put.ensures)
     c.put_groups.ensures)
-    c.put_tissue.ensures
+    c.put_tissue.ensures)

@@ -3,9 +3,9 @@
 use Prim.Native.Nat.{◌*◌}
 use native.Mathlib.Omega.{arith}
 use Rattle.pool.specs.Tables.{pair_in}
+use Rattle.fields.specs.Lent.{fields_in}
 use Rattle.donation.specs.Compatibility.{compatibility}
 use Rattle.graph.specs.Graph.{with_row}
-use Rattle.graph.specs.Sources.{fields_of_m}
 use Rattle.graph.proofs.Rows.{row_fits, rows_few, in_row, small_in_row, storing_none, storing_more, storing_all}
 use Rattle.graph.proofs.compatibility_row.Goals as goal
 
@@ -22,7 +22,7 @@ loop-j-preserved c =
     let l = c.loop-j in
     let v = l.invariant in
     let a = c.args in
-    let read = fields_of_m a.donor_blood.now a.patient_blood.now a.donor_antigens.now a.patient_antibodies.now in
+    let read = fields_in a.fields in
     record {
       passed = omega arith;
       row = v.row;

@@ -2,8 +2,8 @@
 -- Assumes nothing.
 use Prim.Native.Nat.{◌-◌, ◌*◌, ◌≤◌}
 use Rattle.pool.specs.Tables.{pair_in}
+use Rattle.fields.specs.Lent.{fields_in}
 use Rattle.donation.specs.Compatibility.{compatibility}
-use Rattle.graph.specs.Sources.{fields_of_m}
 use Rattle.graph.specs.Preconditions.{Row, ReadableForM}
 use Rattle.graph.proofs.Rows.{Storing}
 use Rattle.graph.proofs.compatibility_row.Given as goal
@@ -13,8 +13,8 @@ invariant-loop-j l =
     record {
       passed : l.j ≤ l.n;
       row : Row l.i l.n l.initial.compatibilities;
-      readable : ReadableForM l.n l.donor_blood l.patient_blood l.donor_antigens l.patient_antibodies;
-      storing : Storing (l.i * l.n) l.j (compatibility (pair_in (fields_of_m l.donor_blood l.patient_blood l.donor_antigens l.patient_antibodies)) l.i)
+      readable : ReadableForM l.n (fields_in l.fields);
+      storing : Storing (l.i * l.n) l.j (compatibility (pair_in (fields_in l.fields)) l.i)
           l.initial.compatibilities l.compatibilities;
     }
 

@@ -1,9 +1,9 @@
 -- `graph::fill` meets its contract. The loop's invariant: the rows passed stand in both tables, as long as they were. Assumes nothing.
 use Prim.Native.Nat.{◌-◌, ◌*◌, ◌≤◌}
-use mathlib.Core.List.{[]}
 use Rattle.laws.proofs.Lent.{Filling}
-use Rattle.pool.specs.Tables.{fields, pair_in}
+use Rattle.pool.specs.Tables.{pair_in}
 use Rattle.points.specs.Named.{named}
+use Rattle.fields.specs.Lent.{fields_in}
 use Rattle.donation.specs.Compatibility.{compatibility}
 use Rattle.donation.specs.Weight.{weight}
 use Rattle.graph.specs.Graph.{graph}
@@ -13,7 +13,7 @@ use Rattle.graph.proofs.fill.Given as goal
 
 abbrev pub invariant-loop-i : goal.invariant-loop-i
 invariant-loop-i l =
-    let f = fields [] l.donor_blood l.patient_blood l.donor_age l.patient_age l.donor_antigens l.patient_antigens l.patient_antibodies in
+    let f = fields_in l.fields in
     record {
       passed : l.i ≤ l.n;
       buildable : Buildable (named l.points) l.n f (graph l.initial.compatibilities l.initial.weights);

@@ -4,9 +4,9 @@ use Prim.Native.Nat.{◌*◌}
 use native.Mathlib.Omega.{arith}
 use Rattle.pool.specs.Tables.{pair_in}
 use Rattle.points.specs.Named.{named}
+use Rattle.fields.specs.Lent.{fields_in}
 use Rattle.donation.specs.Weight.{weight}
 use Rattle.graph.specs.Graph.{with_row}
-use Rattle.graph.specs.Sources.{fields_of_w}
 use Rattle.graph.proofs.Rows.{row_fits, rows_few, in_row, small_in_row, storing_none, storing_more, storing_all}
 use Rattle.graph.proofs.weight_row.Goals as goal
 
@@ -40,7 +40,7 @@ loop-j-preserved c =
     let l = c.loop-j in
     let v = l.invariant in
     let a = c.args in
-    let read = fields_of_w a.donor_age.now a.patient_age.now a.donor_antigens.now a.patient_antigens.now in
+    let read = fields_in a.fields in
     record {
       passed = omega arith;
       row = v.row;

@@ -4,8 +4,8 @@ use Prim.Native.Nat.{◌-◌, ◌*◌, ◌≤◌}
 use Rattle.pool.specs.Tables.{pair_in}
 use Rattle.pool.specs.Faultless.{SoundPoints}
 use Rattle.points.specs.Named.{named}
+use Rattle.fields.specs.Lent.{fields_in}
 use Rattle.donation.specs.Weight.{weight}
-use Rattle.graph.specs.Sources.{fields_of_w}
 use Rattle.graph.specs.Preconditions.{Row, ReadableForW}
 use Rattle.graph.proofs.Rows.{Storing}
 use Rattle.graph.proofs.weight_row.Given as goal
@@ -15,8 +15,8 @@ invariant-loop-j l =
     record {
       passed : l.j ≤ l.n;
       row : Row l.i l.n l.initial.weights;
-      readable : ReadableForW l.n l.donor_age l.patient_age l.donor_antigens l.patient_antigens;
-      storing : Storing (l.i * l.n) l.j (weight (named l.points) (pair_in (fields_of_w l.donor_age l.patient_age l.donor_antigens l.patient_antigens)) l.i)
+      readable : ReadableForW l.n (fields_in l.fields);
+      storing : Storing (l.i * l.n) l.j (weight (named l.points) (pair_in (fields_in l.fields)) l.i)
           l.initial.weights l.weights;
       sound : SoundPoints (named l.points);
     }

@@ -22,7 +22,7 @@ pub loop-k-init : goal.loop-k-init
 unfolding any_below
 loop-k-init c =
     let v = c.version_in-version.result in
-    (omega arith, omega (arith, c.point_count-count.ensures, count_size v, size_most v), refl)
+    (omega (arith, c.point_count-count.ensures, count_size v, size_most v), refl)
 
 pub number-requires : goal.number-requires
 number-requires c =
@@ -59,14 +59,14 @@ returns-then-number c =
     c.point_count-count.ensures ∙ ap point_count c.version_in-version.ensures in
     let differs : differs_at c.args.first.now c.args.second.now c.loop-k.k ≡ not (eqb c.number.result c.number-in-loop-k.result) =
     ap not (ap₂ eqb (sym c.number.ensures) (sym c.number-in-loop-k.ensures)) in
-    differ_point _ _ same _ many c.loop-k.k c.loop-k-test.true (differs ∙ ap not (ne_eqb _ _ c.if-number.true))
+    differ_point _ _ same _ many c.loop-k.k (omega arith) (differs ∙ ap not (ne_eqb _ _ c.if-number.true))
 
 pub loop-k-preserved : goal.loop-k-preserved
 unfolding number_at
 loop-k-preserved c =
     let differs : differs_at c.args.first.now c.args.second.now c.loop-k.k ≡ not (eqb c.number.result c.number-in-loop-k.result) =
     ap not (ap₂ eqb (sym c.number.ensures) (sym c.number-in-loop-k.ensures)) in
-    (omega (arith, c.loop-k-test.true), c.loop-k.invariant.1, any_more c.loop-k.k _ c.loop-k.invariant.2 (differs ∙ ap not (eq-eqb _ _ c.if-number.false)))
+    (c.loop-k.invariant.0, any_more c.loop-k.k _ c.loop-k.invariant.1 (differs ∙ ap not (eq-eqb _ _ c.if-number.false)))
 
 pub returns : goal.returns
 returns c =
@@ -74,4 +74,4 @@ returns c =
     sym c.version_in-version.ensures ∙ c.if-version-version_in.false ∙ c.version_in.ensures in
     let many : c.point_count-count.result ≡ point_count (version_in c.args.first.now) =
     c.point_count-count.ensures ∙ ap point_count c.version_in-version.ensures in
-    differ_sound _ _ same _ many c.loop-k.k (omega arith) c.loop-k.invariant.2
+    differ_sound _ _ same _ many c.loop-k.k (omega arith) c.loop-k.invariant.1

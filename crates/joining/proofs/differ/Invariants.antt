@@ -7,7 +7,4 @@ use Rattle.joining.proofs.Judged.{differs_at}
 use Rattle.joining.proofs.differ.Given as goal
 
 abbrev pub invariant-loop-k : goal.invariant-loop-k
-invariant-loop-k l = (l.k ≤ l.count) × (2 * l.count ≤ 15) × (any_below l.k (differs_at l.first l.second) ≡ false)
-
-abbrev pub decreases-loop-k : goal.decreases-loop-k
-decreases-loop-k l = l.count - l.k
+invariant-loop-k l = (2 * l.count ≤ 15) × (any_below l.k (differs_at l.first l.second) ≡ false)

@@ -6,19 +6,19 @@ use Rattle.pool.specs.Joining.{join_fault}
 use Rattle.pool.specs.Promises.{EntriesBelow}
 use Rattle.pool.proofs.Joined.{length_joined}
 use Rattle.pool.proofs.Joining.{join_passed}
-use Rattle.scan.proofs.Sheet.{nothing_none, found_fault_lem}
+use Rattle.refusal.proofs.Faults.{nothing_none, found_fault_lem, handed_on}
 use Rattle.joining.proofs.Answered.{answered_fault, answered_joined, answered_rightly}
 use Rattle.joining.proofs.join.Goals as goal
 
 pub put_joined-requires : goal.put_joined-requires
 put_joined-requires c =
     let passed : join_fault c.args.first.now c.args.second.now (length c.args.out.now) ≡ none =
-    nothing_none _ c.judge.ensures c.in-Nothing.is in
+    nothing_none _ c.judge.ensures c.in_ok-judge.was in
     let p = join_passed _ _ _ passed in
     (p.0, rw (length_joined _ _) at p.1)
 
-pub returns-in-Fault : goal.returns-in-Fault
-returns-in-Fault c =
+pub returns-in_err-judge : goal.returns-in_err-judge
+returns-in_err-judge c =
     let first-bytes : EntriesBelow 256 c.args.first.now =
     λ j.
     (c.type_inv.first j).fits in
@@ -27,11 +27,11 @@ returns-in-Fault c =
     (c.type_inv.second j).fits in
     let s = c.args in
     let e =
-    answered_fault s.first.now s.second.now s.out.now _ _ (found_fault_lem _ c.judge.ensures _ _ c.in-Fault.is) in
-    record { equals = e; rightly = answered_rightly _ _ _ first-bytes second-bytes _ _ e }
+    answered_fault s.first.now s.second.now s.out.now _ (found_fault_lem _ c.judge.ensures _ c.in_err-judge.was) in
+    rw (handed_on _ _ c.from_residual.ensures) (record { equals = e; rightly = answered_rightly _ _ _ first-bytes second-bytes _ _ e })
 
-pub returns-in-Nothing : goal.returns-in-Nothing
-returns-in-Nothing c =
+pub returns : goal.returns
+returns c =
     let first-bytes : EntriesBelow 256 c.args.first.now =
     λ j.
     (c.type_inv.first j).fits in
@@ -39,7 +39,7 @@ returns-in-Nothing c =
     λ j.
     (c.type_inv.second j).fits in
     let passed : join_fault c.args.first.now c.args.second.now (length c.args.out.now) ≡ none =
-    nothing_none _ c.judge.ensures c.in-Nothing.is in
+    nothing_none _ c.judge.ensures c.in_ok-judge.was in
     let s = c.args in
     let e = answered_joined s.first.now s.second.now s.out.now passed _ _ c.put_joined.ensures.0 c.put_joined.ensures.1 in
     record { equals = e; rightly = answered_rightly _ _ _ first-bytes second-bytes _ _ e }

@@ -1,47 +1,31 @@
 -- `joining::judge` meets its contract. Assumes nothing.
-use mathlib.Core.Path.{◌≡◌, sym, ◌∙◌}
+use mathlib.Core.Path.{◌≡◌, ◌∙◌}
 use Rattle.refusal.specs.Fault.{none}
-use Rattle.refusal.proofs.Faults.{sound_none, faulty_fault}
+use Rattle.refusal.specs.Number.{found_fault}
+use Rattle.refusal.proofs.Faults.{nothing_none, found_fault_lem, handed_on}
 use Rattle.pool.specs.Faults.{sheet_fault}
 use Rattle.pool.proofs.Reading.{sheet_passed}
-use Rattle.scan.specs.Answers.{found_fault}
-use Rattle.scan.proofs.Sheet.{nothing_none, found_fault_lem}
 use Rattle.joining.proofs.Judged.{first_own_lem, second_own_lem, none_own}
 use Rattle.joining.proofs.judge.Goals as goal
 
-pub returns-in-Fault : goal.returns-in-Fault
+pub returns-in_err-check : goal.returns-in_err-check
 unfolding found_fault
-returns-in-Fault c = first_own_lem _ _ _ (found_fault_lem _ c.check.ensures _ _ c.in-Fault.is)
+returns-in_err-check c =
+    rw (handed_on _ _ c.from_residual.ensures) (first_own_lem _ _ _ (found_fault_lem _ c.check.ensures _ c.in_err-check.was))
 
-pub returns-in-Fault-check : goal.returns-in-Fault-check
+pub returns-in_err-check-2 : goal.returns-in_err-check-2
 unfolding found_fault
-returns-in-Fault-check c =
-    let no-first : sheet_fault c.args.first.now ≡ none =
-    nothing_none _ c.check.ensures c.in-Nothing.is in
-    second_own_lem _ _ _ no-first (found_fault_lem _ c.check-2.ensures _ _ c.in-Fault-check.is)
+returns-in_err-check-2 c =
+    let no-first : sheet_fault c.args.first.now ≡ none = nothing_none _ c.check.ensures c.in_ok-check.was in
+    rw (handed_on _ _ c.from_residual-in_err-check-2.ensures)
+    (second_own_lem _ _ _ no-first (found_fault_lem _ c.check-2.ensures _ c.in_err-check-2.was))
 
 pub both-requires : goal.both-requires
 both-requires c =
-    let no-first : sheet_fault c.args.first.now ≡ none =
-    nothing_none _ c.check.ensures c.in-Nothing.is in
-    let no_second : sheet_fault c.args.second.now ≡ none =
-    nothing_none _ c.check-2.ensures c.in-Nothing-check.is in
-    (sheet_passed _ no-first, sheet_passed _ no_second)
+    (sheet_passed _ (nothing_none _ c.check.ensures c.in_ok-check.was), sheet_passed _ (nothing_none _ c.check-2.ensures c.in_ok-check-2.was))
 
-pub returns-in-Faulty : goal.returns-in-Faulty
-unfolding found_fault
-returns-in-Faulty c =
-    let no-first : sheet_fault c.args.first.now ≡ none =
-    nothing_none _ c.check.ensures c.in-Nothing.is in
-    let no_second : sheet_fault c.args.second.now ≡ none =
-    nothing_none _ c.check-2.ensures c.in-Nothing-check.is in
-    sym (faulty_fault _ _ c.both.ensures _ c.in-Faulty.is) ∙ none_own _ _ _ no-first no_second
-
-pub returns-in-Sound : goal.returns-in-Sound
-unfolding found_fault
-returns-in-Sound c =
-    let no-first : sheet_fault c.args.first.now ≡ none =
-    nothing_none _ c.check.ensures c.in-Nothing.is in
-    let no_second : sheet_fault c.args.second.now ≡ none =
-    nothing_none _ c.check-2.ensures c.in-Nothing-check.is in
-    sym (sound_none _ _ c.both.ensures c.in-Sound.is) ∙ none_own _ _ _ no-first no_second
+pub returns : goal.returns
+returns c =
+    c.at.ensures
+    ∙ c.both.ensures
+    ∙ none_own _ _ _ (nothing_none _ c.check.ensures c.in_ok-check.was) (nothing_none _ c.check-2.ensures c.in_ok-check-2.was)

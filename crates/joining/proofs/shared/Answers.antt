@@ -18,11 +18,15 @@ in_both : (a b : List ℕ) (n m : ℕ) → n ≡ pairs_in a → m ≡ pairs_in b
 unfolding id_in_both
 in_both a b n m e f = rw (e, f)
 
-pub fill_ids-requires : goal.fill_ids-requires
-fill_ids-requires c =
+pub fill_column-requires : goal.fill_column-requires
+fill_column-requires c =
     let n = c.pairs_in-n.ensures in
-    let w = c.requires.0 in
-    (omega (arith, n, w.head.few), omega (arith, n, w.nothing_after, ap points_size c.version_in.ensures), omega (arith, n, w.head.few))
+    let w = c.requires.0 in (
+      omega (arith, n, w.head.few),
+      omega arith,
+      omega (arith, n, w.nothing_after, ap points_size c.version_in.ensures),
+      omega (arith, n, w.head.few),
+    )
 
 pub pair_place-requires : goal.pair_place-requires
 pair_place-requires c =
@@ -36,7 +40,7 @@ number-id-requires c =
 
 pub loop-j-init : goal.loop-j-init
 unfolding any_below
-loop-j-init c = (omega arith, refl)
+loop-j-init c = refl
 
 pub overflow_cast-id : goal.overflow_cast-id
 overflow_cast-id c =
@@ -52,7 +56,7 @@ returns-then-among c =
     c.among.ensures
     ∙ any_cong _ _ _
     (λ i k. ap₂ eqb
-    (filled_at _ _ _ _ c.fill_ids.ensures i k
+    (filled_at _ _ _ _ c.fill_column.ensures i k
     ∙ ap (λ v. big_endian 4 c.args.first.now (pair_place v i + id_at)) c.version_in.ensures)
     (rw (← due) c.number-id.ensures)) in
     let s = c.args in
@@ -60,7 +64,7 @@ returns-then-among c =
     let m = c.pairs_in-m in
     sym
     (any_hit m.result (again s.first.now n.result s.second.now) c.loop-j.j
-    c.loop-j-test.true (sym found ∙ c.if-among.true))
+    (omega arith) (sym found ∙ c.if-among.true))
     ∙ in_both _ _ _ _ n.ensures m.ensures
 
 pub loop-j-preserved : goal.loop-j-preserved
@@ -72,12 +76,12 @@ loop-j-preserved c =
     c.among.ensures
     ∙ any_cong _ _ _
     (λ i k. ap₂ eqb
-    (filled_at _ _ _ _ c.fill_ids.ensures i k
+    (filled_at _ _ _ _ c.fill_column.ensures i k
     ∙ ap (λ v. big_endian 4 c.args.first.now (pair_place v i + id_at)) c.version_in.ensures)
     (rw (← due) c.number-id.ensures)) in
     let s = c.args in
     let n = c.pairs_in-n.result in
-    (omega arith, any_more c.loop-j.j (again s.first.now n s.second.now) c.loop-j.invariant.1 (sym found ∙ c.if-among.false))
+    any_more c.loop-j.j (again s.first.now n s.second.now) c.loop-j.invariant (sym found ∙ c.if-among.false)
 
 pub returns : goal.returns
 returns c =
@@ -86,6 +90,6 @@ returns c =
     let m = c.pairs_in-m in
     let l = c.loop-j in
     let e : l.j ≡ m.result = omega arith in
-    sym l.invariant.1
+    sym l.invariant
     ∙ ap (λ (k : ℕ). any_below k (again s.first.now n.result s.second.now)) e
     ∙ in_both _ _ _ _ n.ensures m.ensures

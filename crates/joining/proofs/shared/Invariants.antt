@@ -13,7 +13,4 @@ abbrev pub again : List ℕ → ℕ → List ℕ → ℕ → Bool
 again a n b j = any_below n (λ i. eqb (pair_at a i).id (pair_at b j).id)
 
 abbrev pub invariant-loop-j : goal.invariant-loop-j
-invariant-loop-j l = (l.j ≤ l.m) × (any_below l.j (again l.first l.n l.second) ≡ false)
-
-abbrev pub decreases-loop-j : goal.decreases-loop-j
-decreases-loop-j l = l.m - l.j
+invariant-loop-j l = (any_below l.j (again l.first l.n l.second) ≡ false)

@@ -13,43 +13,43 @@ fill_numbers-requires c =
     let v = c.args.version in
     omega (arith, c.point_count.ensures, count_size v, size_most v, c.requires.whole, c.requires.held_points)
 
-pub fill_ids-requires : goal.fill_ids-requires
-fill_ids-requires c =
+pub fill_column-requires : goal.fill_column-requires
+fill_column-requires c =
     let held = room_hold _ _ _ c.requires.held c.requires.held_points in
     omega (arith, c.requires.few, c.requires.whole, held.fields.ids)
 
-pub fill_groups-requires : goal.fill_groups-requires
-fill_groups-requires c =
+pub fill_column-requires-2 : goal.fill_column-requires-2
+fill_column-requires-2 c =
     let held = room_hold _ _ _ c.requires.held c.requires.held_points in
     omega (arith, c.requires.few, c.requires.whole, held.fields.donor_blood)
 
-pub fill_groups-requires-2 : goal.fill_groups-requires-2
-fill_groups-requires-2 c =
+pub fill_column-requires-3 : goal.fill_column-requires-3
+fill_column-requires-3 c =
     let held = room_hold _ _ _ c.requires.held c.requires.held_points in
     omega (arith, c.requires.few, c.requires.whole, held.fields.patient_blood)
 
-pub fill_groups-requires-3 : goal.fill_groups-requires-3
-fill_groups-requires-3 c =
+pub fill_column-requires-4 : goal.fill_column-requires-4
+fill_column-requires-4 c =
     let held = room_hold _ _ _ c.requires.held c.requires.held_points in
     omega (arith, c.requires.few, c.requires.whole, held.fields.donor_age)
 
-pub fill_groups-requires-4 : goal.fill_groups-requires-4
-fill_groups-requires-4 c =
+pub fill_column-requires-5 : goal.fill_column-requires-5
+fill_column-requires-5 c =
     let held = room_hold _ _ _ c.requires.held c.requires.held_points in
     omega (arith, c.requires.few, c.requires.whole, held.fields.patient_age)
 
-pub fill_tissue-requires : goal.fill_tissue-requires
-fill_tissue-requires c =
+pub fill_column-requires-6 : goal.fill_column-requires-6
+fill_column-requires-6 c =
     let held = room_hold _ _ _ c.requires.held c.requires.held_points in
     omega (arith, c.requires.few, c.requires.whole, held.fields.donor_antigens)
 
-pub fill_tissue-requires-2 : goal.fill_tissue-requires-2
-fill_tissue-requires-2 c =
+pub fill_column-requires-7 : goal.fill_column-requires-7
+fill_column-requires-7 c =
     let held = room_hold _ _ _ c.requires.held c.requires.held_points in
     omega (arith, c.requires.few, c.requires.whole, held.fields.patient_antigens)
 
-pub fill_tissue-requires-3 : goal.fill_tissue-requires-3
-fill_tissue-requires-3 c =
+pub fill_column-requires-8 : goal.fill_column-requires-8
+fill_column-requires-8 c =
     let held = room_hold _ _ _ c.requires.held c.requires.held_points in
     omega (arith, c.requires.few, c.requires.whole, held.fields.patient_antibodies)
 
@@ -72,14 +72,14 @@ returns c =
       points = own_points _ _ version _ _ _ c.point_count.ensures c.fill_numbers.ensures i;
       fields =
           record {
-            ids = column _ _ many _ _ _ version 4 id_at (λ q. q.id) (λ i. refl) c.fill_ids.ensures i;
-            donor_blood = column _ _ many _ _ _ version 1 donor_blood_at (λ q. q.donor_blood) (λ i. refl) c.fill_groups.ensures i;
-            patient_blood = column _ _ many _ _ _ version 1 patient_blood_at (λ q. q.patient_blood) (λ i. refl) c.fill_groups-2.ensures i;
-            donor_age = column _ _ many _ _ _ version 1 donor_age_at (λ q. q.donor_age) (λ i. refl) c.fill_groups-3.ensures i;
-            patient_age = column _ _ many _ _ _ version 1 patient_age_at (λ q. q.patient_age) (λ i. refl) c.fill_groups-4.ensures i;
-            donor_antigens = column _ _ many _ _ _ version 8 donor_antigens_at (λ q. q.donor_antigens) (λ i. refl) c.fill_tissue.ensures i;
-            patient_antigens = column _ _ many _ _ _ version 8 patient_antigens_at (λ q. q.patient_antigens) (λ i. refl) c.fill_tissue-2.ensures i;
-            patient_antibodies = column _ _ many _ _ _ version 8 patient_antibodies_at (λ q. q.patient_antibodies) (λ i. refl) c.fill_tissue-3.ensures i;
+            ids = column _ _ many _ _ _ version 4 id_at (λ q. q.id) (λ i. refl) c.fill_column.ensures i;
+            donor_blood = column _ _ many _ _ _ version 1 donor_blood_at (λ q. q.donor_blood) (λ i. refl) c.fill_column-2.ensures i;
+            patient_blood = column _ _ many _ _ _ version 1 patient_blood_at (λ q. q.patient_blood) (λ i. refl) c.fill_column-3.ensures i;
+            donor_age = column _ _ many _ _ _ version 1 donor_age_at (λ q. q.donor_age) (λ i. refl) c.fill_column-4.ensures i;
+            patient_age = column _ _ many _ _ _ version 1 patient_age_at (λ q. q.patient_age) (λ i. refl) c.fill_column-5.ensures i;
+            donor_antigens = column _ _ many _ _ _ version 8 donor_antigens_at (λ q. q.donor_antigens) (λ i. refl) c.fill_column-6.ensures i;
+            patient_antigens = column _ _ many _ _ _ version 8 patient_antigens_at (λ q. q.patient_antigens) (λ i. refl) c.fill_column-7.ensures i;
+            patient_antibodies = column _ _ many _ _ _ version 8 patient_antibodies_at (λ q. q.patient_antibodies) (λ i. refl) c.fill_column-8.ensures i;
           };
       shuffle = numbers _ _ many _ _ _ due c.fill_numbers-2.ensures i;
     }

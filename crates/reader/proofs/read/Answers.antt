@@ -2,14 +2,15 @@
 use Prim.Native.Nat.{min}
 use mathlib.Core.Path.{◌≡◌, refl, sym, ap, ◌∙◌}
 use lib.ListN.{length}
-use Rattle.pool.specs.Tables.{Tables, fields, tables, field_room, room}
+use Rattle.pool.specs.Tables.{Tables, fields, tables, room}
 use Rattle.pool.specs.Calls.{reading}
 use Rattle.reader.specs.Answers.{answer_of}
+use Rattle.refusal.proofs.Faults.{handed_on}
 use Rattle.reader.proofs.Answered.{refused_leaves, fillable, rightly, finished_rightly}
 use Rattle.reader.proofs.read.Goals as goal
 
 pub fill-requires : goal.fill-requires
-unfolding room field_room
+unfolding room
 fill-requires c =
     let lent : Tables =
     let a = c.args in
@@ -19,13 +20,13 @@ fill-requires c =
     a.shuffle.now in
     let answers : answer_of c.judge.result ≡ (reading c.args.sheet.now lent).answer =
     c.judge.ensures lent
-    (sym (c.lesser-space.ensures ∙ ap (λ k. min k (length c.args.shuffle.now)) c.room-held.ensures))
+    (sym (c.min-space.ensures ∙ ap (λ k. min k (length c.args.shuffle.now)) c.room.ensures))
     refl in
-    fillable _ _ _ answers _ _ c.in-Pairs.is
+    fillable _ _ _ answers _ c.in_ok-head.was
 
-pub returns-in-Refused : goal.returns-in-Refused
-unfolding room field_room
-returns-in-Refused c =
+pub returns-in_err-head : goal.returns-in_err-head
+unfolding room
+returns-in_err-head c =
     let lent : Tables =
     let a = c.args in
     tables a.points.now
@@ -34,15 +35,14 @@ returns-in-Refused c =
     a.shuffle.now in
     let answers : answer_of c.judge.result ≡ (reading c.args.sheet.now lent).answer =
     c.judge.ensures lent
-    (sym (c.lesser-space.ensures ∙ ap (λ k. min k (length c.args.shuffle.now)) c.room-held.ensures))
+    (sym (c.min-space.ensures ∙ ap (λ k. min k (length c.args.shuffle.now)) c.room.ensures))
     refl in
-    let e = c.in-Refused.is in
-    let w = refused_leaves _ lent _ answers _ _ e in
-    record { equals = w; rightly = rightly _ lent w }
+    let w = refused_leaves _ lent _ answers _ c.in_err-head.was in
+    rw (handed_on _ _ c.from_residual.ensures) (record { equals = w; rightly = rightly _ lent w })
 
-pub returns-in-Pairs : goal.returns-in-Pairs
-unfolding room field_room
-returns-in-Pairs c =
+pub returns : goal.returns
+unfolding room
+returns c =
     let lent : Tables =
     let a = c.args in
     tables a.points.now
@@ -51,7 +51,7 @@ returns-in-Pairs c =
     a.shuffle.now in
     let answers : answer_of c.judge.result ≡ (reading c.args.sheet.now lent).answer =
     c.judge.ensures lent
-    (sym (c.lesser-space.ensures ∙ ap (λ k. min k (length c.args.shuffle.now)) c.room-held.ensures))
+    (sym (c.min-space.ensures ∙ ap (λ k. min k (length c.args.shuffle.now)) c.room.ensures))
     refl in
-    let w = finished_rightly _ lent _ answers _ _ c.in-Pairs.is _ c.fill.ensures in
+    let w = finished_rightly _ lent _ answers _ c.in_ok-head.was _ c.fill.ensures in
     record { equals = w.0; rightly = w.1 }

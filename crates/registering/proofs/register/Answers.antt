@@ -1,6 +1,6 @@
 -- `registering::register` meets its contract: `judge` was told the shortest of the tables with an entry for each pair. Assumes nothing.
 use native.Mathlib.Omega.{arith}
-use Rattle.pool.specs.Tables.{fields, field_room}
+use Rattle.pool.specs.Tables.{fields}
 use Rattle.graph.specs.Graph.{graph}
 use Rattle.weighing.proofs.Faults.{held-fields}
 use Rattle.live.specs.Live.{live}
@@ -10,7 +10,6 @@ use Rattle.registering.proofs.Answered.{call_refused, call_registrable, call_reg
 use Rattle.registering.proofs.register.Goals as goal
 
 pub judge-requires : goal.judge-requires
-unfolding field_room
 judge-requires c =
     let a = c.args in
     let f =
@@ -18,12 +17,11 @@ judge-requires c =
     a.patient_antibodies.now
     in
     let pool = live a.count.now a.points.now f (graph a.compatibilities.now a.weights.now) a.suitable.now in
-    let shortest = lesser_pairs pool c.room-held.result c.lesser-space.result c.room-held.ensures c.lesser-space.ensures in
+    let shortest = lesser_pairs pool c.room.result c.lesser-space.result c.room.ensures c.lesser-space.ensures in
     let h = room_holds pool c.lesser-space.result shortest in
     record { tables_have_room = held-fields _ f h.0; space_in_bounds = h.1 }
 
 pub add-requires : goal.add-requires
-unfolding field_room
 add-requires c =
     let a = c.args in
     let f =
@@ -31,11 +29,10 @@ add-requires c =
     a.patient_antibodies.now
     in
     let pool = live a.count.now a.points.now f (graph a.compatibilities.now a.weights.now) a.suitable.now in
-    let shortest = lesser_pairs pool c.room-held.result c.lesser-space.result c.room-held.ensures c.lesser-space.ensures in
-    call_registrable _ pool c.lesser-space.result shortest c.judge.result (c.judge.ensures _ _ _) c.in-Sound.is
+    let shortest = lesser_pairs pool c.room.result c.lesser-space.result c.room.ensures c.lesser-space.ensures in
+    call_registrable _ pool c.lesser-space.result shortest c.judge.result c.judge.ensures c.in-Sound.is
 
 pub overflow_add-count : goal.overflow_add-count
-unfolding field_room
 overflow_add-count c =
     let a = c.args in
     let f =
@@ -43,12 +40,11 @@ overflow_add-count c =
     a.patient_antibodies.now
     in
     let pool = live a.count.now a.points.now f (graph a.compatibilities.now a.weights.now) a.suitable.now in
-    let shortest = lesser_pairs pool c.room-held.result c.lesser-space.result c.room-held.ensures c.lesser-space.ensures in
-    let registrable = call_registrable _ pool c.lesser-space.result shortest c.judge.result (c.judge.ensures _ _ _) c.in-Sound.is in
+    let shortest = lesser_pairs pool c.room.result c.lesser-space.result c.room.ensures c.lesser-space.ensures in
+    let registrable = call_registrable _ pool c.lesser-space.result shortest c.judge.result c.judge.ensures c.in-Sound.is in
     omega (arith, registrable.room)
 
 pub returns-in-Faulty : goal.returns-in-Faulty
-unfolding field_room
 returns-in-Faulty c =
     let a = c.args in
     let f =
@@ -56,12 +52,11 @@ returns-in-Faulty c =
     a.patient_antibodies.now
     in
     let pool = live a.count.now a.points.now f (graph a.compatibilities.now a.weights.now) a.suitable.now in
-    let shortest = lesser_pairs pool c.room-held.result c.lesser-space.result c.room-held.ensures c.lesser-space.ensures in
-    let e = call_refused _ pool c.lesser-space.result shortest c.judge.result (c.judge.ensures _ _ _) _ c.in-Faulty.is in
+    let shortest = lesser_pairs pool c.room.result c.lesser-space.result c.room.ensures c.lesser-space.ensures in
+    let e = call_refused _ pool c.lesser-space.result shortest c.judge.result c.judge.ensures _ c.in-Faulty.is in
     record { equals = e; rightly = rightly_registered _ _ _ e }
 
 pub returns-in-Sound : goal.returns-in-Sound
-unfolding field_room
 returns-in-Sound c =
     let a = c.args in
     let f =
@@ -69,6 +64,6 @@ returns-in-Sound c =
     a.patient_antibodies.now
     in
     let pool = live a.count.now a.points.now f (graph a.compatibilities.now a.weights.now) a.suitable.now in
-    let shortest = lesser_pairs pool c.room-held.result c.lesser-space.result c.room-held.ensures c.lesser-space.ensures in
-    let e = call_registered _ pool c.lesser-space.result shortest c.judge.result (c.judge.ensures _ _ _) c.in-Sound.is _ c.add.ensures in
+    let shortest = lesser_pairs pool c.room.result c.lesser-space.result c.room.ensures c.lesser-space.ensures in
+    let e = call_registered _ pool c.lesser-space.result shortest c.judge.result c.judge.ensures c.in-Sound.is _ c.add.ensures in
     record { equals = e; rightly = rightly_registered _ _ _ e }

@@ -11,7 +11,7 @@ use Rattle.suiting.proofs.compare.Goals as goal
 
 pub loop-j-init : goal.loop-j-init
 unfolding first_below
-loop-j-init c = (omega arith, c.requires.n_in_bounds, c.requires.n_in_bounds_2, refl)
+loop-j-init c = refl
 
 pub returns-then-suitable-j : goal.returns-then-suitable-j
 unfolding fault_at
@@ -19,14 +19,14 @@ returns-then-suitable-j c =
     let l = c.loop-j in
     let s = c.args in
     let other : item_in s.suitable.now l.j ≡ item_in s.counts.now l.j → ⊥ = c.if-suitable-j.true in
-    sym (first_hit _ _ l.j c.loop-j-test.true l.invariant.3 (fault_refuse 10 0 _ (ap not (ne_eqb _ _ other))))
+    sym (first_hit _ _ l.j c.loop-j-test.true l.invariant (fault_refuse 10 0 _ (ap not (ne_eqb _ _ other))))
 
 pub loop-j-preserved : goal.loop-j-preserved
 loop-j-preserved c =
     let l = c.loop-j in
-    (omega arith, l.invariant.1, l.invariant.2, first_more l.j _ l.invariant.3 (none_refuse 10 0 _ (ap not (eq-eqb _ _ c.if-suitable-j.false))))
+    first_more l.j _ l.invariant (none_refuse 10 0 _ (ap not (eq-eqb _ _ c.if-suitable-j.false)))
 
 pub returns : goal.returns
 returns c =
     let l = c.loop-j in
-    passed_all _ _ l.j (omega arith) l.invariant.3
+    passed_all _ _ l.j (omega arith) l.invariant

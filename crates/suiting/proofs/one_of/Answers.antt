@@ -1,13 +1,15 @@
 -- `suiting::one_of` meets its contract. Assumes nothing.
-use mathlib.Core.Path.{sym, ap}
-use borrow.Author.Tests.{eq-eqb, ne_eqb}
+use mathlib.Core.Path.{◌≡◌, refl}
+use mathlib.Core.Bool.{Bool, true, false}
+use mir.Val.{bool_byte}
 use Rattle.laws.specs.Below.{one}
 use Rattle.suiting.proofs.one_of.Goals as goal
 
-pub returns-then-entry-eq1 : goal.returns-then-entry-eq1
+-- a test as a number
+as_number : (t : Bool) → bool_byte t ≡ one t
 unfolding one
-returns-then-entry-eq1 c = sym (ap one (eq-eqb _ _ c.if-entry-eq1.true))
+as_number true = refl
+as_number false = refl
 
-pub returns-else-entry-eq1 : goal.returns-else-entry-eq1
-unfolding one
-returns-else-entry-eq1 c = sym (ap one (ne_eqb _ _ c.if-entry-eq1.false))
+pub returns : goal.returns
+returns c = as_number _

@@ -5,6 +5,6 @@ use Rattle.vadivuzhen.proofs.vadivuzhen_build.Goals as goal
 
 pub returns : goal.returns
 returns c =
-    let w = c.build-answer in
-    let k = kept_built c.build_numbers.ensures (build_numbered w.result) w.ensures.equals w.ensures.rightly in
+    let w = c.build in
+    let k = kept_built c.into.ensures (build_numbered w.result) w.ensures.equals w.ensures.rightly in
     record { numbers = k.0; lent = k.1.0; rightly = k.1.1 }

@@ -9,5 +9,5 @@ use Rattle.vadivuzhen.proofs.vadivuzhen_join.Goals as goal
 pub returns : goal.returns
 returns c =
     let w = c.join in
-    let k = kept join_numbers Numbered (JoinsRightly _ _ _) c.join_numbers.ensures (join_numbered w.result) w.ensures.equals w.ensures.rightly in
+    let k = kept join_numbers Numbered (JoinsRightly _ _ _) c.into.ensures (join_numbered w.result) w.ensures.equals w.ensures.rightly in
     record { numbers = k.0; lent = k.1.0; rightly = k.1.1 }

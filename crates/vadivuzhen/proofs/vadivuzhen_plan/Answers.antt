@@ -5,6 +5,6 @@ use Rattle.vadivuzhen.proofs.vadivuzhen_plan.Goals as goal
 
 pub returns : goal.returns
 returns c =
-    let w = c.plan-answer in
-    let k = kept_plan c.plan_numbers.ensures (plan_numbered w.result) w.ensures in
+    let w = c.plan in
+    let k = kept_plan c.into.ensures (plan_numbered w.result) w.ensures in
     record { numbers = k.0; lent = k.1.0; rightly = k.1.1 }

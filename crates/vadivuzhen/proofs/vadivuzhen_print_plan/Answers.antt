@@ -8,6 +8,6 @@ use Rattle.vadivuzhen.proofs.vadivuzhen_print_plan.Goals as goal
 
 pub returns : goal.returns
 returns c =
-    let w = c.print_plan-answer in
-    let k = kept print_numbers NumberedAt0 (PrintsPlan _ _) c.print_numbers.ensures (print_numbered w.result) w.ensures.equals w.ensures.rightly in
+    let w = c.print_plan in
+    let k = kept print_numbers NumberedAt0 (PrintsPlan _ _) c.into.ensures (print_numbered w.result) w.ensures.equals w.ensures.rightly in
     record { numbers = k.0; lent = k.1.0; rightly = k.1.1 }

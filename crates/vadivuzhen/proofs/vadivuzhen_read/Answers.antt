@@ -5,6 +5,6 @@ use Rattle.vadivuzhen.proofs.vadivuzhen_read.Goals as goal
 
 pub returns : goal.returns
 returns c =
-    let w = c.read-answer in
-    let k = kept_read c.read_numbers.ensures (read_numbered w.result) w.ensures.equals w.ensures.rightly in
+    let w = c.read in
+    let k = kept_read c.into.ensures (read_numbered w.result) w.ensures.equals w.ensures.rightly in
     record { numbers = k.0; lent = k.1.0; rightly = k.1.1 }

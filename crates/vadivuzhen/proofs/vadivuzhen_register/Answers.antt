@@ -5,6 +5,6 @@ use Rattle.vadivuzhen.proofs.vadivuzhen_register.Goals as goal
 
 pub returns : goal.returns
 returns c =
-    let w = c.register-answer in
-    let k = kept_registered c.live_numbers.ensures (live_numbered w.result) w.ensures.equals w.ensures.rightly in
+    let w = c.register in
+    let k = kept_registered c.into.ensures (live_numbered w.result) w.ensures.equals w.ensures.rightly in
     record { numbers = k.0; lent = k.1.0; rightly = k.1.1 }

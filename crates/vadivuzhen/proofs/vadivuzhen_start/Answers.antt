@@ -6,5 +6,5 @@ use Rattle.vadivuzhen.proofs.vadivuzhen_start.Goals as goal
 pub returns : goal.returns
 returns c =
     let w = c.start in
-    let k = kept_started c.live_numbers.ensures (live_numbered w.result) w.ensures.equals w.ensures.rightly in
+    let k = kept_started c.into.ensures (live_numbered w.result) w.ensures.equals w.ensures.rightly in
     record { numbers = k.0; lent = k.1.0; rightly = k.1.1 }

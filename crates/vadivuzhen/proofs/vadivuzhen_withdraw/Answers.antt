@@ -5,6 +5,6 @@ use Rattle.vadivuzhen.proofs.vadivuzhen_withdraw.Goals as goal
 
 pub returns : goal.returns
 returns c =
-    let w = c.withdraw-answer in
-    let k = kept_withdrawn c.live_numbers.ensures (live_numbered w.result) w.ensures.equals w.ensures.rightly in
+    let w = c.withdraw in
+    let k = kept_withdrawn c.into.ensures (live_numbered w.result) w.ensures.equals w.ensures.rightly in
     record { numbers = k.0; lent = k.1.0; rightly = k.1.1 }

@@ -8,6 +8,6 @@ use Rattle.vadivuzhen.proofs.vadivuzhen_write.Goals as goal
 
 pub returns : goal.returns
 returns c =
-    let w = c.write-answer in
-    let k = kept write_numbers NumberedAt0 (WritesRightly _ _ _ _) c.write_numbers.ensures (write_numbered w.result) w.ensures.equals w.ensures.rightly in
+    let w = c.write in
+    let k = kept write_numbers NumberedAt0 (WritesRightly _ _ _ _) c.into.ensures (write_numbered w.result) w.ensures.equals w.ensures.rightly in
     record { numbers = k.0; lent = k.1.0; rightly = k.1.1 }

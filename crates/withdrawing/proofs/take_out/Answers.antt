@@ -1,78 +1,31 @@
--- `withdrawing::take_out` meets its contract. Assumes nothing.
+-- `withdrawing::take_out` meets its contract: what `shifting` leaves of a table is, in a table of numbers, what is promised. Assumes nothing.
 use mathlib.Core.Path.{ap₂}
 use Rattle.graph.specs.Graph.{graph}
 use Rattle.live.specs.Calls.{without_pair}
+use Rattle.shifting.proofs.Numbers.{number_out, numbers_out}
 use Rattle.withdrawing.proofs.take_out.Goals as goal
 
-pub take_out-requires : goal.take_out-requires
-take_out-requires c = c.requires.numbers
-
-pub without_entry_u32-requires : goal.without_entry_u32-requires
-without_entry_u32-requires c =
-    let p = c.requires in
-    record { inside = p.numbers.inside; fits = p.fields.ids }
-
-pub without_entry_u8-requires : goal.without_entry_u8-requires
-without_entry_u8-requires c =
-    let p = c.requires in
-    record { inside = p.numbers.inside; fits = p.fields.donor_blood }
-
-pub without_entry_u8-requires-2 : goal.without_entry_u8-requires-2
-without_entry_u8-requires-2 c =
-    let p = c.requires in
-    record { inside = p.numbers.inside; fits = p.fields.patient_blood }
-
-pub without_entry_u8-requires-3 : goal.without_entry_u8-requires-3
-without_entry_u8-requires-3 c =
-    let p = c.requires in
-    record { inside = p.numbers.inside; fits = p.fields.donor_age }
-
-pub without_entry_u8-requires-4 : goal.without_entry_u8-requires-4
-without_entry_u8-requires-4 c =
-    let p = c.requires in
-    record { inside = p.numbers.inside; fits = p.fields.patient_age }
-
-pub without_entry_u64-requires : goal.without_entry_u64-requires
-without_entry_u64-requires c =
-    let p = c.requires in
-    record { inside = p.numbers.inside; fits = p.fields.donor_antigens }
-
-pub without_entry_u64-requires-2 : goal.without_entry_u64-requires-2
-without_entry_u64-requires-2 c =
-    let p = c.requires in
-    record { inside = p.numbers.inside; fits = p.fields.patient_antigens }
-
-pub without_entry_u64-requires-3 : goal.without_entry_u64-requires-3
-without_entry_u64-requires-3 c =
-    let p = c.requires in
-    record { inside = p.numbers.inside; fits = p.fields.patient_antibodies }
-
-pub without_row_u8-requires : goal.without_row_u8-requires
-without_row_u8-requires c =
-    let p = c.requires in
-    record { inside = p.numbers.inside; few = p.numbers.tables.few; fits = p.numbers.tables.rows }
-
-pub without_row_u16-requires : goal.without_row_u16-requires
-without_row_u16-requires c =
-    let p = c.requires in
-    record { inside = p.numbers.inside; few = p.numbers.tables.few; fits = p.weights }
-
-pub returns : goal.returns
+pub returns-clause-fields : goal.returns-clause-fields
 unfolding without_pair
-returns c =
+returns-clause-fields c =
+    let l = c.requires.numbers.inside in
+    let f = c.requires.fields in
+    λ k.
     record {
-      fields =
-          λ k.
-          record {
-            ids = c.without_entry_u32.ensures k;
-            donor_blood = c.without_entry_u8.ensures k;
-            patient_blood = c.without_entry_u8-2.ensures k;
-            donor_age = c.without_entry_u8-3.ensures k;
-            patient_age = c.without_entry_u8-4.ensures k;
-            donor_antigens = c.without_entry_u64.ensures k;
-            patient_antigens = c.without_entry_u64-2.ensures k;
-            patient_antibodies = c.without_entry_u64-3.ensures k;
-          };
-      graph = ap₂ graph c.without_row_u8.ensures c.without_row_u16.ensures;
-      numbers = c.take_out.ensures;
+      ids = number_out _ _ _ _ (record { inside = l; fits = f.ids }) c.without_entry.ensures k;
+      donor_blood = number_out _ _ _ _ (record { inside = l; fits = f.donor_blood }) c.without_entry-2.ensures k;
+      patient_blood = number_out _ _ _ _ (record { inside = l; fits = f.patient_blood }) c.without_entry-3.ensures k;
+      donor_age = number_out _ _ _ _ (record { inside = l; fits = f.donor_age }) c.without_entry-4.ensures k;
+      patient_age = number_out _ _ _ _ (record { inside = l; fits = f.patient_age }) c.without_entry-5.ensures k;
+      donor_antigens = number_out _ _ _ _ (record { inside = l; fits = f.donor_antigens }) c.without_entry-6.ensures k;
+      patient_antigens = number_out _ _ _ _ (record { inside = l; fits = f.patient_antigens }) c.without_entry-7.ensures k;
+      patient_antibodies = number_out _ _ _ _ (record { inside = l; fits = f.patient_antibodies }) c.without_entry-8.ensures k;
     }
+
+pub returns-clause-graph : goal.returns-clause-graph
+returns-clause-graph c =
+    let p = c.requires in
+    let t = p.numbers.tables in
+    ap₂ graph
+    (numbers_out _ _ _ (record { inside = p.numbers.inside; few = t.few; fits = t.rows }) _ c.without_row.ensures)
+    (numbers_out _ _ _ (record { inside = p.numbers.inside; few = t.few; fits = p.weights }) _ c.without_row-2.ensures)

@@ -1,6 +1,5 @@
 -- `withdrawing::withdraw` meets its contract: `judge` was told the shortest of the tables with an entry for each pair. Assumes nothing.
 use native.Mathlib.Omega.{arith}
-use Rattle.pool.specs.Tables.{field_room}
 use Rattle.live.specs.Lent.{live_now}
 use Rattle.live.proofs.Sizes.{room_holds, lesser_pairs}
 use Rattle.live.proofs.Promised.{rightly_withdrawn}
@@ -8,88 +7,81 @@ use Rattle.withdrawing.proofs.Called.{found-stored, call_refused, call_kept, cal
 use Rattle.withdrawing.proofs.withdraw.Goals as goal
 
 pub judge-requires : goal.judge-requires
-unfolding field_room
 judge-requires c =
     let a = c.args in
     let lent =
     live_now a.count a.points a.ids a.donor_blood a.patient_blood a.donor_age a.patient_age a.donor_antigens a.patient_antigens
     a.patient_antibodies a.compatibilities a.weights a.suitable
     in
-    let shortest = lesser_pairs lent c.room-held.result c.lesser-space.result c.room-held.ensures c.lesser-space.ensures in
+    let shortest = lesser_pairs lent c.room.result c.lesser-space.result c.room.ensures c.lesser-space.ensures in
     (room_holds lent c.lesser-space.result shortest).1
 
 pub returns-in-Faulty : goal.returns-in-Faulty
-unfolding field_room
 returns-in-Faulty c =
     let a = c.args in
     let lent =
     live_now a.count a.points a.ids a.donor_blood a.patient_blood a.donor_age a.patient_age a.donor_antigens a.patient_antigens
     a.patient_antibodies a.compatibilities a.weights a.suitable
     in
-    let shortest = lesser_pairs lent c.room-held.result c.lesser-space.result c.room-held.ensures c.lesser-space.ensures in
+    let shortest = lesser_pairs lent c.room.result c.lesser-space.result c.room.ensures c.lesser-space.ensures in
     let found = found-stored lent c.lesser-space.result c.judge.result shortest c.judge.ensures in
     let e = call_refused a.id lent c.judge.result found _ c.in-Faulty.is in
     record { equals = e; rightly = rightly_withdrawn _ _ _ e }
 
 pub place_of-at-requires : goal.place_of-at-requires
-unfolding field_room
 place_of-at-requires c =
     let a = c.args in
     let lent =
     live_now a.count a.points a.ids a.donor_blood a.patient_blood a.donor_age a.patient_age a.donor_antigens a.patient_antigens
     a.patient_antibodies a.compatibilities a.weights a.suitable
     in
-    let shortest = lesser_pairs lent c.room-held.result c.lesser-space.result c.room-held.ensures c.lesser-space.ensures in
+    let shortest = lesser_pairs lent c.room.result c.lesser-space.result c.room.ensures c.lesser-space.ensures in
     let found = found-stored lent c.lesser-space.result c.judge.result shortest c.judge.ensures in
     (call_kept a.id lent c.judge.result found c.in-Sound.is).keep.fields.ids
 
 pub returns-then-at-n : goal.returns-then-at-n
-unfolding field_room
 returns-then-at-n c =
     let a = c.args in
     let lent =
     live_now a.count a.points a.ids a.donor_blood a.patient_blood a.donor_age a.patient_age a.donor_antigens a.patient_antigens
     a.patient_antibodies a.compatibilities a.weights a.suitable
     in
-    let shortest = lesser_pairs lent c.room-held.result c.lesser-space.result c.room-held.ensures c.lesser-space.ensures in
+    let shortest = lesser_pairs lent c.room.result c.lesser-space.result c.room.ensures c.lesser-space.ensures in
     let found = found-stored lent c.lesser-space.result c.judge.result shortest c.judge.ensures in
     let e = call_unknown a.id lent c.judge.result found c.in-Sound.is c.place_of-at.result c.place_of-at.ensures c.if-at-n.true in
     record { equals = e; rightly = rightly_withdrawn _ _ _ e }
 
 pub take_out-requires : goal.take_out-requires
-unfolding field_room
 take_out-requires c =
     let a = c.args in
     let lent =
     live_now a.count a.points a.ids a.donor_blood a.patient_blood a.donor_age a.patient_age a.donor_antigens a.patient_antigens
     a.patient_antibodies a.compatibilities a.weights a.suitable
     in
-    let shortest = lesser_pairs lent c.room-held.result c.lesser-space.result c.room-held.ensures c.lesser-space.ensures in
+    let shortest = lesser_pairs lent c.room.result c.lesser-space.result c.room.ensures c.lesser-space.ensures in
     let found = found-stored lent c.lesser-space.result c.judge.result shortest c.judge.ensures in
     call_one a.id lent c.judge.result found c.in-Sound.is c.place_of-at.result c.place_of-at.ensures c.if-at-n.false
 
 pub overflow_sub-count : goal.overflow_sub-count
-unfolding field_room
 overflow_sub-count c =
     let a = c.args in
     let lent =
     live_now a.count a.points a.ids a.donor_blood a.patient_blood a.donor_age a.patient_age a.donor_antigens a.patient_antigens
     a.patient_antibodies a.compatibilities a.weights a.suitable
     in
-    let shortest = lesser_pairs lent c.room-held.result c.lesser-space.result c.room-held.ensures c.lesser-space.ensures in
+    let shortest = lesser_pairs lent c.room.result c.lesser-space.result c.room.ensures c.lesser-space.ensures in
     let found = found-stored lent c.lesser-space.result c.judge.result shortest c.judge.ensures in
     let one = call_one a.id lent c.judge.result found c.in-Sound.is c.place_of-at.result c.place_of-at.ensures c.if-at-n.false in
     omega (arith, one.numbers.inside)
 
 pub returns : goal.returns
-unfolding field_room
 returns c =
     let a = c.args in
     let lent =
     live_now a.count a.points a.ids a.donor_blood a.patient_blood a.donor_age a.patient_age a.donor_antigens a.patient_antigens
     a.patient_antibodies a.compatibilities a.weights a.suitable
     in
-    let shortest = lesser_pairs lent c.room-held.result c.lesser-space.result c.room-held.ensures c.lesser-space.ensures in
+    let shortest = lesser_pairs lent c.room.result c.lesser-space.result c.room.ensures c.lesser-space.ensures in
     let found = found-stored lent c.lesser-space.result c.judge.result shortest c.judge.ensures in
     let w = c.take_out.ensures in
     let e =

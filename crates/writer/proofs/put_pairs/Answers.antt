@@ -1,48 +1,35 @@
 -- `writer::put_pairs` meets its contract. The invariant: the fields of i pairs are written after the head. Assumes nothing.
-use Prim.Native.Nat.{ℕ, suc, ◌≤◌, ◌<◌}
-use native.Mathlib.Nat.{le_trans}
+use Prim.Native.Nat.{ℕ, ◌≤◌, ◌<◌}
 use mathlib.Core.Path.{ap, ◌∙◌}
 use native.Mathlib.Omega.{arith}
 use lib.ListN.{length}
 use Rattle.laws.specs.Lent.{stored}
 use Rattle.laws.proofs.Lent.{pieces_none, pieces_more, pieces_all}
 use Rattle.pool.specs.Sheet.{first_pair, pair_size, pair_place, pair_field}
-use Rattle.pool.specs.Tables.{Fields, fields, pair_in}
-use Rattle.pool.specs.Faultless.{FieldsHold}
+use Rattle.pool.specs.Tables.{pair_in}
+use Rattle.fields.specs.Lent.{fields_in}
 use Rattle.pool.proofs.Lengths.{length-pair_field}
 use Rattle.writer.proofs.put_pairs.Goals as goal
 
 pub loop-i-init : goal.loop-i-init
-loop-i-init c = (omega arith, pieces_none _ pair_field _ _)
+loop-i-init c = pieces_none _ pair_field _ _
 
 pub loop-i-preserved : goal.loop-i-preserved
 unfolding pair_in
 loop-i-preserved c =
-    let given : Fields =
-    fields c.args.ids.now c.args.donor_blood.now c.args.patient_blood.now c.args.donor_age.now c.args.patient_age.now
-    c.args.donor_antigens.now c.args.patient_antigens.now c.args.patient_antibodies.now in
+    let given = fields_in c.args.fields in
     let l = c.loop-i in
-    let fits : pair_place c.args.version l.i ≤ length c.args.out.now = omega (arith, c.loop-i-test.true, c.requires.n_bound.1) in (
-      omega (arith, c.loop-i-test.true),
-      pieces_more (first_pair c.args.version) pair_field (pair_in given) c.args.out.now pair_size l.i l.out _ length-pair_field fits l.invariant.1
-          (◌∙◌ {b = stored c.pair_place.result (pair_field (pair_in given l.i)) l.out} c.put_pair.ensures
-          (ap (λ (o : ℕ). stored o (pair_field (pair_in given l.i)) l.out) c.pair_place.ensures.0))
-          c.put_pair.auto.out,
-    )
+    let fits : pair_place c.args.version l.i ≤ length c.args.out.now = omega (arith, c.requires.n_bound.1) in
+    pieces_more (first_pair c.args.version) pair_field (pair_in given) c.args.out.now pair_size l.i l.out _ length-pair_field fits l.invariant
+    (◌∙◌ {b = stored c.pair_place.result (pair_field (pair_in given l.i)) l.out} c.put_pair.ensures
+    (ap (λ (o : ℕ). stored o (pair_field (pair_in given l.i)) l.out) c.pair_place.ensures.0))
+    c.put_pair.auto.out
 
 pub shape_of-out : goal.shape_of-out
-shape_of-out c = c.loop-i.invariant.1.kept
+shape_of-out c = c.loop-i.invariant.kept
 
 pub returns : goal.returns
 returns c =
-    let given : Fields =
-    fields c.args.ids.now c.args.donor_blood.now c.args.patient_blood.now c.args.donor_age.now c.args.patient_age.now
-    c.args.donor_antigens.now c.args.patient_antigens.now c.args.patient_antibodies.now in
+    let given = fields_in c.args.fields in
     let l = c.loop-i in
-    pieces_all (first_pair c.args.version) pair_field (pair_in given) c.args.out.now l.i c.args.n l.out l.invariant.1 (omega arith)
-
-pub pair_place-requires : goal.pair_place-requires
-pair_place-requires c =
-    let few : c.loop-i.i < 200 =
-    omega (arith, c.loop-i-test.true, c.requires.n_bound.0) in
-    omega (arith, few)
+    pieces_all (first_pair c.args.version) pair_field (pair_in given) c.args.out.now l.i c.args.n l.out l.invariant (omega arith)

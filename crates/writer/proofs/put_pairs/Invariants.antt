@@ -2,13 +2,10 @@
 use Prim.Native.Nat.{◌-◌, ◌≤◌}
 use Rattle.laws.proofs.Lent.{Pieces}
 use Rattle.pool.specs.Sheet.{first_pair, pair_field}
-use Rattle.pool.specs.Tables.{fields, pair_in}
+use Rattle.pool.specs.Tables.{pair_in}
+use Rattle.fields.specs.Lent.{fields_in}
 use Rattle.writer.proofs.put_pairs.Given as goal
 
 abbrev pub invariant-loop-i : goal.invariant-loop-i
-invariant-loop-i l = (l.i ≤ l.n)
-    × Pieces (first_pair l.version) l.i pair_field
-    (pair_in (fields l.ids l.donor_blood l.patient_blood l.donor_age l.patient_age l.donor_antigens l.patient_antigens l.patient_antibodies)) l.initial.out l.out
-
-abbrev pub decreases-loop-i : goal.decreases-loop-i
-decreases-loop-i l = l.n - l.i
+invariant-loop-i l = Pieces (first_pair l.version) l.i pair_field
+    (pair_in (fields_in l.fields)) l.initial.out l.out

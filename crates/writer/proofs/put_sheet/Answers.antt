@@ -1,7 +1,8 @@
 -- `writer::put_sheet` meets its contract: the pairs go where the head ends, and the shuffle where they end. Assumes nothing.
 use mathlib.Core.Path.{◌∙◌}
 use native.Mathlib.Omega.{arith}
-use Rattle.pool.specs.Tables.{Tables, fields, tables}
+use Rattle.pool.specs.Tables.{tables}
+use Rattle.fields.specs.Lent.{fields_in}
 use Rattle.pool.proofs.Points.{hold_count}
 use Rattle.writer.proofs.Pieces.{sheet_pieces}
 use Rattle.writer.proofs.put_sheet.Goals as goal
@@ -24,10 +25,7 @@ shape_of-out c =
 
 pub returns : goal.returns
 returns c =
-    let given : Tables =
-    tables c.args.points.now
-    (fields c.args.ids.now c.args.donor_blood.now c.args.patient_blood.now c.args.donor_age.now c.args.patient_age.now
-    c.args.donor_antigens.now c.args.patient_antigens.now c.args.patient_antibodies.now) c.args.shuffle.now in
+    let given = tables c.args.points.now (fields_in c.args.fields) c.args.shuffle.now in
     sheet_pieces c.args.version c.args.n given c.args.out.now c.put_opening.new.out c.put_pairs.new.out c.put_field.new.out
     c.requires.n_bound.1 c.put_opening.ensures c.put_pairs.ensures (rw (← c.pair_place.ensures.0) c.put_field.ensures)
 

@@ -1,0 +1,2 @@
+-- `Lent`: the lists that a value of the struct lends.
+pub mod Lent
