@@ -135,19 +135,13 @@ PLANNED = {
         &mut donors[..n],
         &mut recipients[..n],
     );
-    let cycles = resolved.cycles;
-    let records = resolved.records;
-    let counts = gates::counts_of(tally);
     let plan = Planned {
         weight: resolved.weight as u64,
-        cycles: cycles,
-        tally: counts,
+        cycles: resolved.cycles,
+        tally: gates::counts_of(tally),
     };
-    Work {
-        planning: Planning::Made(plan),
-        cycles: cycles,
-        records: records,
-    }
+    let records = resolved.records;
+    Work { plan, records }
 ''',
 }
 
@@ -706,7 +700,7 @@ CHEATS = [
 
     ('planner', 'a weight that is looked at between the steps', [('    rounds::all_rounds(', '    if weights[0] == 0 {\n        return tally;\n    }\n    rounds::all_rounds(')],
      planned, 'planner: steps is another'),
-    ('planner', 'counts by formula', [('    let counts = gates::counts_of(tally);\n', '    let counts = Counts {\n        comparisons: all as u64,\n        products: all as u64,\n        rounds: rounds as u64,\n    };\n')],
+    ('planner', 'counts by formula', [('        tally: gates::counts_of(tally),\n', '        tally: Counts {\n            comparisons: all as u64,\n            products: all as u64,\n            rounds: rounds as u64,\n        },\n')],
      planned, 'planner: make is another'),
     ('planner', 'a module', [('// The plan, from checked input.', 'mod held {\n    pub fn none() {\n    }\n}\n\n// The plan, from checked input.')], planned, 'planner: has a module or a name of its own'),
     ('planner', 'steps that run twice', [('// The plan, from checked input.', 'fn other(t: Tally) -> Tally {\n    gates::begin_round(t)\n}\n\n// The plan, from checked input.')], planned, 'planner: runs a gate or a step elsewhere'),

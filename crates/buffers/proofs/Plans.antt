@@ -1,11 +1,13 @@
 -- Tables that planning does not refuse, and what it makes of them. Assumes nothing.
-use mathlib.Core.Path.{◌≡◌, ap, ◌∙◌}
+use mathlib.Core.Path.{◌≡◌, refl, ap, ◌∙◌}
 use mathlib.Core.List.{List}
 use Prim.Native.Nat.{ℕ, ◌*◌, ◌≤◌}
 use native.Mathlib.Omega.{arith}
 use native.Mathlib.Nat.{mul-le-mul}
 use native.Mathlib.Decide.{dec_le}
 use lib.ListN.{length}
+use Rattle.std.specs.Prelude.{Result, Ok, Err}
+use Rattle.std.specs.Result.{IsOk}
 use Rattle.refusal.specs.Answer.{Outcome, outcome, finished}
 use Rattle.refusal.specs.declared.Refusal.{Refusal}
 use Rattle.refusal.proofs.Faults.{unless_none, finished_none}
@@ -19,8 +21,6 @@ use Rattle.cursor.proofs.Number.{six_times_lem}
 use Rattle.planner.specs.Answers as Planner
 use Rattle.planner.specs.Answers.{plan_in}
 use Rattle.planner.specs.declared.Planned.{Planned}
-use Rattle.planner.specs.declared.Planning.{Planning}
-use Rattle.planner.specs.declared.Planning.TheVariants.{Made, Refused}
 use Rattle.answers.specs.Most.{most}
 use Rattle.buffers.specs.Preconditions.{FaultlessTables, Partnered}
 
@@ -32,6 +32,14 @@ subsets-most n l = elim (dec_le n 39) [
   | yes k ↦ let cube : n * n * n ≤ 59319 = mul-le-mul (mul-le-mul k k) k in omega (arith, six_times_lem n)
   | no k ↦ let cube : n * n * n ≤ 64000 = mul-le-mul (mul-le-mul l l) l in omega (arith, six_times_lem n)
 ]
+
+-- what is surely planned is not refused
+planned_ok : {p : Plan} (x : Result Planned Refusal) → Planner.answer_of x ≡ finished p → IsOk x
+unfolding Planner.answer_of
+planned_ok (Ok q) e = refl
+planned_ok (Err why) e =
+    let z : ◌≡◌ {A = ℕ} 0 1 = cc in
+    absurd (omega arith)
 
 module _ (n : ℕ) (M W s : List ℕ) (p : FaultlessTables (request n no_floor M W s)) (t : Lent) where
   -- lent tables for 40 pairs
@@ -74,21 +82,17 @@ module _ (n : ℕ) (M W s : List ℕ) (p : FaultlessTables (request n no_floor M
 
     -- ## The call, by its answer
 
-    module _ (x : Planning) (u : Lent) (e : PlansRightly a t (outcome (Planner.answer_of x) u)) where
+    module _ (x : Result Planned Refusal) (u : Lent) (e : PlansRightly a t (outcome (Planner.answer_of x) u)) where
       outcome_is : outcome (Planner.answer_of x) u ≡ outcome (finished (plan_from (input_of a))) (filled_lent (input_of a) t)
       outcome_is = e.equal ∙ planned_is
 
       answer_is : Planner.answer_of x ≡ finished (plan_from (input_of a))
       answer_is = ap (λ (o : Outcome Plan Lent). o.answer) outcome_is
 
-      pub never_refused : {A : Type 0} (why : Refusal) → x ≡ Refused why → A
-      unfolding Planner.answer_of
-      never_refused why g =
-          let h = rw g at answer_is in
-          let z : ◌≡◌ {A = ℕ} 0 1 = cc in
-          absurd (omega arith)
+      pub surely_planned : IsOk x
+      surely_planned = planned_ok x answer_is
 
-      pub partnered : (q : Planned) → x ≡ Made q → Partnered a t.donors t.recipients (plan_in q) u.donors u.recipients
+      pub partnered : (q : Planned) → x ≡ Ok q → Partnered a t.donors t.recipients (plan_in q) u.donors u.recipients
       unfolding Planner.answer_of filled_lent
       partnered q h =
           let i = rw h at answer_is in

@@ -8,7 +8,8 @@ ghost use Rattle.planner.specs.Answers.{plan_in, answer_of};
 ghost use Rattle.buffers.specs.Preconditions.{FaultlessTables, no_records, Recorded, Partnered};
 
 use cycle::Cycle;
-use planner::{Planned, Planning};
+use planner::Planned;
+use refusal::Refusal;
 
 // "Floor 0 [..], and `plan` uses it."
 const FLOOR: u32 = 0;
@@ -35,7 +36,7 @@ fn plan_recorded(
     choices: &mut [u32],
     donors: &mut [u16],
     recipients: &mut [u16],
-) -> Planning
+) -> Result<Planned, Refusal>
     ensures { let a = request n floor m.now w.now shuffle.now in
         let old = lent weights.old choices.old donors.old recipients.old in
         let new = lent weights.new choices.new donors.new recipients.new in
@@ -72,7 +73,7 @@ pub fn plan_tables(
     // 40 pairs have (40³ − 40) / 6 subsets and 20 rounds.
     let mut weights = [0u32; 10660];
     let mut choices = [0u32; 20];
-    match plan_recorded(
+    plan_recorded(
         n,
         FLOOR,
         m,
@@ -82,16 +83,6 @@ pub fn plan_tables(
         &mut choices,
         donors,
         recipients,
-    ) {
-        Planning::Made(made) => made,
-        Planning::Refused(_) => Planned {
-            weight: 0,
-            cycles: 0,
-            tally: gates::Counts {
-                comparisons: 0,
-                products: 0,
-                rounds: 0,
-            },
-        },
-    }
+    )
+    .unwrap()
 }

@@ -3,14 +3,12 @@ use Prim.Native.Nat.{ℕ}
 use mathlib.Core.List.{List}
 use mathlib.Core.Path.{◌≡◌, sym, ap, ap₂, ◌∙◌}
 use native.Mathlib.Omega.{arith}
-use lib.ListN.{length, take, replicate, length-replicate}
-use Rattle.laws.specs.Lent.{filled}
+use lib.ListN.{length, replicate, length-replicate}
 use Rattle.refusal.specs.Fault.{none}
-use Rattle.refusal.specs.Answer.{Answer, refused, outcome}
-use Rattle.refusal.specs.Number.{number_of, fault_at}
+use Rattle.refusal.specs.Answer.{finished, outcome}
+use Rattle.refusal.specs.Number.{fault_at}
 use Rattle.refusal.specs.declared.Refusal.{Refusal}
-use Rattle.refusal.specs.declared.Verdict.{Verdict}
-use Rattle.refusal.specs.declared.Verdict.TheVariants.{Sound, Faulty}
+use Rattle.std.specs.Prelude.{Result, Ok, Err}
 use Rattle.refusal.proofs.Faults.{unless_none, unless_fault, sound_none, faulty_fault}
 use Rattle.cycle.specs.declared.Cycle.{Cycle}
 use Rattle.exchange.specs.Input.{Request, request}
@@ -19,14 +17,14 @@ use Rattle.exchange.specs.Faultless.{FaultlessInput}
 use Rattle.exchange.proofs.Checked.{checked}
 use Rattle.exchange.proofs.Inverse.{invertible}
 use Rattle.exchange.proofs.Guaranteed.{planning_is_right}
-use Rattle.planner.specs.Answers.{answer_of}
+use Rattle.planner.specs.Answers.{plan_in}
 use Rattle.planner.specs.Preconditions.{Checked}
-use Rattle.planner.specs.ByValue.{written, Makes, PlansByValue}
+use Rattle.planner.specs.ByValue.{written, Makes, PlansByValue, RefusesByValue}
 use Rattle.planner.specs.declared.Work.{Work}
 
 -- ## The call: `found` is what the checks found, and `r` what it returns
 
-module _ (n f : ℕ) (M W s weights choices donors recipients : List ℕ) (room : ℕ) (found : Verdict)
+module _ (n f : ℕ) (M W s weights choices donors recipients : List ℕ) (room : ℕ) (found : Result Unit Refusal)
     (e : fault_at 0 found ≡ plan_fault (request n f M W s) (lengths (length weights) (length choices) (length donors) (length recipients) room)) where
   abbrev a : Request
   a = request n f M W s
@@ -38,24 +36,14 @@ module _ (n f : ℕ) (M W s weights choices donors recipients : List ℕ) (room 
   faults_are : (old : List Cycle) → length old ≡ room → fault_at 0 found ≡ plan_fault a (lengths_of (lends old))
   faults_are old h = e ∙ ap (λ (k : ℕ). plan_fault a (lengths (length weights) (length choices) (length donors) (length recipients) k)) (sym h)
 
-  -- a refusal leaves everything as it was, and has no record
-  module _ (why : Refusal) (g : found ≡ Faulty why) (r : Work) (er : (answer_of r.planning ≡ refused (number_of why) 0) × (r.cycles ≡ 0)) where
-    refused_equal : (old : List Cycle) → length old ≡ room → outcome (answer_of r.planning) (lends (written r old)) ≡ planning a (lends old)
-    unfolding planning filled take
-    refused_equal old h =
-        ap₂ (λ (x : Answer Plan) (k : ℕ). outcome x (lends (filled (take k r.records) old))) er.0 er.1
-        ∙ sym (unless_fault _ _ _ _ _ _ (faulty_fault 0 found (faults_are old h) why g))
-
-    pub call_refused : PlansByValue a lends lends room r
-    call_refused =
-        record {
-          held = omega (arith, er.1);
-          fits = omega (arith, er.1);
-          plans = λ old h. planning_is_right n f M W s (lends old) _ (refused_equal old h);
-        }
+  -- a refusal leaves everything as it was
+  pub call_refused : (why : Refusal) → found ≡ Err why → RefusesByValue a lends lends room why
+  unfolding planning
+  call_refused why g old h =
+      planning_is_right n f M W s (lends old) _ (sym (unless_fault _ _ _ _ _ _ (faulty_fault 0 found (faults_are old h) why g)))
 
   -- a plan is made
-  module _ (g : found ≡ Sound) where
+  module _ (g : found ≡ (Ok tt)) where
     sound : (old : List Cycle) → length old ≡ room → plan_fault a (lengths_of (lends old)) ≡ none
     sound old h = sound_none 0 found (faults_are old h) g
 
@@ -84,10 +72,10 @@ module _ (n f : ℕ) (M W s weights choices donors recipients : List ℕ) (room 
         }
 
     module _ (r : Work) (left : List Cycle → Lent) (er : Makes a lends left r) where
-      made_equal : (old : List Cycle) → length old ≡ room → outcome (answer_of r.planning) (left (written r old)) ≡ planning a (lends old)
+      made_equal : (old : List Cycle) → length old ≡ room → outcome (finished (plan_in r.plan)) (left (written r old)) ≡ planning a (lends old)
       unfolding planning
       made_equal old h =
-          ap₂ (λ (x : Answer Plan) (t : Lent). outcome x t) er.made (er.leaves old)
+          ap₂ (λ (x : Plan) (t : Lent). outcome (finished x) t) er.made (er.leaves old)
           ∙ sym (unless_none _ _ _ _ (sound old h))
 
       pub call_made : PlansByValue a lends left room r

@@ -8,7 +8,6 @@ use lib.Seq.{length-take-le, take_at}
 use Rattle.laws.specs.Lent.{filled}
 use Rattle.laws.proofs.Below.{length-table}
 use Rattle.laws.proofs.Lent.{take-filled}
-use Rattle.refusal.specs.Answer.{finished}
 use Rattle.cycle.specs.declared.Cycle.{Cycle}
 use Rattle.greedy.specs.Tally as Tallies
 use Rattle.greedy.specs.Rounds.{Left, left}
@@ -29,9 +28,8 @@ use Rattle.resolution.specs.Records.{given_in, received_in, cycles_of, no_record
 use Rattle.resolution.specs.Preconditions.{Resolving}
 use Rattle.resolution.specs.declared.Resolved.{Resolved}
 use Rattle.resolution.proofs.Partnered.{given_all, received_all}
-use Rattle.planner.specs.Answers.{answer_of}
+use Rattle.planner.specs.Answers.{plan_in}
 use Rattle.planner.specs.Preconditions.{Stepping, Checked}
-use Rattle.planner.specs.declared.Planning.TheVariants.{Made}
 
 abbrev q : ℕ → ℕ → List ℕ → List ℕ → List ℕ → Input
 q n f M W s = input_of (request n f M W s)
@@ -123,9 +121,9 @@ module _ (n f : ℕ) (M W s weights choices donors recipients : List ℕ) (asked
       plans : {a a' b b' : ℕ} {c c' : Tallies.Tally} → a ≡ a' → b ≡ b' → c ≡ c' → plan a b c ≡ plan a' b' c'
       plans a b c = cc
 
-      pub plan_is : (v : Counts) → tally_of v ≡ counted u → answer_of (Made (record { weight = found.weight; cycles = found.cycles; tally = v })) ≡ finished (plan_from (q n f M W s))
-      unfolding plan_from answer_of
-      plan_is v ev = ap finished (plans (ap (λ (x : Resolved). x.weight) found_is) number_is (ev ∙ ap (λ (x : Left). x.tally) e))
+      pub plan_is : (v : Counts) → tally_of v ≡ counted u → plan_in (record { weight = found.weight; cycles = found.cycles; tally = v }) ≡ plan_from (q n f M W s)
+      unfolding plan_from
+      plan_is v ev = plans (ap (λ (x : Resolved). x.weight) found_is) number_is (ev ∙ ap (λ (x : Left). x.tally) e)
 
       pub cycles_few : found.cycles ≤ n / 2
       cycles_few = omega (arith, number_is, planned_few n f (entry M n) (entry W n) s)

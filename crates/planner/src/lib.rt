@@ -1,9 +1,8 @@
 // The planning call.
 #![tactic(auto)]
 
-ghost use Rattle.std.specs.Prelude.{◌≡◌};
-ghost use Rattle.refusal.specs.Answer.{refused, outcome};
-ghost use Rattle.refusal.specs.Number.{number_of};
+ghost use Rattle.std.specs.Prelude.{◌≡◌, MatchResult};
+ghost use Rattle.refusal.specs.Answer.{outcome};
 ghost use Rattle.greedy.specs.Rounds.{left};
 ghost use Rattle.exchange.specs.Input.{input_of, request};
 ghost use Rattle.exchange.specs.Planning.{lent, left_by};
@@ -12,11 +11,11 @@ ghost use Rattle.exchange.specs.Promises.{PlansRightly};
 ghost use Rattle.gates.specs.Counting.{counted};
 ghost use Rattle.planner.specs.Answers.{answer_of};
 ghost use Rattle.planner.specs.Preconditions.{Stepping, Checked};
-ghost use Rattle.planner.specs.ByValue.{Makes, PlansByValue};
+ghost use Rattle.planner.specs.ByValue.{Makes, PlansByValue, RefusesByValue};
 
 use cycle::Cycle;
 use gates::{Counts, Tally};
-use refusal::{Refusal, Verdict};
+use refusal::Refusal;
 
 // "The result carries the plan's weight, number of cycles and tally."
 #[derive(Clone, Copy)]
@@ -26,17 +25,10 @@ pub struct Planned {
     pub tally: Counts,
 }
 
-#[derive(Clone, Copy)]
-pub enum Planning {
-    Made(Planned),
-    Refused(Refusal),
-}
-
-// What planning gives, with its records by value: the first `cycles` of them.
+// A plan, with its records by value: the first of them, as many as it has cycles.
 #[derive(Clone, Copy)]
 struct Work {
-    planning: Planning,
-    cycles: usize,
+    plan: Planned,
     records: [Cycle; 100],
 }
 
@@ -98,36 +90,13 @@ fn make(
         &mut donors[..n],
         &mut recipients[..n],
     );
-    let cycles = resolved.cycles;
-    let records = resolved.records;
-    let counts = gates::counts_of(tally);
     let plan = Planned {
         weight: resolved.weight as u64,
-        cycles: cycles,
-        tally: counts,
+        cycles: resolved.cycles,
+        tally: gates::counts_of(tally),
     };
-    Work {
-        planning: Planning::Made(plan),
-        cycles: cycles,
-        records: records,
-    }
-}
-
-// A refusal, and no record.
-fn turned_back(why: Refusal) -> Work
-    ensures { (answer_of result.planning ≡ refused (number_of why) 0) × (result.cycles ≡ 0) }
-{
-    let empty = Cycle {
-        first: 0,
-        second: 0,
-        third: 0,
-    };
-    let records = [empty; 100];
-    Work {
-        planning: Planning::Refused(why),
-        cycles: 0,
-        records: records,
-    }
+    let records = resolved.records;
+    Work { plan, records }
 }
 
 // Plans the pool of n pairs whose tables are m and w, with the floor and the shuffle, for a caller that has room for so many records.
@@ -142,13 +111,13 @@ fn plan_by_value(
     donors: &mut [u16],
     recipients: &mut [u16],
     room: usize,
-) -> Work
+) -> Result<Work, Refusal>
     ensures { let a = request n floor m.now w.now shuffle.now in
         let old = lent weights.old choices.old donors.old recipients.old in
         let new = lent weights.new choices.new donors.new recipients.new in
-        PlansByValue a old new room result }
+        MatchResult result (PlansByValue a old new room) (RefusesByValue a old new room) }
 {
-    match validation::judge(
+    validation::judge(
         n,
         floor,
         m,
@@ -159,12 +128,10 @@ fn plan_by_value(
         donors.len(),
         recipients.len(),
         room,
-    ) {
-        Verdict::Faulty(why) => turned_back(why),
-        Verdict::Sound => make(
-            n, floor, m, w, shuffle, weights, choices, donors, recipients,
-        ),
-    }
+    )?;
+    Ok(make(
+        n, floor, m, w, shuffle, weights, choices, donors, recipients,
+    ))
 }
 
 // Plans the pool of n pairs whose tables are m and w, with the floor and the shuffle; "the chosen cycles stand as records in a table lent by the
@@ -180,7 +147,7 @@ pub fn plan(
     donors: &mut [u16],
     recipients: &mut [u16],
     records: &mut [Cycle],
-) -> Planning
+) -> Result<Planned, Refusal>
     ensures { let a = request n floor m.now w.now shuffle.now in
         let t = lent_plan weights choices donors recipients records in
         PlansRightly a t.entry (outcome (answer_of result) t.exit) }
@@ -188,7 +155,7 @@ pub fn plan(
     let room = records.len();
     let work = plan_by_value(
         n, floor, m, w, shuffle, weights, choices, donors, recipients, room,
-    );
-    records::write(records, work.records, work.cycles);
-    work.planning
+    )?;
+    records::write(records, work.records, work.plan.cycles);
+    Ok(work.plan)
 }

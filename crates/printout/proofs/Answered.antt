@@ -9,12 +9,12 @@ use lib.ListN.{length}
 use Rattle.laws.specs.Lent.{filled}
 use Rattle.laws.proofs.Lent.{stored-filled}
 use Rattle.refusal.specs.Fault.{Fault, none, fault}
-use Rattle.refusal.specs.Answer.{Answer, finished, refused, Outcome, outcome, unless}
+use Rattle.refusal.specs.Answer.{Answer, finished, Outcome, outcome, unless}
 use Rattle.refusal.specs.Number.{number_of, fault_at}
 use Rattle.refusal.specs.declared.Refusal.{Refusal}
 use Rattle.refusal.specs.declared.Refusal.TheVariants.{TooShort}
-use Rattle.refusal.specs.declared.Verdict.{Verdict}
-use Rattle.refusal.specs.declared.Verdict.TheVariants.{Sound, Faulty}
+use Rattle.std.specs.Prelude.{Result, Ok, Err}
+use Rattle.std.specs.Result.{IsOk}
 use Rattle.refusal.proofs.Faults.{refuse_none, none_refuse, fault_refuse, then_none, none_then, fault_then, by_refuse, by_then, sound_none, faulty_fault, unless_none, unless_fault, finished_none, refused_fault}
 use Rattle.printout.specs.Printed.{PrintedPlan, plan_text, refusal_text}
 use Rattle.pool.specs.Faults.{room_fault}
@@ -23,8 +23,6 @@ use Rattle.printout.specs.Answers.{answer_of}
 use Rattle.text.specs.Put.{Put}
 use Rattle.partners.specs.Preconditions.{PlanTablesHold}
 use Rattle.printout.specs.Promises.{PlanTyped, Prints, PrintsPlan, PrintsRefused, PrintsRefusal}
-use Rattle.printout.specs.declared.Printing.{Printing}
-use Rattle.printout.specs.declared.Printing.TheVariants.{Length, Refused}
 use Rattle.printout.proofs.Promised.{plan_fits, refused_fits, refusal_fits}
 
 -- the number and the place of every refusal of printing
@@ -51,23 +49,23 @@ module _ (room : ℕ) (text : List ℕ) where
   nine = by_refuse Nine 9 0 _ (λ _. (refl, refl))
 
 -- what is put from the buffer's start fills it
-put_filled : {text old new : List ℕ} {end : ℕ} → Put 0 text old new end → outcome (answer_of (Length end)) new ≡ outcome (finished (length text)) (filled text old)
+put_filled : {text old new : List ℕ} {end : ℕ} → Put 0 text old new end → outcome (answer_of (Ok end)) new ≡ outcome (finished (length text)) (filled text old)
 unfolding answer_of
 put_filled {text} {old} p = ap₂ (λ (k : ℕ) (b : List ℕ). outcome (finished k) b) (p.ends ∙ zero-add (length text)) (p.holds ∙ stored-filled text old)
 
 -- ## A plan
 
 module _ (room : ℕ) (p : PrintedPlan) where
-  pub judged_ids : length p.ids < p.pairs → fault_at 0 (Faulty TooShort) ≡ print_fault room p
+  pub judged_ids : length p.ids < p.pairs → fault_at 0 (Err TooShort) ≡ print_fault room p
   unfolding print_fault room_fault fault_at
   judged_ids l = sym (fault_then _ _ (fault_refuse 9 0 _ (lt-ltb _ _ l)))
 
-  pub judged_donors : p.pairs ≤ length p.ids → length p.donors < p.pairs → fault_at 0 (Faulty TooShort) ≡ print_fault room p
+  pub judged_donors : p.pairs ≤ length p.ids → length p.donors < p.pairs → fault_at 0 (Err TooShort) ≡ print_fault room p
   unfolding print_fault room_fault fault_at
   judged_donors h l = sym (none_then _ _ (none_refuse 9 0 _ (le-ltb _ _ h)) ∙ fault_then _ _ (fault_refuse 9 0 _ (lt-ltb _ _ l)))
 
   pub judged_recipients : p.pairs ≤ length p.ids → p.pairs ≤ length p.donors → length p.recipients < p.pairs
-      → fault_at 0 (Faulty TooShort) ≡ print_fault room p
+      → fault_at 0 (Err TooShort) ≡ print_fault room p
   unfolding print_fault room_fault fault_at
   judged_recipients h i l =
       sym
@@ -83,11 +81,11 @@ module _ (room : ℕ) (p : PrintedPlan) where
         ∙ none_then _ _ (none_refuse 9 0 _ (le-ltb _ _ hold.donors))
         ∙ none_then _ _ (none_refuse 9 0 _ (le-ltb _ _ hold.recipients))
 
-    pub judged_fits : length (plan_text p) ≤ room → fault_at 0 Sound ≡ print_fault room p
+    pub judged_fits : length (plan_text p) ≤ room → fault_at 0 (Ok tt) ≡ print_fault room p
     unfolding fault_at
     judged_fits l = sym (tables_passed ∙ room_none room (plan_text p) l)
 
-    pub judged_long : room < length (plan_text p) → fault_at 0 (Faulty TooShort) ≡ print_fault room p
+    pub judged_long : room < length (plan_text p) → fault_at 0 (Err TooShort) ≡ print_fault room p
     unfolding fault_at
     judged_long l = sym (tables_passed ∙ room_fault_lem room (plan_text p) l)
 
@@ -114,28 +112,28 @@ module _ (room : ℕ) (p : PrintedPlan) where
       by_then Nine _ _ (by_refuse Nine 9 0 _ (λ _. (refl, refl)))
       (λ _. by_then Nine _ _ (by_refuse Nine 9 0 _ (λ _. (refl, refl))) (λ _. nine room (plan_text p))))
 
-module _ (p : PrintedPlan) (out : List ℕ) (found : Verdict) (e : fault_at 0 found ≡ print_fault (length out) p) where
-  pub answered_fault : (why : Refusal) → found ≡ Faulty why → outcome (answer_of (Refused why)) out ≡ printing_plan p out
+module _ (p : PrintedPlan) (out : List ℕ) (found : Result Unit Refusal) (e : fault_at 0 found ≡ print_fault (length out) p) where
+  pub answered_fault : (why : Refusal) → found ≡ Err why → outcome (answer_of (Err why)) out ≡ printing_plan p out
   unfolding answer_of printing_plan
   answered_fault why f = sym (unless_fault _ _ _ _ (number_of why) 0 (faulty_fault 0 found e why f))
 
-  module _ (f : found ≡ Sound) where
+  module _ (f : found ≡ (Ok tt)) where
     pub answered_passed : PlanTablesHold p.pairs p.ids p.donors p.recipients × (length (plan_text p) ≤ length out)
     answered_passed = passed (length out) p (sound_none 0 found e f)
 
-    pub answered_printed : {new : List ℕ} {end : ℕ} → Put 0 (plan_text p) out new end → outcome (answer_of (Length end)) new ≡ printing_plan p out
+    pub answered_printed : {new : List ℕ} {end : ℕ} → Put 0 (plan_text p) out new end → outcome (answer_of (Ok end)) new ≡ printing_plan p out
     unfolding printing_plan
     answered_printed w = put_filled w ∙ sym (unless_none _ _ _ _ (sound_none 0 found e f))
 
 -- ## A refusal
 
 module _ (number place : ℕ) (out : List ℕ) where
-  pub refusal_short : length out < length (refusal_text number place) → outcome (answer_of (Refused TooShort)) out ≡ printing_refusal number place out
+  pub refusal_short : length out < length (refusal_text number place) → outcome (answer_of (Err TooShort)) out ≡ printing_refusal number place out
   unfolding answer_of printing_refusal
   refusal_short l = sym (unless_fault _ _ _ _ 9 0 (room_fault_lem (length out) (refusal_text number place) l))
 
   pub refusal_put : {new : List ℕ} {end : ℕ} → length (refusal_text number place) ≤ length out → Put 0 (refusal_text number place) out new end
-      → outcome (answer_of (Length end)) new ≡ printing_refusal number place out
+      → outcome (answer_of (Ok end)) new ≡ printing_refusal number place out
   unfolding printing_refusal
   refusal_put l w = put_filled w ∙ sym (unless_none _ _ _ _ (room_none (length out) (refusal_text number place) l))
 
@@ -184,17 +182,17 @@ module _ (number place : ℕ) (out : List ℕ) {new : List ℕ} {a : Answer ℕ}
   pub prints_refusal : number < 256 → PrintsRefusal number place out (outcome a new)
   prints_refusal h = refusal_by _ (λ s. omega (arith, refusal_fits number place h l))
 
--- ## For a caller, by the answer's cases
+-- ## For a caller
 
 -- a length is what the promise says of one
-pub length_within : {room : ℕ} (r : Printing) → ((n : ℕ) → answer_of r ≡ finished n → n ≤ room) → (n : ℕ) → r ≡ Length n → n ≤ room
+pub length_within : {room : ℕ} (r : Result ℕ Refusal) → ((n : ℕ) → answer_of r ≡ finished n → n ≤ room) → (n : ℕ) → r ≡ Ok n → n ≤ room
 unfolding answer_of
 length_within r w n e = w n (rw e)
 
 -- what is surely printed is not refused
-pub never_refused : {A : Type 0} {k : ℕ} (r : Printing) → answer_of r ≡ finished k → (why : Refusal) → r ≡ Refused why → A
+pub surely_printed : {k : ℕ} (r : Result ℕ Refusal) → answer_of r ≡ finished k → IsOk r
 unfolding answer_of
-never_refused {A} {k} r f why e =
-    let g : refused (number_of why) 0 ≡ finished k = rw e at f in
+surely_printed (Ok n) f = refl
+surely_printed (Err why) f =
     let z : ◌≡◌ {A = ℕ} 0 1 = cc in
     absurd (omega arith)

@@ -13,14 +13,7 @@ ghost use Rattle.printout.specs.Answers.{answer_of};
 ghost use Rattle.printout.specs.Lent.{printed_now, printed};
 ghost use Rattle.printout.specs.Promises.{PrintsPlan, PrintsRefused, PrintsRefusal};
 
-use refusal::{Refusal, Verdict};
-
-// What printing answers: the text's length, or the refusal, whose place is 0.
-#[derive(Clone, Copy)]
-pub enum Printing {
-    Length(usize),
-    Refused(Refusal),
-}
+use refusal::Refusal;
 
 // Puts a plan.
 fn put_plan(
@@ -60,31 +53,31 @@ fn judge(
     comparisons: u64,
     products: u64,
     rounds: u64,
-) -> Verdict
+) -> Result<(), Refusal>
     ensures { let p = printed n cycles weight ids donors recipients comparisons products rounds in
         fault_at 0 result ≡ print_fault room p }
 {
     if ids.len() < n {
-        return Verdict::Faulty(Refusal::TooShort);
+        return Err(Refusal::TooShort);
     }
     if donors.len() < n {
-        return Verdict::Faulty(Refusal::TooShort);
+        return Err(Refusal::TooShort);
     }
     if recipients.len() < n {
-        return Verdict::Faulty(Refusal::TooShort);
+        return Err(Refusal::TooShort);
     }
     let head = [n as u64, cycles as u64, weight];
     let counts = [comparisons, products, rounds];
     let used = text::line_length(b"PLAN", &head) + text::line_length(b"COUNTS", &counts);
     if partners::pairs_fit(room, used, n, ids, donors, recipients) {
-        Verdict::Sound
+        Ok(())
     } else {
-        Verdict::Faulty(Refusal::TooShort)
+        Err(Refusal::TooShort)
     }
 }
 
 // Prints a plan of n pairs into the lent buffer: its numbers, a line for each pair, and its counts. A donor or recipient that is no pair's
-// number is printed as none.
+// number is printed as none. The answer is the text's length.
 pub fn print_plan(
     n: usize,
     cycles: usize,
@@ -96,13 +89,13 @@ pub fn print_plan(
     products: u64,
     rounds: u64,
     out: &mut [u8],
-) -> Printing
+) -> Result<usize, Refusal>
     ensures equals { let p = printed n cycles weight ids donors recipients comparisons products rounds in
         outcome (answer_of result) out.new ≡ printing_plan p out.old }
     ensures rightly { let p = printed n cycles weight ids donors recipients comparisons products rounds in
         PrintsPlan p out.old (outcome (answer_of result) out.new) }
 {
-    match judge(
+    judge(
         out.len(),
         n,
         cycles,
@@ -113,39 +106,37 @@ pub fn print_plan(
         comparisons,
         products,
         rounds,
-    ) {
-        Verdict::Faulty(why) => Printing::Refused(why),
-        Verdict::Sound => Printing::Length(put_plan(
-            out,
-            n,
-            cycles,
-            weight,
-            ids,
-            donors,
-            recipients,
-            comparisons,
-            products,
-            rounds,
-        )),
-    }
+    )?;
+    Ok(put_plan(
+        out,
+        n,
+        cycles,
+        weight,
+        ids,
+        donors,
+        recipients,
+        comparisons,
+        products,
+        rounds,
+    ))
 }
 
 // Prints `REFUSED`, any number and a place into the lent buffer.
-pub fn print_refused(number: u32, place: usize, out: &mut [u8]) -> Printing
+pub fn print_refused(number: u32, place: usize, out: &mut [u8]) -> Result<usize, Refusal>
     ensures equals { outcome (answer_of result) out.new ≡ printing_refusal number place out.old }
     ensures rightly { PrintsRefused number place out.old (outcome (answer_of result) out.new) }
 {
     let numbers = [number as u64, place as u64];
     if out.len() < text::line_length(b"REFUSED", &numbers) {
-        return Printing::Refused(Refusal::TooShort);
+        return Err(Refusal::TooShort);
     }
-    Printing::Length(text::put_line(out, 0, b"REFUSED", &numbers))
+    Ok(text::put_line(out, 0, b"REFUSED", &numbers))
 }
 
 // Prints a refusal and its place into the lent buffer.
-pub fn print_refusal(why: Refusal, place: usize, out: &mut [u8]) -> Printing
+pub fn print_refusal(why: Refusal, place: usize, out: &mut [u8]) -> Result<usize, Refusal>
     ensures equals { outcome (answer_of result) out.new ≡ printing_refusal (number_of why) place out.old }
     ensures rightly { PrintsRefusal (number_of why) place out.old (outcome (answer_of result) out.new) }
 {
-    print_refused(refusal::number(why) as u32, place, out)
+    print_refused(why.number() as u32, place, out)
 }

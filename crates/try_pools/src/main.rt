@@ -9,7 +9,7 @@ ghost use Rattle.exchange.specs.Planning.{lent, planning};
 ghost use Rattle.planner.specs.Answers.{answer_of};
 
 use cycle::Cycle;
-use planner::Planning;
+use refusal::Refusal;
 
 fn print(text: &[u8]) {
     io::write_all(1, text);
@@ -76,9 +76,9 @@ fn print_records(name: &[u8], records: [Cycle; 101], count: usize) {
     }
 }
 
-fn print_answer(answer: Planning) {
+fn print_answer(answer: Result<planner::Planned, Refusal>) {
     match answer {
-        Planning::Made(plan) => {
+        Ok(plan) => {
             print(b" weight");
             print_number(plan.weight);
             print(b" cycles");
@@ -88,9 +88,9 @@ fn print_answer(answer: Planning) {
             print_number(plan.tally.products);
             print_number(plan.tally.rounds);
         }
-        Planning::Refused(why) => {
+        Err(why) => {
             print(b" refused");
-            print_number(refusal::number(why) as u64);
+            print_number(why.number() as u64);
         }
     }
 }
@@ -98,7 +98,7 @@ fn print_answer(answer: Planning) {
 // What planning answered, and the table of records that it was lent.
 #[derive(Clone, Copy)]
 struct Planned {
-    answer: Planning,
+    answer: Result<planner::Planned, Refusal>,
     records: [Cycle; 101],
 }
 
@@ -113,7 +113,7 @@ fn fresh() -> [Cycle; 101]
     }; 101]
 }
 
-fn together(answer: Planning, records: [Cycle; 101]) -> Planned
+fn together(answer: Result<planner::Planned, Refusal>, records: [Cycle; 101]) -> Planned
     ensures { (result.answer ≡ answer) × (result.records ≡ records) }
 {
     Planned {

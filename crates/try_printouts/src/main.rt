@@ -4,7 +4,6 @@
 
 ghost use Rattle.std.specs.Prelude.{◌≤◌};
 
-use printout::Printing;
 use refusal::Refusal;
 
 const GREATEST: u64 = 18446744073709551615;
@@ -29,19 +28,19 @@ fn show_bytes(out: &[u8], n: usize) {
     print(b"\n");
 }
 
-fn show(name: &[u8], answer: Printing, out: &[u8; 300]) {
+fn show(name: &[u8], answer: Result<usize, Refusal>, out: &[u8; 300]) {
     print(b"== ");
     print(name);
     match answer {
-        Printing::Length(n) => {
+        Ok(n) => {
             print(b": ");
             io::print_decimal(1, n as u64);
             print(b" bytes\n");
             show_bytes(out, n);
         }
-        Printing::Refused(why) => {
+        Err(why) => {
             print(b": refused ");
-            io::print_decimal(1, refusal::number(why) as u64);
+            io::print_decimal(1, why.number() as u64);
             print(b"\n");
             show_bytes(out, 0);
         }
@@ -141,7 +140,7 @@ fn print_example() {
     let ids = [11u32, 12];
     let each_other = [1u16, 0];
     let mut out = [b'#'; 204];
-    match printout::print_plan(
+    let length = printout::print_plan(
         2,
         1,
         2900,
@@ -152,10 +151,9 @@ fn print_example() {
         6,
         1,
         &mut out,
-    ) {
-        Printing::Length(n) => print(&out[0..n]),
-        Printing::Refused(_) => check::expect(false),
-    }
+    )
+    .unwrap();
+    print(&out[..length]);
 }
 
 fn main() {

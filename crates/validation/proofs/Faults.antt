@@ -10,8 +10,7 @@ use Rattle.laws.specs.Below.{either, any_below}
 use Rattle.refusal.specs.Fault.{Fault, none, fault, refuse, ◌then◌}
 use Rattle.refusal.specs.Number.{fault_at}
 use Rattle.refusal.specs.declared.Refusal.{Refusal}
-use Rattle.refusal.specs.declared.Verdict.{Verdict}
-use Rattle.refusal.specs.declared.Verdict.TheVariants.{Sound, Faulty}
+use Rattle.std.specs.Prelude.{Result, Ok, Err}
 use Rattle.refusal.proofs.Faults.{refuse_none, none_refuse, fault_refuse, then_none, then_assoc, none_then, fault_then, sound_none, faulty_fault}
 use Rattle.pool.specs.Faults.{shuffle_fault, room_fault}
 use Rattle.exchange.specs.Subsets.{entry}
@@ -88,7 +87,7 @@ module _ (n : ℕ) (M W : List ℕ) where
 -- ## The checks, one after another: `a`, `b` and `c` are what each found
 
 -- of the tables that are read, by their lengths
-module _ (n f m w s : ℕ) (a : Verdict) (ea : fault_at 0 a ≡ (refuse 4 0 (ltb 200 n) then refuse 13 0 (ltb most_floor f) then short_to_read n m w s)) (ga : a ≡ Sound) where
+module _ (n f m w s : ℕ) (a : Result Unit Refusal) (ea : fault_at 0 a ≡ (refuse 4 0 (ltb 200 n) then refuse 13 0 (ltb most_floor f) then short_to_read n m w s)) (ga : a ≡ (Ok tt)) where
   read : (refuse 4 0 (ltb 200 n) then refuse 13 0 (ltb most_floor f) then short_to_read n m w s) ≡ none
   read = sound_none 0 a ea ga
 
@@ -118,7 +117,7 @@ to_read r =
     then refuse 13 0 (ltb most_floor r.floor)
     then short_to_read r.scope.pairs (length r.compatibilities) (length r.weights) (length r.shuffle)
 
-module _ (r : Request) (z : Lengths) (a : Verdict) (ea : fault_at 0 a ≡ to_read r) where
+module _ (r : Request) (z : Lengths) (a : Result Unit Refusal) (ea : fault_at 0 a ≡ to_read r) where
   abbrev later : Fault
   later =
       shuffle_fault 0 r.scope.pairs (λ j. get_or r.shuffle j 0)
@@ -129,33 +128,33 @@ module _ (r : Request) (z : Lengths) (a : Verdict) (ea : fault_at 0 a ≡ to_rea
   unfolding plan_fault
   in_two = ap (λ (f : Fault). refuse 4 0 (ltb 200 r.scope.pairs) then f) (sym (then_assoc _ _ _)) ∙ sym (then_assoc _ _ _)
 
-  pub judge_read : (why : Refusal) → a ≡ Faulty why → fault_at 0 (Faulty why) ≡ plan_fault r z
+  pub judge_read : (why : Refusal) → a ≡ Err why → fault_at 0 (Err why) ≡ plan_fault r z
   unfolding fault_at
   judge_read why g = sym (in_two ∙ fault_then _ _ (faulty_fault 0 a ea why g))
 
-  module _ (ga : a ≡ Sound) (b : Verdict) (eb : fault_at 0 b ≡ short_to_fill r.scope z) where
+  module _ (ga : a ≡ (Ok tt)) (b : Result Unit Refusal) (eb : fault_at 0 b ≡ short_to_fill r.scope z) where
     after_read : plan_fault r z ≡ (short_to_fill r.scope z then later)
     after_read = in_two ∙ none_then _ _ (sound_none 0 a ea ga)
 
-    pub judge_fill : (why : Refusal) → b ≡ Faulty why → fault_at 0 (Faulty why) ≡ plan_fault r z
+    pub judge_fill : (why : Refusal) → b ≡ Err why → fault_at 0 (Err why) ≡ plan_fault r z
     unfolding fault_at
     judge_fill why g = sym (after_read ∙ fault_then _ _ (faulty_fault 0 b eb why g))
 
-    module _ (gb : b ≡ Sound) (c : Verdict) (ec : fault_at 0 c ≡ shuffle_fault 0 r.scope.pairs (λ j. get_or r.shuffle j 0)) where
+    module _ (gb : b ≡ (Ok tt)) (c : Result Unit Refusal) (ec : fault_at 0 c ≡ shuffle_fault 0 r.scope.pairs (λ j. get_or r.shuffle j 0)) where
       after_fill : plan_fault r z ≡ later
       after_fill = after_read ∙ none_then _ _ (sound_none 0 b eb gb)
 
-      pub judge_shuffle : (why : Refusal) → c ≡ Faulty why → fault_at 0 (Faulty why) ≡ plan_fault r z
+      pub judge_shuffle : (why : Refusal) → c ≡ Err why → fault_at 0 (Err why) ≡ plan_fault r z
       unfolding fault_at
       judge_shuffle why g = sym (after_fill ∙ fault_then _ _ (faulty_fault 0 c ec why g))
 
-      module _ (gc : c ≡ Sound) (d : Verdict) (ed : fault_at 0 d ≡ table_fault r.scope.pairs r.compatibilities) where
+      module _ (gc : c ≡ (Ok tt)) (d : Result Unit Refusal) (ed : fault_at 0 d ≡ table_fault r.scope.pairs r.compatibilities) where
         after_shuffle : plan_fault r z ≡ (table_fault r.scope.pairs r.compatibilities then edge_fault r.scope.pairs r.compatibilities r.weights)
         after_shuffle = after_fill ∙ none_then _ _ (sound_none 0 c ec gc)
 
-        pub judge_table : (why : Refusal) → d ≡ Faulty why → fault_at 0 (Faulty why) ≡ plan_fault r z
+        pub judge_table : (why : Refusal) → d ≡ Err why → fault_at 0 (Err why) ≡ plan_fault r z
         unfolding fault_at
         judge_table why g = sym (after_shuffle ∙ fault_then _ _ (faulty_fault 0 d ed why g))
 
-        pub judge_edges : d ≡ Sound → (e : Verdict) → fault_at 0 e ≡ edge_fault r.scope.pairs r.compatibilities r.weights → fault_at 0 e ≡ plan_fault r z
+        pub judge_edges : d ≡ (Ok tt) → (e : Result Unit Refusal) → fault_at 0 e ≡ edge_fault r.scope.pairs r.compatibilities r.weights → fault_at 0 e ≡ plan_fault r z
         judge_edges gd e ee = ee ∙ sym (after_shuffle ∙ none_then _ _ (sound_none 0 d ed gd))

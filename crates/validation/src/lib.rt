@@ -9,31 +9,31 @@ ghost use Rattle.exchange.specs.Subsets.{up_to_three, entry};
 ghost use Rattle.exchange.specs.Input.{request};
 ghost use Rattle.exchange.specs.Planning.{lengths, most_floor, short_to_read, short_to_fill, table_fault, weightless, edge_fault, plan_fault};
 
-use refusal::{Refusal, Verdict};
+use refusal::Refusal;
 
 // "Planning takes a floor, 0 to 200,000."
 const MOST_FLOOR: u32 = 200000;
 
 // 4, then 13, then 9 of the tables that are read, by their lengths.
-fn readable(n: usize, floor: u32, m: usize, w: usize, shuffle: usize) -> Verdict
+fn readable(n: usize, floor: u32, m: usize, w: usize, shuffle: usize) -> Result<(), Refusal>
     ensures { fault_at 0 result ≡ (refuse 4 0 (ltb 200 n) then refuse 13 0 (ltb most_floor floor) then short_to_read n m w shuffle) }
 {
     if n > 200 {
-        return Verdict::Faulty(Refusal::TooManyPairs);
+        return Err(Refusal::TooManyPairs);
     }
     if floor > MOST_FLOOR {
-        return Verdict::Faulty(Refusal::FloorTooHigh);
+        return Err(Refusal::FloorTooHigh);
     }
     if m < n * n {
-        return Verdict::Faulty(Refusal::TooShort);
+        return Err(Refusal::TooShort);
     }
     if w < n * n {
-        return Verdict::Faulty(Refusal::TooShort);
+        return Err(Refusal::TooShort);
     }
     if shuffle < n {
-        return Verdict::Faulty(Refusal::TooShort);
+        return Err(Refusal::TooShort);
     }
-    Verdict::Sound
+    Ok(())
 }
 
 // 9 of the tables that are to be filled, by their lengths; of the records, by how many there is room for.
@@ -44,26 +44,26 @@ fn fillable(
     donors: usize,
     recipients: usize,
     room: usize,
-) -> Verdict
+) -> Result<(), Refusal>
     requires { n ≤ 200 }
     ensures { fault_at 0 result ≡ short_to_fill (up_to_three n) (lengths weights choices donors recipients room) }
 {
     if weights < cursor::count(n) {
-        return Verdict::Faulty(Refusal::TooShort);
+        return Err(Refusal::TooShort);
     }
     if choices < n / 2 {
-        return Verdict::Faulty(Refusal::TooShort);
+        return Err(Refusal::TooShort);
     }
     if donors < n {
-        return Verdict::Faulty(Refusal::TooShort);
+        return Err(Refusal::TooShort);
     }
     if recipients < n {
-        return Verdict::Faulty(Refusal::TooShort);
+        return Err(Refusal::TooShort);
     }
     if room < n / 2 {
-        return Verdict::Faulty(Refusal::TooShort);
+        return Err(Refusal::TooShort);
     }
-    Verdict::Sound
+    Ok(())
 }
 
 // Is an entry of row i above 1?
@@ -84,14 +84,14 @@ fn faulty_row(n: usize, m: &[u8], i: usize) -> bool
 }
 
 // 10: an M entry above 1, or M(i, i) not 0.
-fn compatibility(n: usize, m: &[u8]) -> Verdict
+fn compatibility(n: usize, m: &[u8]) -> Result<(), Refusal>
     requires { (n ≤ 200) × (n * n ≤ length m.now) }
     ensures { fault_at 0 result ≡ table_fault n m.now }
 {
     if (0..n).any(|i| faulty_row(n, m, i)) {
-        return Verdict::Faulty(Refusal::NotCompatibility);
+        return Err(Refusal::NotCompatibility);
     }
-    Verdict::Sound
+    Ok(())
 }
 
 // Is M(i, j) 1 and W(i, j) 0? W is read where M is 1, and nowhere else.
@@ -114,14 +114,14 @@ fn weightless_row(n: usize, m: &[u8], w: &[u16], i: usize) -> bool
 }
 
 // 17: a present edge weighs 0.
-fn edges(n: usize, m: &[u8], w: &[u16]) -> Verdict
+fn edges(n: usize, m: &[u8], w: &[u16]) -> Result<(), Refusal>
     requires { (n ≤ 200) × (n * n ≤ length m.now) × (n * n ≤ length w.now) }
     ensures { fault_at 0 result ≡ edge_fault n m.now w.now }
 {
     if (0..n).any(|i| weightless_row(n, m, w, i)) {
-        return Verdict::Faulty(Refusal::WeightlessEdge);
+        return Err(Refusal::WeightlessEdge);
     }
-    Verdict::Sound
+    Ok(())
 }
 
 // "Planning checks 4, 9, 8, 10", with 13 "after 4" and 17 "after 10".
@@ -136,33 +136,13 @@ pub fn judge(
     donors: usize,
     recipients: usize,
     room: usize,
-) -> Verdict
+) -> Result<(), Refusal>
     ensures { let a = request n floor m.now w.now shuffle.now in
         fault_at 0 result ≡ plan_fault a (lengths weights choices donors recipients room) }
 {
-    match readable(n, floor, m.len(), w.len(), shuffle.len()) {
-        Verdict::Faulty(why) => {
-            return Verdict::Faulty(why);
-        }
-        Verdict::Sound => {}
-    }
-    match fillable(n, weights, choices, donors, recipients, room) {
-        Verdict::Faulty(why) => {
-            return Verdict::Faulty(why);
-        }
-        Verdict::Sound => {}
-    }
-    match checks::shuffle(shuffle, n) {
-        Verdict::Faulty(why) => {
-            return Verdict::Faulty(why);
-        }
-        Verdict::Sound => {}
-    }
-    match compatibility(n, m) {
-        Verdict::Faulty(why) => {
-            return Verdict::Faulty(why);
-        }
-        Verdict::Sound => {}
-    }
+    readable(n, floor, m.len(), w.len(), shuffle.len())?;
+    fillable(n, weights, choices, donors, recipients, room)?;
+    checks::shuffle(shuffle, n)?;
+    compatibility(n, m)?;
     edges(n, m, w)
 }

@@ -27,7 +27,7 @@ pub returns : goal.returns
 returns c =
     let r = c.resolve-resolved in
     record {
-      made = plan_is _ _ _ _ _ _ _ _ _ c.requires _ c.count-all.ensures _ _ _ c.steps-tally.ensures r.result _ _ r.ensures _ c.counts_of-counts.ensures;
+      made = plan_is _ _ _ _ _ _ _ _ _ c.requires _ c.count-all.ensures _ _ _ c.steps-tally.ensures r.result _ _ r.ensures _ c.counts_of.ensures;
       few = cycles_few _ _ _ _ _ _ _ _ _ c.requires _ c.count-all.ensures _ _ _ c.steps-tally.ensures r.result _ _ r.ensures;
       leaves = lent_is _ _ _ _ _ _ _ _ _ c.requires _ c.count-all.ensures _ _ _ c.steps-tally.ensures r.result _ _ r.ensures;
     }

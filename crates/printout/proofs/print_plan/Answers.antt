@@ -1,5 +1,6 @@
 -- `printout::print_plan` meets its contract: each answer is what the definition says, and so keeps the promise. Assumes nothing.
 use native.Mathlib.Omega.{arith}
+use Rattle.refusal.proofs.Faults.{handed_on}
 use Rattle.printout.specs.Printed.{PrintedPlan, printed_plan}
 use Rattle.printout.specs.Promises.{PlanTyped}
 use Rattle.printout.proofs.Answered.{answered_fault, answered_passed, answered_printed, prints_plan}
@@ -11,11 +12,11 @@ put_plan-requires c =
     printed_plan c.args.n c.args.cycles c.args.weight c.args.ids.now c.args.donors.now c.args.recipients.now c.args.comparisons
     c.args.products c.args.rounds
     in
-    let q = answered_passed p c.args.out.now c.judge.result c.judge.ensures c.in-Sound.is in
+    let q = answered_passed p c.args.out.now c.judge.result c.judge.ensures c.in_ok-judge.was in
     record { plan_tables_hold = q.0; p_in_bounds = q.1 }
 
-pub returns-in-Faulty : goal.returns-in-Faulty
-returns-in-Faulty c =
+pub returns-in_err-judge : goal.returns-in_err-judge
+returns-in_err-judge c =
     let p : PrintedPlan =
     printed_plan c.args.n c.args.cycles c.args.weight c.args.ids.now c.args.donors.now c.args.recipients.now c.args.comparisons
     c.args.products c.args.rounds
@@ -31,11 +32,11 @@ returns-in-Faulty c =
       rounds = c.ranges.rounds.fits;
     }
     in
-    let e = answered_fault p c.args.out.now c.judge.result c.judge.ensures _ c.in-Faulty.is in
-    record { equals = e; rightly = prints_plan p c.args.out.now typed e }
+    let e = answered_fault p c.args.out.now c.judge.result c.judge.ensures _ c.in_err-judge.was in
+    rw (handed_on _ _ c.from_residual.ensures) (record { equals = e; rightly = prints_plan p c.args.out.now typed e })
 
-pub returns-in-Sound : goal.returns-in-Sound
-returns-in-Sound c =
+pub returns : goal.returns
+returns c =
     let p : PrintedPlan =
     printed_plan c.args.n c.args.cycles c.args.weight c.args.ids.now c.args.donors.now c.args.recipients.now c.args.comparisons
     c.args.products c.args.rounds
@@ -51,5 +52,5 @@ returns-in-Sound c =
       rounds = c.ranges.rounds.fits;
     }
     in
-    let e = answered_printed p c.args.out.now c.judge.result c.judge.ensures c.in-Sound.is c.put_plan.ensures in
+    let e = answered_printed p c.args.out.now c.judge.result c.judge.ensures c.in_ok-judge.was c.put_plan.ensures in
     record { equals = e; rightly = prints_plan p c.args.out.now typed e }
