@@ -17,71 +17,70 @@ ghost use Rattle.live.specs.Lent.{lent_beginning};
 ghost use Rattle.live.specs.Promises.{StartsRightly};
 ghost use Rattle.keeping.specs.Preconditions.{HoldGroups};
 
-use live::Change;
 use points::Points;
-use refusal::{Refusal, Verdict};
+use refusal::Refusal;
 
 // The six, in document 01's order, into the first entries of a table.
+#[tactic(auto, unfolding(laws::specs::Lent::filled, live::specs::Calls::in_order))]
 fn put_points(given: Points, points: &mut [u16])
     requires { registry_points ≤ length points.old }
     ensures { points.new ≡ filled (in_order (named given)) points.old }
 {
-    points[0] = given.base;
-    points[1] = given.none;
-    points[2] = given.few;
-    points[3] = given.some;
-    points[4] = given.equal;
-    points[5] = given.young_to_senior;
+    points[..6].copy_from_slice(&[
+        given.base,
+        given.none,
+        given.few,
+        given.some,
+        given.equal,
+        given.young_to_senior,
+    ]);
 }
 
 // Starts a pool with no pairs, whatever the count was, and with these points.
-pub fn start(given: Points, points: &mut [u16], count: &mut usize) -> Change
+pub fn start(given: Points, points: &mut [u16], count: &mut usize) -> Result<(), Refusal>
     ensures equals { let b = lent_beginning count points in
         outcome (answer_of result) b.exit ≡ starting (named given) b.entry }
     ensures rightly { let b = lent_beginning count points in
         StartsRightly (named given) b.entry (outcome (answer_of result) b.exit) }
 {
-    match points::judge(given) {
-        Verdict::Faulty(why) => Change::Refused(why),
-        Verdict::Sound => {
-            if points.len() < 6 {
-                return Change::Refused(Refusal::TooShort);
-            }
-            put_points(given, points);
-            *count = 0;
-            Change::Done
-        }
+    points::judge(given)?;
+    if points.len() < 6 {
+        return Err(Refusal::TooShort);
     }
+    put_points(given, points);
+    *count = 0;
+    Ok(())
 }
 
 // 9: n rows of n don't fit M or W, which have so many entries.
-pub fn rows(n: usize, compatibilities: usize, weights: usize) -> Verdict
+pub fn rows(n: usize, compatibilities: usize, weights: usize) -> Result<(), Refusal>
     requires { n ≤ 200 }
     ensures { fault_at 0 result ≡ graph_fault n compatibilities weights }
 {
     let entries = n * n;
     if compatibilities < entries {
-        return Verdict::Faulty(Refusal::TooShort);
+        return Err(Refusal::TooShort);
     }
     if weights < entries {
-        return Verdict::Faulty(Refusal::TooShort);
+        return Err(Refusal::TooShort);
     }
-    Verdict::Sound
+    Ok(())
 }
 
 // 4 of the count, 9 of the tables for it and for the points. The shortest table with an entry for each pair has `space` entries, M and W have the next two.
-fn sizes(n: usize, space: usize, compatibilities: usize, weights: usize, points: &[u16]) -> Verdict
+fn sizes(
+    n: usize,
+    space: usize,
+    compatibilities: usize,
+    weights: usize,
+    points: &[u16],
+) -> Result<(), Refusal>
     ensures { fault_at 0 result ≡ sizes_fault n space compatibilities weights points.now }
 {
     if n > 200 {
-        return Verdict::Faulty(Refusal::TooManyPairs);
+        return Err(Refusal::TooManyPairs);
     }
-    match checks::tables(2, n, space, points.len()) {
-        Verdict::Faulty(why) => {
-            return Verdict::Faulty(why);
-        }
-        Verdict::Sound => {}
-    }
+    checks::tables(2, n, space, points.len())?;
     rows(n, compatibilities, weights)
 }
 
@@ -93,20 +92,13 @@ pub fn judge(
     weights: usize,
     suitable: &[u16],
     points: &[u16],
-) -> Verdict
+) -> Result<(), Refusal>
     requires { space ≤ length suitable.now }
     ensures { fault_at 0 result ≡ stored_fault n space compatibilities.now weights points.now suitable.now }
 {
-    match sizes(n, space, compatibilities.len(), weights, points) {
-        Verdict::Faulty(why) => {
-            return Verdict::Faulty(why);
-        }
-        Verdict::Sound => {}
-    }
-    match points::judge(points::own(points)) {
-        Verdict::Faulty(why) => Verdict::Faulty(why),
-        Verdict::Sound => suiting::judge(n, compatibilities, suitable),
-    }
+    sizes(n, space, compatibilities.len(), weights, points)?;
+    points::judge(points::own(points))?;
+    suiting::judge(n, compatibilities, suitable)
 }
 
 // 6 of the first n pairs.
@@ -116,40 +108,31 @@ pub fn groups(
     patient_blood: &[u8],
     donor_age: &[u8],
     patient_age: &[u8],
-) -> Verdict
+) -> Result<(), Refusal>
     requires { HoldGroups n donor_blood.now patient_blood.now donor_age.now patient_age.now }
     ensures { fault_at 0 result ≡ first_below n (λ i. group_fault 0 (item_in donor_blood.now i) (item_in patient_blood.now i)
         (item_in donor_age.now i) (item_in patient_age.now i)) }
 {
-    let mut i: usize = 0;
-    while i < n {
-        match checks::groups(
+    for i in 0..n {
+        checks::groups(
             donor_blood[i],
             patient_blood[i],
             donor_age[i],
             patient_age[i],
-        ) {
-            Verdict::Faulty(why) => {
-                return Verdict::Faulty(why);
-            }
-            Verdict::Sound => {}
-        }
-        i += 1;
+        )?;
     }
-    Verdict::Sound
+    Ok(())
 }
 
 // 7 among the first n ids.
-pub fn ids(n: usize, ids: &[u32]) -> Verdict
+pub fn ids(n: usize, ids: &[u32]) -> Result<(), Refusal>
     requires { n ≤ length ids.now }
     ensures { fault_at 0 result ≡ first_below n (id_fault 0 (item_in ids.now)) }
 {
-    let mut i: usize = 0;
-    while i < n {
+    for i in 0..n {
         if checks::among(ids, i, ids[i]) {
-            return Verdict::Faulty(Refusal::RepeatedId);
+            return Err(Refusal::RepeatedId);
         }
-        i += 1;
     }
-    Verdict::Sound
+    Ok(())
 }

@@ -1,14 +1,15 @@
 -- Document 01's number for each case of an answer, and a pair as the definitions have it. Assumes nothing.
+use Rattle.std.specs.Prelude.{Result, Ok, Err}
 use Rattle.refusal.specs.Answer.{Answer, finished, refused}
 use Rattle.refusal.specs.Number.{number_of}
 use Rattle.pool.specs.Pool.{Pair}
-use Rattle.live.specs.declared.Change.{Change}
-use Rattle.live.specs.declared.Change.TheVariants.{Done, Refused}
+use Rattle.refusal.specs.declared.Refusal.{Refusal}
 use Rattle.live.specs.declared.Pair.{Pair as Struct}
 
-unfoldable pub answer_of : Change → Answer (Unit {0})
-answer_of Done = finished tt
-answer_of (Refused why) = refused (number_of why) 0
+-- what each of the three calls answers: it is done, or the refusal
+unfoldable pub answer_of : Result Unit Refusal → Answer (Unit {0})
+answer_of (Ok _) = finished tt
+answer_of (Err why) = refused (number_of why) 0
 
 abbrev pub named : Struct → Pair
 named p =

@@ -1,8 +1,6 @@
 // A live pool (document 02, W-206 and W-207): what starting it, registering a pair and withdrawing one answer and leave, what is promised of these calls
-// and of every list of them, and examples. Here are a pair and an answer as the calls have them.
+// and of every list of them, and examples. Here is a pair as the calls have it.
 #![tactic(auto)]
-
-use refusal::Refusal;
 
 // A pair that is registered.
 #[repr(C)]
@@ -16,11 +14,4 @@ pub struct Pair {
     pub donor_antigens: u64,
     pub patient_antigens: u64,
     pub patient_antibodies: u64,
-}
-
-// What each of the three calls answers: it is done, or the refusal.
-#[derive(Clone, Copy)]
-pub enum Change {
-    Done,
-    Refused(Refusal),
 }

@@ -8,8 +8,7 @@ use Rattle.refusal.specs.Fault.{◌then◌}
 use Rattle.refusal.specs.Answer.{outcome}
 use Rattle.refusal.specs.Number.{number_of, fault_at}
 use Rattle.refusal.specs.declared.Refusal.{Refusal}
-use Rattle.refusal.specs.declared.Verdict.{Verdict}
-use Rattle.refusal.specs.declared.Verdict.TheVariants.{Sound, Faulty}
+use Rattle.std.specs.Prelude.{Result, Ok, Err}
 use Rattle.refusal.proofs.Faults.{sound_none, faulty_fault, unless_none, unless_fault}
 use Rattle.pool.specs.Pool.{Pair}
 use Rattle.pool.specs.Points.{Points}
@@ -22,7 +21,6 @@ use Rattle.live.specs.Suitable.{with_numbers}
 use Rattle.live.specs.Faults.{stored_fault, range_fault, like_fault, more_fault, register_fault}
 use Rattle.live.specs.Calls.{with_pair, registered, registering}
 use Rattle.live.specs.Answers.{answer_of}
-use Rattle.live.specs.declared.Change.TheVariants.{Done, Refused}
 use Rattle.live.specs.Faultless.{Registrable}
 use Rattle.live.proofs.CallFaults.{register_passed}
 use Rattle.live.proofs.Promised.{new_faultless}
@@ -55,7 +53,7 @@ module _ (p : Pair) (l : Live) (f : Fields) (stored : f ≡ with_pair l.count p 
 
 -- ## The call, by what `judge` found in tables of which the shortest has `space` entries
 
-module _ (p : Pair) (l : Live) (space : ℕ) (s : space ≡ pair_room l) (found : Verdict)
+module _ (p : Pair) (l : Live) (space : ℕ) (s : space ≡ pair_room l) (found : Result Unit Refusal)
     (e : fault_at 0 found
     ≡ (stored_fault l.count space l.graph.compatibilities (length l.graph.weights) l.points l.suitable
     then range_fault l.count (pair_of l) p
@@ -65,14 +63,14 @@ module _ (p : Pair) (l : Live) (space : ℕ) (s : space ≡ pair_room l) (found 
   unfolding register_fault
   whole = rw (← s) e
 
-  pub call_refused : (why : Refusal) → found ≡ Faulty why → outcome (answer_of (Refused why)) l ≡ registering p l
+  pub call_refused : (why : Refusal) → found ≡ Err why → outcome (answer_of (Err why)) l ≡ registering p l
   unfolding registering answer_of
   call_refused why h = sym (unless_fault _ tt (registered p l) l (number_of why) 0 (faulty_fault 0 found whole why h))
 
-  module _ (h : found ≡ Sound) where
+  module _ (h : found ≡ (Ok tt)) where
     pub call_registrable : Registrable p l
     call_registrable = register_passed p l (sound_none 0 found whole h)
 
-    pub call_registered : (new : Live) → new ≡ registered p l → outcome (answer_of Done) new ≡ registering p l
+    pub call_registered : (new : Live) → new ≡ registered p l → outcome (answer_of (Ok tt)) new ≡ registering p l
     unfolding registering answer_of
-    call_registered new k = ap (outcome (answer_of Done)) k ∙ sym (unless_none _ tt (registered p l) l (sound_none 0 found whole h))
+    call_registered new k = ap (outcome (answer_of (Ok tt))) k ∙ sym (unless_none _ tt (registered p l) l (sound_none 0 found whole h))

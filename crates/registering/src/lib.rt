@@ -21,60 +21,45 @@ ghost use Rattle.live.specs.Lent.{lent_live};
 ghost use Rattle.live.specs.Promises.{RegistersRightly};
 
 use fields::Fields;
-use live::{Change, Pair};
-use refusal::{Refusal, Verdict};
+use live::Pair;
+use refusal::Refusal;
 
 // 6 over all pairs, the first n and the new one, and then 7 over them.
-fn pairs(n: usize, fields: Fields, pair: Pair) -> Verdict
+fn pairs(n: usize, fields: Fields, pair: Pair) -> Result<(), Refusal>
     requires { TablesHaveRoom n (fields_in fields) }
     ensures { let stored = pair_in (fields_in fields.entry) in
         fault_at 0 result ≡ (range_fault n stored (named pair) then like_fault n stored (named pair)) }
 {
-    match keeping::groups(
+    keeping::groups(
         n,
         fields.donor_blood,
         fields.patient_blood,
         fields.donor_age,
         fields.patient_age,
-    ) {
-        Verdict::Faulty(why) => {
-            return Verdict::Faulty(why);
-        }
-        Verdict::Sound => {}
-    }
-    match checks::groups(
+    )?;
+    checks::groups(
         pair.donor_blood,
         pair.patient_blood,
         pair.donor_age,
         pair.patient_age,
-    ) {
-        Verdict::Faulty(why) => {
-            return Verdict::Faulty(why);
-        }
-        Verdict::Sound => {}
-    }
-    match keeping::ids(n, fields.ids) {
-        Verdict::Faulty(why) => {
-            return Verdict::Faulty(why);
-        }
-        Verdict::Sound => {}
-    }
+    )?;
+    keeping::ids(n, fields.ids)?;
     if checks::among(fields.ids, n, pair.id) {
-        return Verdict::Faulty(Refusal::RepeatedId);
+        return Err(Refusal::RepeatedId);
     }
-    Verdict::Sound
+    Ok(())
 }
 
 // 12 at 200 pairs, and 9 where one more doesn't fit.
-fn more(n: usize, space: usize, compatibilities: usize, weights: usize) -> Verdict
+fn more(n: usize, space: usize, compatibilities: usize, weights: usize) -> Result<(), Refusal>
     requires { n ≤ 200 }
     ensures { fault_at 0 result ≡ more_fault n space compatibilities weights }
 {
     if n == 200 {
-        return Verdict::Faulty(Refusal::TooManyTogether);
+        return Err(Refusal::TooManyTogether);
     }
     if space < n + 1 {
-        return Verdict::Faulty(Refusal::TooShort);
+        return Err(Refusal::TooShort);
     }
     keeping::rows(n + 1, compatibilities, weights)
 }
@@ -90,7 +75,7 @@ fn judge(
     weights: usize,
     suitable: &[u16],
     pair: Pair,
-) -> Verdict
+) -> Result<(), Refusal>
     requires tables_have_room { TablesHaveRoom space (fields_in fields) }
     requires space_in_bounds { space ≤ length suitable.now }
     ensures { let stored = pair_in (fields_in fields.entry) in
@@ -98,16 +83,9 @@ fn judge(
         fault_at 0 result ≡ (stored_fault n space m weights points.now suitable.now then range_fault n stored (named pair)
         then like_fault n stored (named pair) then more_fault n space (length m) weights) }
 {
-    match keeping::judge(n, space, compatibilities, weights, suitable, points) {
-        Verdict::Faulty(why) => {
-            return Verdict::Faulty(why);
-        }
-        Verdict::Sound => {}
-    }
-    match pairs(n, fields, pair) {
-        Verdict::Faulty(why) => Verdict::Faulty(why),
-        Verdict::Sound => more(n, space, compatibilities.len(), weights),
-    }
+    keeping::judge(n, space, compatibilities, weights, suitable, points)?;
+    pairs(n, fields, pair)?;
+    more(n, space, compatibilities.len(), weights)
 }
 
 // A pair's fields, each at this place of its table.
@@ -214,7 +192,7 @@ pub fn register(
     weights: &mut [u16],
     suitable: &mut [u16],
     pair: Pair,
-) -> Change
+) -> Result<(), Refusal>
     ensures equals { let l = lent_live count points ids donor_blood patient_blood donor_age patient_age
         donor_antigens patient_antigens patient_antibodies compatibilities weights suitable in
         outcome (answer_of result) l.exit ≡ registering (named pair) l.entry }
@@ -233,8 +211,8 @@ pub fn register(
         patient_antigens,
         patient_antibodies,
     };
-    let space = checks::lesser(fields.room(), suitable.len());
-    match judge(
+    let space = fields.room().min(suitable.len());
+    judge(
         n,
         space,
         points,
@@ -243,27 +221,23 @@ pub fn register(
         weights.len(),
         suitable,
         pair,
-    ) {
-        Verdict::Faulty(why) => Change::Refused(why),
-        Verdict::Sound => {
-            add(
-                n,
-                points,
-                ids,
-                donor_blood,
-                patient_blood,
-                donor_age,
-                patient_age,
-                donor_antigens,
-                patient_antigens,
-                patient_antibodies,
-                compatibilities,
-                weights,
-                suitable,
-                pair,
-            );
-            *count = n + 1;
-            Change::Done
-        }
-    }
+    )?;
+    add(
+        n,
+        points,
+        ids,
+        donor_blood,
+        patient_blood,
+        donor_age,
+        patient_age,
+        donor_antigens,
+        patient_antigens,
+        patient_antibodies,
+        compatibilities,
+        weights,
+        suitable,
+        pair,
+    );
+    *count = n + 1;
+    Ok(())
 }

@@ -14,7 +14,7 @@ ghost use Rattle.live.specs.Calls.{without_row};
 ghost use Rattle.suiting.specs.Counted.{ones_above};
 ghost use Rattle.suiting.specs.Preconditions.{Countable, CountedAbove, Lowerable};
 
-use refusal::{Refusal, Verdict};
+use refusal::Refusal;
 
 // 1 where an entry of M is a one; an entry 2 is none.
 fn one_of(entry: u8) -> u16
@@ -46,21 +46,21 @@ pub fn count(n: usize, compatibilities: &[u8], counts: &mut [u16])
 }
 
 // 10: one of the first n numbers isn't the one counted.
-fn compare(n: usize, counts: &[u16], suitable: &[u16]) -> Verdict
+fn compare(n: usize, counts: &[u16], suitable: &[u16]) -> Result<(), Refusal>
     requires n_in_bounds { n ≤ length counts.now }
     requires n_in_bounds_2 { n ≤ length suitable.now }
     ensures { fault_at 0 result ≡ first_below n (λ j. refuse 10 0 (not (eqb (item_in suitable.now j) (item_in counts.now j)))) }
 {
     for j in 0..n {
         if suitable[j] != counts[j] {
-            return Verdict::Faulty(Refusal::NotCompatibility);
+            return Err(Refusal::NotCompatibility);
         }
     }
-    Verdict::Sound
+    Ok(())
 }
 
 // 10: a stored number isn't the ones in its column.
-pub fn judge(n: usize, compatibilities: &[u8], suitable: &[u16]) -> Verdict
+pub fn judge(n: usize, compatibilities: &[u8], suitable: &[u16]) -> Result<(), Refusal>
     requires { Countable n compatibilities.now suitable.now }
     ensures { fault_at 0 result ≡ numbers_fault n compatibilities.now suitable.now }
 {

@@ -9,8 +9,7 @@ use Rattle.refusal.specs.Answer.{finished, outcome}
 use Rattle.refusal.specs.Number.{number_of, fault_at}
 use Rattle.refusal.specs.declared.Refusal.{Refusal}
 use Rattle.refusal.specs.declared.Refusal.TheVariants.{UnknownId}
-use Rattle.refusal.specs.declared.Verdict.{Verdict}
-use Rattle.refusal.specs.declared.Verdict.TheVariants.{Sound, Faulty}
+use Rattle.std.specs.Prelude.{Result, Ok, Err}
 use Rattle.refusal.proofs.Faults.{none_then, fault_then, none_refuse, fault_refuse, sound_none, faulty_fault, unless_none, unless_fault}
 use Rattle.pool.specs.Tables.{Fields, item_in, pair_in}
 use Rattle.graph.specs.Graph.{Graph, graph}
@@ -20,7 +19,6 @@ use Rattle.live.specs.Faults.{stored_fault, kept_fault, withdraw_fault}
 use Rattle.live.specs.Faultless.{Kept}
 use Rattle.live.specs.Calls.{place_of, without_pair, without_row, without_at, withdrawing}
 use Rattle.live.specs.Answers.{answer_of}
-use Rattle.live.specs.declared.Change.TheVariants.{Done, Refused}
 use Rattle.live.proofs.Faults.{kept_passed}
 use Rattle.live.proofs.Tables.{place_found}
 use Rattle.live.proofs.Suitable.{true_number}
@@ -28,23 +26,23 @@ use Rattle.withdrawing.specs.Preconditions.{OneOf}
 use Rattle.withdrawing.proofs.Places.{same, place_there, none_there}
 
 -- what `judge` found, of tables of which the shortest has so many entries
-pub found-stored : (l : Live) (space : ℕ) (judged : Verdict) → space ≡ pair_room l
+pub found-stored : (l : Live) (space : ℕ) (judged : Result Unit Refusal) → space ≡ pair_room l
     → fault_at 0 judged ≡ stored_fault l.count space l.graph.compatibilities (length l.graph.weights) l.points l.suitable
     → fault_at 0 judged ≡ kept_fault l
 found-stored l space judged r e = rw r at e
 
-module _ (x : ℕ) (l : Live) (found : Verdict) (e : fault_at 0 found ≡ kept_fault l) where
-  pub call_refused : (why : Refusal) → found ≡ Faulty why → outcome (answer_of (Refused why)) l ≡ withdrawing x l
+module _ (x : ℕ) (l : Live) (found : Result Unit Refusal) (e : fault_at 0 found ≡ kept_fault l) where
+  pub call_refused : (why : Refusal) → found ≡ Err why → outcome (answer_of (Err why)) l ≡ withdrawing x l
   unfolding withdrawing withdraw_fault answer_of
   call_refused why h = sym (unless_fault _ tt _ l (number_of why) 0 (fault_then _ _ (faulty_fault 0 found e why h)))
 
-  module _ (h : found ≡ Sound) where
+  module _ (h : found ≡ (Ok tt)) where
     pub call_kept : Kept l
     call_kept = kept_passed l (sound_none 0 found e h)
 
     -- what `place_of` found
     module _ (a : ℕ) (p : a ≡ place_of l.count (item_in l.fields.ids) x) where
-      pub call_unknown : a ≡ l.count → outcome (answer_of (Refused UnknownId)) l ≡ withdrawing x l
+      pub call_unknown : a ≡ l.count → outcome (answer_of (Err UnknownId)) l ≡ withdrawing x l
       unfolding withdrawing withdraw_fault answer_of pair_in
       call_unknown q =
           sym
@@ -71,7 +69,7 @@ module _ (x : ℕ) (l : Live) (found : Verdict) (e : fault_at 0 found ≡ kept_f
         pub call_withdrawn : (f : Fields) (g : Graph) (s : List ℕ) → f ≡ without_pair a l.count l.fields
             → g ≡ graph (without_row a l.count l.graph.compatibilities) (without_row a l.count l.graph.weights)
             → s ≡ with_numbers (l.count - 1) (without_row a l.count l.graph.compatibilities) l.suitable
-            → outcome (answer_of Done) (live (l.count - 1) l.points f g s) ≡ withdrawing x l
+            → outcome (answer_of (Ok tt)) (live (l.count - 1) l.points f g s) ≡ withdrawing x l
         unfolding withdrawing withdraw_fault without_at answer_of pair_in
         call_withdrawn f g s b d n =
             (λ i. outcome (finished tt) (live (l.count - 1) l.points (b i) (d i) (n i)))

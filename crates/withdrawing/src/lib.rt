@@ -16,8 +16,7 @@ ghost use Rattle.live.specs.Promises.{WithdrawsRightly};
 ghost use Rattle.withdrawing.specs.Preconditions.{OneOf};
 
 use fields::Fields;
-use live::Change;
-use refusal::{Refusal, Verdict};
+use refusal::Refusal;
 
 // The place of the first of n ids that is this one; n where none is.
 fn place_of(ids: &[u32], n: usize, id: u32) -> usize
@@ -89,7 +88,7 @@ pub fn withdraw(
     weights: &mut [u16],
     suitable: &mut [u16],
     id: u32,
-) -> Change
+) -> Result<(), Refusal>
     ensures equals { let l = lent_live count points ids donor_blood patient_blood donor_age patient_age
         donor_antigens patient_antigens patient_antibodies compatibilities weights suitable in
         outcome (answer_of result) l.exit ≡ withdrawing id l.entry }
@@ -108,16 +107,11 @@ pub fn withdraw(
         patient_antigens,
         patient_antibodies,
     };
-    let space = checks::lesser(fields.room(), suitable.len());
-    match keeping::judge(n, space, compatibilities, weights.len(), suitable, points) {
-        Verdict::Faulty(why) => {
-            return Change::Refused(why);
-        }
-        Verdict::Sound => {}
-    }
+    let space = fields.room().min(suitable.len());
+    keeping::judge(n, space, compatibilities, weights.len(), suitable, points)?;
     let at = place_of(ids, n, id);
     if at == n {
-        return Change::Refused(Refusal::UnknownId);
+        return Err(Refusal::UnknownId);
     }
     take_out(
         at,
@@ -135,5 +129,5 @@ pub fn withdraw(
         suitable,
     );
     *count = n - 1;
-    Change::Done
+    Ok(())
 }

@@ -1,5 +1,4 @@
 -- `keeping::groups` meets its contract. The loop's invariant: the pairs passed have no fault. Assumes nothing.
-use Prim.Native.Nat.{◌-◌, ◌≤◌}
 use mathlib.Core.Path.{◌≡◌}
 use Rattle.refusal.specs.Fault.{none, first_below}
 use Rattle.pool.specs.Tables.{item_in}
@@ -7,8 +6,5 @@ use Rattle.pool.specs.Faults.{group_fault}
 use Rattle.keeping.proofs.groups.Given as goal
 
 abbrev pub invariant-loop-i : goal.invariant-loop-i
-invariant-loop-i l = (l.i ≤ l.n)
-    × (first_below l.i (λ j. group_fault 0 (item_in l.donor_blood j) (item_in l.patient_blood j) (item_in l.donor_age j) (item_in l.patient_age j)) ≡ none)
-
-abbrev pub decreases-loop-i : goal.decreases-loop-i
-decreases-loop-i l = l.n - l.i
+invariant-loop-i l =
+    first_below l.i (λ j. group_fault 0 (item_in l.donor_blood j) (item_in l.patient_blood j) (item_in l.donor_age j) (item_in l.patient_age j)) ≡ none

@@ -9,21 +9,21 @@ use Rattle.keeping.proofs.ids.Goals as goal
 
 pub loop-i-init : goal.loop-i-init
 unfolding first_below
-loop-i-init c = (omega arith, refl)
+loop-i-init c = refl
 
 pub returns-then-among : goal.returns-then-among
 unfolding fault_at id_fault
 returns-then-among c =
     let l = c.loop-i in
-    sym (first_hit _ _ l.i c.loop-i-test.true l.invariant.1 (fault_refuse 7 0 _ (sym c.among.ensures ∙ c.if-among.true)))
+    sym (first_hit _ _ l.i (omega arith) l.invariant (fault_refuse 7 0 _ (sym c.among.ensures ∙ c.if-among.true)))
 
 pub loop-i-preserved : goal.loop-i-preserved
 unfolding id_fault
 loop-i-preserved c =
     let l = c.loop-i in
-    (omega arith, first_more l.i _ l.invariant.1 (none_refuse 7 0 _ (sym c.among.ensures ∙ c.if-among.false)))
+    first_more l.i _ l.invariant (none_refuse 7 0 _ (sym c.among.ensures ∙ c.if-among.false))
 
 pub returns : goal.returns
 returns c =
     let l = c.loop-i in
-    passed_all _ _ l.i (omega arith) l.invariant.1
+    passed_all _ _ l.i (omega arith) l.invariant

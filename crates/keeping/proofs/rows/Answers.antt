@@ -1,11 +1,6 @@
 -- `keeping::rows` meets its contract. Assumes nothing.
-use native.Mathlib.Omega.{arith}
-use Rattle.graph.proofs.Rows.{rows_few}
 use Rattle.keeping.proofs.Found.{rows_compatibilities, rows_weights, rows_sound}
 use Rattle.keeping.proofs.rows.Goals as goal
-
-pub overflow_mul-entries : goal.overflow_mul-entries
-overflow_mul-entries c = omega (arith, rows_few c.requires)
 
 pub returns-then-compatibilities-entries : goal.returns-then-compatibilities-entries
 returns-then-compatibilities-entries c = rows_compatibilities _ _ _ c.if-compatibilities-entries.true
