@@ -122,8 +122,8 @@ is_compared n m counts old t e =
 -- ## A pair goes
 
 -- where a patient's number stood
-pub before_inside : (a n j : ℕ) → j < n - 1 → (before : ℕ) → before ≡ up a j → before < n
-before_inside a n j l before e = rw e (up-below a n j l)
+pub before_inside : (a n j before : ℕ) → before ≡ up a j → j < n - 1 → before < n
+before_inside a n j before e l = rw e (up-below a n j l)
 
 module _ (a n : ℕ) (m old : List ℕ) (w : Lowerable a n m old) (j : ℕ) (l : j < n - 1) (t : List ℕ)
     (v : Filling j (ones_in (n - 1) (without_row a n m)) old t) (before : ℕ) (e : before ≡ up a j) where
@@ -132,7 +132,7 @@ module _ (a n : ℕ) (m old : List ℕ) (w : Lowerable a n m old) (j : ℕ) (l :
     number_before : item_in t before ≡ ones_in (n - 1) (without_row a n m) j + x
     number_before =
         filling_past j before _ old t v (rw e (up_least a j))
-        ∙ w.numbered before (before_inside a n j l before e)
+        ∙ w.numbered before (before_inside a n j before e l)
         ∙ ap (ones_in n m) e
         ∙ ones_without a n m j w.inside l
         ∙ ap (λ (y : ℕ). ones_in (n - 1) (without_row a n m) j + y) (sym (rw e at s))
