@@ -1,24 +1,8 @@
 -- `entries::three` meets its contract. Assumes nothing.
 use mathlib.Core.Path.{refl}
 use native.Mathlib.Omega.{arith}
-use Rattle.entries.proofs.Weighed.{points_of_lem, three_fits, three_fits_all, three_sum, three_product, three_is}
+use Rattle.entries.proofs.Weighed.{points_of_lem, three_sum, three_product, three_is}
 use Rattle.entries.proofs.three.Goals as goal
-
-pub overflow_mul-there : goal.overflow_mul-there
-overflow_mul-there c =
-    record {
-      fits = three_fits _ _ _ (λ i. omega (arith, c.type_inv.w i)) _ _ _
-          c.requires _ _ c.compatible.ensures c.compatible-2.ensures;
-    }
-
-pub overflow_mul-all : goal.overflow_mul-all
-overflow_mul-all c =
-    let shared-slice-known2 = c in
-    let s = shared-slice-known2 in
-    record {
-      fits = three_fits_all _ _ _ (λ i. omega (arith, shared-slice-known2.type_inv.w i)) _ _ _ s.requires _ _
-          c.compatible.ensures c.compatible-2.ensures _ refl _ c.compatible-3.ensures;
-    }
 
 pub overflow_add-sum : goal.overflow_add-sum
 overflow_add-sum c =

@@ -1,15 +1,8 @@
 -- `entries::two` meets its contract. Assumes nothing.
 use mathlib.Core.Path.{refl}
 use native.Mathlib.Omega.{arith}
-use Rattle.entries.proofs.Weighed.{two_fits, two_sum, two_product, two_is}
+use Rattle.entries.proofs.Weighed.{two_sum, two_product, two_is}
 use Rattle.entries.proofs.two.Goals as goal
-
-pub overflow_mul-there : goal.overflow_mul-there
-overflow_mul-there c =
-    record {
-      fits = two_fits _ _ _ (λ i. omega (arith, c.type_inv.w i)) _ _ _
-          c.requires _ _ c.compatible.ensures c.compatible-2.ensures;
-    }
 
 pub overflow_add-result : goal.overflow_add-result
 overflow_add-result c =
