@@ -3,8 +3,7 @@
 
 ghost use Rattle.std.specs.Prelude.{◌<◌, ◌≤◌, IfOk};
 
-use reader::Reading;
-use refusal::Refusal;
+use refusal::Refused;
 use std::fmt;
 
 #[derive(Clone, Copy)]
@@ -114,7 +113,7 @@ struct Pool {
 
 impl Pool {
     // The pool of a sheet, or the first of its faults and its place.
-    fn read(sheet: &[u8]) -> Result<Self, (Refusal, usize)>
+    fn read(sheet: &[u8]) -> Result<Self, Refused>
         ensures { IfOk result (λ p. p.n ≤ 200) }
     {
         let mut points = [0; 6];
@@ -127,7 +126,7 @@ impl Pool {
         let mut patient_antigens = [0; 200];
         let mut patient_antibodies = [0; 200];
         let mut shuffle = [0; 200];
-        match reader::read(
+        let head = reader::read(
             sheet,
             &mut points,
             &mut ids,
@@ -139,23 +138,21 @@ impl Pool {
             &mut patient_antigens,
             &mut patient_antibodies,
             &mut shuffle,
-        ) {
-            Reading::Refused(why, place) => Err((why, place)),
-            Reading::Pairs(version, n) => Ok(Self {
-                version,
-                n,
-                points,
-                ids,
-                donor_blood,
-                patient_blood,
-                donor_age,
-                patient_age,
-                donor_antigens,
-                patient_antigens,
-                patient_antibodies,
-                shuffle,
-            }),
-        }
+        )?;
+        Ok(Self {
+            version: head.version,
+            n: head.pairs,
+            points,
+            ids,
+            donor_blood,
+            patient_blood,
+            donor_age,
+            patient_age,
+            donor_antigens,
+            patient_antigens,
+            patient_antibodies,
+            shuffle,
+        })
     }
 
     fn donor(&self, i: usize) -> Person
@@ -200,7 +197,7 @@ impl Pool {
 fn look(rt: &impl Print, sheet: &[u8]) -> std::io::Result<()> {
     match Pool::read(sheet) {
         Ok(pool) => pool.print(rt),
-        Err((why, place)) => println!(rt; "REFUSED {} {place}", refusal::number(why)),
+        Err(refused) => println!(rt; "REFUSED {} {}", refused.why.number(), refused.place),
     }
 }
 

@@ -5,8 +5,9 @@
 
 ghost use Rattle.std.specs.Prelude.{◌≤◌};
 
+use fields::Fields;
+use refusal::Refusal;
 use std::{fmt, io};
-use weighing::Building;
 
 // Registries' points: one in which more mismatches and a senior patient weigh more; one whose heaviest edge is as heavy as may be; document 01's.
 const REGISTRIES: [[u16; 6]; 3] = [
@@ -71,13 +72,13 @@ impl<T: fmt::Display> fmt::Display for Row<'_, T> {
 
 // What building answered.
 #[derive(Clone, Copy)]
-struct Answer(Building);
+struct Answer(Result<(), Refusal>);
 
 impl fmt::Display for Answer {
     fn fmt<W: fmt::Write>(&self, f: &mut fmt::Formatter<W>) -> fmt::Result {
         match self.0 {
-            Building::Built => write!(f, " built"),
-            Building::Refused(why) => write!(f, " refused {}", refusal::number(why)),
+            Ok(()) => write!(f, " built"),
+            Err(why) => write!(f, " refused {}", why.number()),
         }
     }
 }
@@ -162,14 +163,16 @@ impl Build<'_> {
             self.version,
             self.n,
             self.points,
-            &[1, self.second_id],
-            &[edge.donor_blood, 0],
-            &[0, edge.patient_blood],
-            &[edge.donor_age, 0],
-            &[0, edge.patient_age],
-            &[edge.donor_antigens, 0],
-            &[0, edge.patient_antigens],
-            &[0, edge.patient_antibodies],
+            Fields {
+                ids: &[1, self.second_id],
+                donor_blood: &[edge.donor_blood, 0],
+                patient_blood: &[0, edge.patient_blood],
+                donor_age: &[edge.donor_age, 0],
+                patient_age: &[0, edge.patient_age],
+                donor_antigens: &[edge.donor_antigens, 0],
+                patient_antigens: &[0, edge.patient_antigens],
+                patient_antibodies: &[0, edge.patient_antibodies],
+            },
             &mut m[..self.m_space],
             &mut w[..self.w_space],
         ));
@@ -405,14 +408,16 @@ fn try_most(rt: &impl Print) -> io::Result<()> {
         1,
         200,
         &[],
-        &ids,
-        &bloods,
-        &bloods,
-        &ages,
-        &ages,
-        &none,
-        &none,
-        &none,
+        Fields {
+            ids: &ids,
+            donor_blood: &bloods,
+            patient_blood: &bloods,
+            donor_age: &ages,
+            patient_age: &ages,
+            donor_antigens: &none,
+            patient_antigens: &none,
+            patient_antibodies: &none,
+        },
         &mut m,
         &mut w,
     ));

@@ -4,7 +4,8 @@
 
 ghost use Rattle.std.specs.Prelude.{◌*◌, ◌≡◌, ◌≤◌};
 
-use live::{Change, Pair};
+use live::Pair;
+use refusal::Refusal;
 use points::Points;
 use std::{fmt, io};
 
@@ -23,19 +24,19 @@ impl<T: fmt::Display> fmt::Display for Row<'_, T> {
 
 // What a call answered.
 #[derive(Clone, Copy)]
-struct Answer(Change);
+struct Answer(Result<(), Refusal>);
 
 impl Answer {
     fn is_done(self) -> bool {
-        matches!(self.0, Change::Done)
+        self.0.is_ok()
     }
 }
 
 impl fmt::Display for Answer {
     fn fmt<W: fmt::Write>(&self, f: &mut fmt::Formatter<W>) -> fmt::Result {
         match self.0 {
-            Change::Done => write!(f, "done"),
-            Change::Refused(why) => write!(f, "refused {}", refusal::number(why)),
+            Ok(()) => write!(f, "done"),
+            Err(why) => write!(f, "refused {}", why.number()),
         }
     }
 }

@@ -5,7 +5,8 @@
 ghost use Rattle.std.specs.Prelude.{◌≡◌, ◌≤◌, ◌<◌, length};
 
 use cycle::Cycle;
-use planner::Planning;
+use planner::Planned;
+use refusal::Refusal;
 use std::{array, fmt, io};
 
 // Entries of a table, each after a blank.
@@ -39,12 +40,12 @@ impl fmt::Display for Records<'_> {
 
 // What planning answered.
 #[derive(Clone, Copy)]
-struct Answer(Planning);
+struct Answer(Result<Planned, Refusal>);
 
 impl fmt::Display for Answer {
     fn fmt<W: fmt::Write>(&self, f: &mut fmt::Formatter<W>) -> fmt::Result {
         match self.0 {
-            Planning::Made(plan) => {
+            Ok(plan) => {
                 let tally = plan.tally;
                 write!(f, " weight {} cycles {}", plan.weight, plan.cycles)?;
                 write!(
@@ -53,7 +54,7 @@ impl fmt::Display for Answer {
                     tally.comparisons, tally.products, tally.rounds
                 )
             }
-            Planning::Refused(why) => write!(f, " refused {}", refusal::number(why)),
+            Err(why) => write!(f, " refused {}", why.number()),
         }
     }
 }

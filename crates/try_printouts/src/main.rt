@@ -4,19 +4,18 @@
 
 ghost use Rattle.std.specs.Prelude.{◌≤◌};
 
-use printout::Printing;
 use refusal::Refusal;
 use std::io;
 
 // Prints the answer, the text and eight bytes more, or as many as there are.
-fn show(rt: &impl Print, name: &str, answer: Printing, out: &[u8; 300]) -> io::Result<()> {
+fn show(rt: &impl Print, name: &str, answer: Result<usize, Refusal>, out: &[u8; 300]) -> io::Result<()> {
     let length = match answer {
-        Printing::Length(n) => {
+        Ok(n) => {
             println!(rt; "== {name}: {n} bytes")?;
             n
         }
-        Printing::Refused(why) => {
-            println!(rt; "== {name}: refused {}", refusal::number(why))?;
+        Err(why) => {
+            println!(rt; "== {name}: refused {}", why.number())?;
             0
         }
     };
@@ -152,8 +151,8 @@ fn try_plans(rt: &impl Print) -> io::Result<()> {
 fn print_example(rt: &impl Print) -> io::Result<()> {
     let mut out = [b'#'; 204];
     match printout::print_plan(2, 1, 2900, &[11, 12], &[1, 0], &[1, 0], 1, 6, 1, &mut out) {
-        Printing::Length(n) => rt.write_all(&out[..n]),
-        Printing::Refused(_) => {
+        Ok(n) => rt.write_all(&out[..n]),
+        Err(_) => {
             prove!(false);
             Ok(())
         }

@@ -4,10 +4,10 @@
 
 ghost use Rattle.std.specs.Prelude.{◌≤◌};
 
-use reader::Reading;
-use refusal::Refusal;
+use fields::Fields;
+use reader::Head;
+use refusal::{Refusal, Refused};
 use std::{fmt, io};
-use writer::Writing;
 
 // Document 01's points.
 const DOCUMENT: [u16; 6] = [1000, 400, 250, 100, 50, 30];
@@ -104,48 +104,35 @@ impl<T: fmt::Display> fmt::Display for Ends<'_, T> {
     }
 }
 
-// A refusal and its place.
-#[derive(Clone, Copy)]
-struct Refused {
-    why: Refusal,
-    place: usize,
-}
-
-impl fmt::Display for Refused {
-    fn fmt<W: fmt::Write>(&self, f: &mut fmt::Formatter<W>) -> fmt::Result {
-        write!(f, "refused {} at {}", refusal::number(self.why), self.place)
-    }
-}
-
 // What reading answered.
 #[derive(Clone, Copy)]
-struct Read(Reading);
+struct Read(Result<Head, Refused>);
 
 impl fmt::Display for Read {
     fn fmt<W: fmt::Write>(&self, f: &mut fmt::Formatter<W>) -> fmt::Result {
         match self.0 {
-            Reading::Pairs(version, n) => write!(f, "{n} pairs of version {version}"),
-            Reading::Refused(why, place) => write!(f, "{}", Refused { why, place }),
+            Ok(head) => write!(f, "{} pairs of version {}", head.pairs, head.version),
+            Err(refused) => write!(f, "refused {} at {}", refused.why.number(), refused.place),
         }
     }
 }
 
 // What writing answered.
 #[derive(Clone, Copy)]
-struct Written(Writing);
+struct Written(Result<usize, Refusal>);
 
 impl fmt::Display for Written {
     fn fmt<W: fmt::Write>(&self, f: &mut fmt::Formatter<W>) -> fmt::Result {
         match self.0 {
-            Writing::Length(n) => write!(f, "{n} bytes"),
-            Writing::Refused(why) => write!(f, "{}", Refused { why, place: 0 }),
+            Ok(n) => write!(f, "{n} bytes"),
+            Err(why) => write!(f, "refused {} at 0", why.number()),
         }
     }
 }
 
 // The eight tables of the fields, for 200 pairs.
 #[derive(Clone, Copy)]
-struct Fields {
+struct Pool {
     ids: [u32; 200],
     donor_blood: [u8; 200],
     patient_blood: [u8; 200],
@@ -156,7 +143,7 @@ struct Fields {
     patient_antibodies: [u64; 200],
 }
 
-impl Fields {
+impl Pool {
     fn fresh() -> Self {
         Self {
             ids: [99; 200],
@@ -171,7 +158,7 @@ impl Fields {
     }
 
     // Reads a sheet into them and into these tables for the points and the shuffle.
-    fn read(&mut self, sheet: &[u8], points: &mut [u16], shuffle: &mut [u16]) -> Reading {
+    fn read(&mut self, sheet: &[u8], points: &mut [u16], shuffle: &mut [u16]) -> Result<Head, Refused> {
         reader::read(
             sheet,
             points,
@@ -187,27 +174,27 @@ impl Fields {
         )
     }
 
-    // Writes their first n pairs.
-    fn write(
-        &self,
-        version: u16,
-        n: usize,
-        points: &[u16],
-        shuffle: &[u16],
-        out: &mut [u8],
-    ) -> Written {
+    fn fields(&self) -> Fields<'_> {
+        Fields {
+            ids: &self.ids,
+            donor_blood: &self.donor_blood,
+            patient_blood: &self.patient_blood,
+            donor_age: &self.donor_age,
+            patient_age: &self.patient_age,
+            donor_antigens: &self.donor_antigens,
+            patient_antigens: &self.patient_antigens,
+            patient_antibodies: &self.patient_antibodies,
+        }
+    }
+
+    // Writes their first pairs, as many as a head says.
+    fn write(&self, head: Head, points: &[u16], shuffle: &[u16], out: &mut [u8]) -> Written {
+        let fields = self.fields();
         Written(writer::write(
-            version,
-            n,
+            head.version,
+            head.pairs,
             points,
-            &self.ids,
-            &self.donor_blood,
-            &self.patient_blood,
-            &self.donor_age,
-            &self.patient_age,
-            &self.donor_antigens,
-            &self.patient_antigens,
-            &self.patient_antibodies,
+            fields,
             shuffle,
             out,
         ))
@@ -234,7 +221,7 @@ fn try_reading(
     points: &mut [u16],
     shuffle: &mut [u16],
 ) -> io::Result<()> {
-    let mut fields = Fields::fresh();
+    let mut fields = Pool::fresh();
     let answer = fields.read(sheet, points, shuffle);
     print!(rt; "{name}: {}", Read(answer))?;
     fields.print_entry(rt, 0)?;
@@ -351,14 +338,16 @@ fn try_written(rt: &impl Print) -> io::Result<()> {
             version,
             n,
             &points[..count.min(6)],
-            &[11, id],
-            &[1, blood],
-            &[2, 1],
-            &ages,
-            &ages,
-            &tissue,
-            &tissue,
-            &tissue,
+            Fields {
+                ids: &[11, id],
+                donor_blood: &[1, blood],
+                patient_blood: &[2, 1],
+                donor_age: &ages,
+                patient_age: &ages,
+                donor_antigens: &tissue,
+                patient_antigens: &tissue,
+                patient_antibodies: &tissue,
+            },
             &[0, number],
             out,
         ));
@@ -371,14 +360,14 @@ fn try_written(rt: &impl Print) -> io::Result<()> {
 fn try_round_trip(rt: &impl Print, name: &str, sheet: &[u8], out: &mut [u8]) -> io::Result<()> {
     let mut points = [99; 6];
     let mut shuffle = [99; 200];
-    let mut fields = Fields::fresh();
+    let mut fields = Pool::fresh();
     let answer = fields.read(sheet, &mut points, &mut shuffle);
     match answer {
-        Reading::Pairs(version, n) => {
-            let answer = fields.write(version, n, &points, &shuffle, out);
+        Ok(head) => {
+            let answer = fields.write(head, &points, &shuffle, out);
             print!(rt; "{name}: {answer}")?;
         }
-        Reading::Refused(_, _) => print!(rt; "{name}: {}", Read(answer))?,
+        Err(_) => print!(rt; "{name}: {}", Read(answer))?,
     }
     if sheet == out {
         print!(rt; ", the same")?;
@@ -396,9 +385,18 @@ fn write_greatest(version: u16, out: &mut [u8]) -> Written {
     }
     let groups = [0; 200];
     let tissue = [0; 200];
+    let fields = Fields {
+        ids: &ids,
+        donor_blood: &groups,
+        patient_blood: &groups,
+        donor_age: &groups,
+        patient_age: &groups,
+        donor_antigens: &tissue,
+        patient_antigens: &tissue,
+        patient_antibodies: &tissue,
+    };
     Written(writer::write(
-        version, 200, &DOCUMENT, &ids, &groups, &groups, &groups, &groups, &tissue, &tissue,
-        &tissue, &shuffle, out,
+        version, 200, &DOCUMENT, fields, &shuffle, out,
     ))
 }
 

@@ -2,5 +2,5 @@
 use Rattle.look.proofs.Few.{few}
 use Rattle.look.proofs.Pool.read.Goals as goal
 
-pub returns-in-Pairs : goal.returns-in-Pairs
-returns-in-Pairs c = few _ _ c.read.result _ _ c.read.ensures.rightly c.in-Pairs.is
+pub returns : goal.returns
+returns c = few _ _ c.read.result _ c.read.ensures.rightly c.in_ok-head.was
