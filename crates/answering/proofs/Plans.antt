@@ -5,6 +5,8 @@ use Prim.Native.Nat.{ℕ, ◌*◌, ◌≤◌, ◌<◌}
 use native.Mathlib.Omega.{arith}
 use native.Mathlib.Nat.{mul-le-mul}
 use lib.ListN.{length, take}
+use Rattle.std.specs.Prelude.{Result, Ok}
+use Rattle.std.specs.Result.{IsOk}
 use Rattle.laws.specs.Lent.{filled}
 use Rattle.laws.proofs.Below.{length-table}
 use Rattle.laws.proofs.Lent.{take-filled}
@@ -22,8 +24,6 @@ use Rattle.printout.specs.Calls.{printing_plan}
 use Rattle.printout.specs.Answers.{answer_of as Printout·answerOf}
 use Rattle.partners.specs.Preconditions.{PlanTablesHold}
 use Rattle.printout.specs.Promises.{plan_room, PrintsPlan}
-use Rattle.printout.specs.declared.Printing.{Printing}
-use Rattle.printout.specs.declared.Printing.TheVariants.{Length}
 use Rattle.planner.specs.Answers.{plan_in}
 use Rattle.planner.specs.declared.Planned.{Planned}
 use Rattle.answers.specs.Most.{most}
@@ -85,15 +85,15 @@ module _ (n : ℕ) (M W s a b : List ℕ) (q : Planned) (d r : List ℕ) (w : Pa
         let p : Plan = w.result i in
         Printed.printed_plan n p.cycles p.weight ids (first_donors i) (first_recipients i) p.tally.comparisons p.tally.products p.tally.rounds
 
-    module _ (out new : List ℕ) (l : length out ≡ plan_room most) (x : Printing) (e : outcome (Printout·answerOf x) new ≡ printing_plan made_plan out)
+    module _ (out new : List ℕ) (l : length out ≡ plan_room most) (x : Result ℕ Refusal) (e : outcome (Printout·answerOf x) new ≡ printing_plan made_plan out)
         (u : PrintsPlan made_plan out (outcome (Printout·answerOf x) new)) where
       hold : PlanTablesHold n ids (take n d) (take n r)
       hold = record { ids = held; donors = omega (arith, length_donors); recipients = omega (arith, length_recipients) }
 
-      pub made_printed : (k : ℕ) → x ≡ Length k
+      pub made_printed : (k : ℕ) → x ≡ Ok k
           → outcome (finished k) new ≡ putting (plan_text (plan_by ids (input_of (request n no_floor M W s)))) out
       made_printed k g =
           plan-printed out new l x made_plan e u hold few k g ∙ ap (λ (p : Printed.PrintedPlan). putting (plan_text p) out) made_is
 
-      pub made_surely : {A : Type 0} (why : Refusal) → x ≡ Printing.Refused why → A
+      pub made_surely : IsOk x
       made_surely = plan_surely out new l x made_plan e u hold few

@@ -1,10 +1,12 @@
 -- What was read is built, and what is built is planned. Assumes nothing.
-use mathlib.Core.Path.{◌≡◌, sym, ap, ap₂, ◌∙◌}
+use mathlib.Core.Path.{◌≡◌, refl, sym, ap, ap₂, ◌∙◌}
 use mathlib.Core.List.{List}
 use Prim.Native.Nat.{ℕ, ◌≤◌, ◌<◌}
 use native.Mathlib.Omega.{arith}
 use lib.ListN.{length, get_or, take}
 use lib.Seq.{length-take-le, get_or-take}
+use Rattle.std.specs.Prelude.{Result, Ok, Err}
+use Rattle.std.specs.Result.{IsOk}
 use Rattle.laws.specs.Below.{table}
 use Rattle.laws.proofs.Below.{table_cong, table-get_or}
 use Rattle.refusal.specs.Answer.{finished, outcome}
@@ -19,8 +21,6 @@ use Rattle.graph.specs.Graph.{Graph}
 use Rattle.weighing.specs.Promises as Weighing
 use Rattle.weighing.specs.Answers as Weighing-as-Answers
 use Rattle.donation.proofs.Compatible.{compatibility-most}
-use Rattle.weighing.specs.declared.Building.{Building}
-use Rattle.weighing.specs.declared.Building.TheVariants.{Refused}
 use Rattle.exchange.specs.Subsets.{entry}
 use Rattle.exchange.specs.Input.{no_floor, input, input_of, request}
 use Rattle.exchange.specs.Faultless.{Compatibility}
@@ -51,7 +51,15 @@ module _ (v : ℕ) (p : ℕ → ℕ) (n : ℕ) (pair : ℕ → Pair) (s : ℕ �
 
 -- ## What was read is built
 
-module _ (v n : ℕ) (t : Tables) (p : Read v n t) (old : Graph) (room : (1600 ≤ length old.compatibilities) × (1600 ≤ length old.weights)) (a : Building) (new : Graph)
+-- what is surely built is not refused
+built_ok : (a : Result Unit Refusal) → Weighing-as-Answers.answer_of a ≡ finished tt → IsOk a
+unfolding Weighing-as-Answers.answer_of
+built_ok (Ok _) e = refl
+built_ok (Err why) e =
+    let z : ◌≡◌ {A = ℕ} 0 1 = cc in
+    absurd (omega arith)
+
+module _ (v n : ℕ) (t : Tables) (p : Read v n t) (old : Graph) (room : (1600 ≤ length old.compatibilities) × (1600 ≤ length old.weights)) (a : Result Unit Refusal) (new : Graph)
     (w : Weighing.BuildsRightly v n t.points t.fields old (outcome (Weighing-as-Answers.answer_of a) new)) where
   surely : Weighing-as-Answers.answer_of a ≡ finished tt
   surely =
@@ -67,12 +75,8 @@ module _ (v n : ℕ) (t : Tables) (p : Read v n t) (old : Graph) (room : (1600 �
       })
       (record { compatibilities = omega (arith, square-most n p.few, room.0); weights = omega (arith, square-most n p.few, room.1) })
 
-  pub never_unbuilt : {A : Type 0} (why : Refusal) → a ≡ Refused why → A
-  unfolding Weighing-as-Answers.answer_of
-  never_unbuilt why g =
-      let h = rw g at surely in
-      let z : ◌≡◌ {A = ℕ} 0 1 = cc in
-      absurd (omega arith)
+  pub surely_built : IsOk a
+  surely_built = built_ok a surely
 
   -- ## What is built is planned
 

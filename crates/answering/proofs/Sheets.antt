@@ -4,10 +4,11 @@ use mathlib.Core.List.{List}
 use Prim.Native.Nat.{ℕ, ◌≤◌}
 use native.Mathlib.Omega.{arith}
 use lib.ListN.{length}
+use Rattle.std.specs.Prelude.{Result, Ok, Err}
 use Rattle.refusal.specs.Fault.{Fault, ◌then◌}
 use Rattle.refusal.specs.Answer.{Outcome, outcome, finished, refused}
 use Rattle.refusal.specs.Number.{number_of}
-use Rattle.refusal.specs.declared.Refusal.{Refusal}
+use Rattle.refusal.specs.declared.Refused.{Refused}
 use Rattle.refusal.proofs.Faults.{finished_none, refused_fault}
 use Rattle.pool.specs.Pool.{Pool}
 use Rattle.pool.specs.Points.{Points}
@@ -22,8 +23,7 @@ use Rattle.pool.proofs.Reading.{sheet_pool, tables_six}
 use Rattle.pool.proofs.ReadingCall.{reading_none, reading_passed}
 use Rattle.pool.proofs.RoundTrip.{point_in_filled, pair_in_filled, faultless_filled, pool_in_filled}
 use Rattle.reader.specs.Answers.{answer_of}
-use Rattle.reader.specs.declared.Reading.{Reading}
-use Rattle.reader.specs.declared.Reading.TheVariants.{Pairs, Refused}
+use Rattle.reader.specs.declared.Head.{Head as HeadRead}
 use Rattle.printout.specs.Printed.{PrintedPlan, plan_text, refusal_text}
 use Rattle.answers.specs.Most.{most}
 use Rattle.answers.specs.Answering.{printed_plan_of, points_on, or_refusal, answer_text, putting, answering}
@@ -33,7 +33,7 @@ use Rattle.answers.proofs.Texts.{put_fits}
 use Rattle.answering.proofs.Pools.{same_plan}
 use Rattle.answers.proofs.Promised.{answering_is_right}
 
-module _ (b : List ℕ) (t left : Tables) (r : Reading) (e : outcome (answer_of r) left ≡ reading b t) (room-is : room t ≡ most) (six : length t.points ≡ 6) where
+module _ (b : List ℕ) (t left : Tables) (r : Result HeadRead Refused) (e : outcome (answer_of r) left ≡ reading b t) (room-is : room t ≡ most) (six : length t.points ≡ 6) where
   answer_read : answer_of r ≡ (reading b t).answer
   answer_read = ap (λ (o : Outcome Head Tables). o.answer) e
 
@@ -52,15 +52,21 @@ module _ (b : List ℕ) (t left : Tables) (r : Reading) (e : outcome (answer_of 
   refused_text k o g =
       ap (λ (f : Fault). or_refusal f (plan_text plan)) (ap (λ (f : Fault). sheet_fault b then f) (sym nine) ∙ refused_fault _ _ _ _ g)
 
-  pub refused_answer : (out new : List ℕ) (why : Refusal) (o k : ℕ) → r ≡ Refused why o → outcome (finished k) new ≡ putting (refusal_text (number_of why) o) out
+  pub refused_answer : (out new : List ℕ) (f : Refused) (k : ℕ) → r ≡ Err f → outcome (finished k) new ≡ putting (refusal_text (number_of f.why) f.place) out
       → AnswersSheet b out (outcome (finished k) new)
   unfolding answer_of answering
-  refused_answer out new why o k g h =
-      answering_is_right b out (outcome (finished k) new) (h ∙ ap (λ (x : List ℕ). putting x out) (sym (refused_text (number_of why) o (sym answer_read ∙ rw g))))
+  refused_answer out new f k g h =
+      answering_is_right b out (outcome (finished k) new) (h ∙ ap (λ (x : List ℕ). putting x out) (sym (refused_text (number_of f.why) f.place (sym answer_read ∙ rw g))))
 
   -- ## Accepted
 
-  module _ (v n : ℕ) (g : r ≡ Pairs v n) where
+  module _ (h : HeadRead) (g : r ≡ Ok h) where
+    abbrev v : ℕ
+    v = h.version
+
+    abbrev n : ℕ
+    n = h.pairs
+
     finished_is : (reading b t).answer ≡ finished (head v n)
     unfolding answer_of
     finished_is = sym answer_read ∙ rw g

@@ -1,6 +1,6 @@
 // A sheet answered (document 01, 'Writer and printout'): it is read, its tables are built, its pool is planned, and the plan is printed; or the
 // refusal of reading is printed. Nothing else refuses: what reading accepts can be built, what is built can be planned, and the buffer holds every
-// text. So the branches for other refusals are never taken, and that is proved.
+// text. So no other answer is a refusal: that is proved, where each is unwrapped.
 #![tactic(auto)]
 
 ghost use Rattle.std.specs.Prelude.{◌≡◌, ◌≤◌, length};
@@ -16,10 +16,8 @@ ghost use Rattle.answers.specs.Promises.{AnswersSheet};
 ghost use Rattle.answering.specs.Preconditions.{Read};
 
 use fields::Fields;
-use printout::Printing;
-use reader::Reading;
-use refusal::Refusal;
-use weighing::Building;
+use reader::Head;
+use refusal::Refused;
 
 // Prints the plan of n pairs with these ids and tables, and gives the text's length.
 fn print_planned(
@@ -38,7 +36,7 @@ fn print_planned(
     let mut donors = [0u16; 40];
     let mut recipients = [0u16; 40];
     let made = buffers::plan_tables(n, m, w, shuffle, &mut donors, &mut recipients);
-    match printout::print_plan(
+    printout::print_plan(
         n,
         made.cycles,
         made.weight,
@@ -49,43 +47,36 @@ fn print_planned(
         made.tally.products,
         made.tally.rounds,
         out,
-    ) {
-        Printing::Length(length) => length,
-        Printing::Refused(_) => 0,
-    }
+    )
+    .unwrap()
 }
 
-// Builds the tables of the pool in the first n entries of its fields, by the points of its version, plans it, and prints the plan.
+// Builds the tables of the pool that its head and its fields say, by the points of its version, plans it, and prints the plan.
 fn print_pool(
-    version: u16,
-    n: usize,
+    head: Head,
     points: &[u16],
     fields: Fields,
     shuffle: &[u16],
     out: &mut [u8; 1458],
 ) -> usize
-    requires { Read version n (tables points.now (fields_in fields) shuffle.now) }
-    ensures { let q = points_of_table version points.now in
-        let plan = printed_plan_of q n (pair_in (fields_in fields.entry)) (item_in shuffle.now) in
+    requires { Read head.version head.pairs (tables points.now (fields_in fields) shuffle.now) }
+    ensures { let q = points_of_table head.version points.now in
+        let plan = printed_plan_of q head.pairs (pair_in (fields_in fields.entry)) (item_in shuffle.now) in
         outcome (finished result) out.new ≡ putting (plan_text plan) out.old }
 {
     // 40 rows of 40.
     let mut m = [0u8; 1600];
     let mut w = [0u16; 1600];
-    match weighing::build(version, n, points, fields, &mut m, &mut w) {
-        Building::Built => print_planned(n, &fields.ids[..n], &m, &w, &shuffle[..n], out),
-        Building::Refused(_) => 0,
-    }
+    let n = head.pairs;
+    weighing::build(head.version, n, points, fields, &mut m, &mut w).unwrap();
+    print_planned(n, &fields.ids[..n], &m, &w, &shuffle[..n], out)
 }
 
 // Prints a refusal, and gives the text's length.
-fn print_refused(why: Refusal, place: usize, out: &mut [u8; 1458]) -> usize
-    ensures { outcome (finished result) out.new ≡ putting (refusal_text (number_of why) place) out.old }
+fn print_refused(refused: Refused, out: &mut [u8; 1458]) -> usize
+    ensures { outcome (finished result) out.new ≡ putting (refusal_text (number_of refused.why) refused.place) out.old }
 {
-    match printout::print_refusal(why, place, out) {
-        Printing::Length(length) => length,
-        Printing::Refused(_) => 0,
-    }
+    printout::print_refusal(refused.why, refused.place, out).unwrap()
 }
 
 // Prints the answer to a sheet: the plan of its pool, or the refusal. Gives the text's length. A text has at most 1,458 bytes.
@@ -115,10 +106,9 @@ pub fn answer(sheet: &[u8], out: &mut [u8; 1458]) -> usize
         &mut patient_antibodies,
         &mut shuffle,
     ) {
-        Reading::Refused(why, place) => print_refused(why, place, out),
-        Reading::Pairs(version, n) => print_pool(
-            version,
-            n,
+        Err(refused) => print_refused(refused, out),
+        Ok(head) => print_pool(
+            head,
             &points,
             Fields {
                 ids: &ids,

@@ -8,16 +8,16 @@ pub print_pool-requires : goal.print_pool-requires
 unfolding room field_room
 print_pool-requires c =
     let r = c.read in
-    read_accepted _ _ _ r.result r.ensures.equals refl refl _ _ c.in-Pairs.is
+    read_accepted _ _ _ r.result r.ensures.equals refl refl _ c.in-Ok.is
 
-pub returns-in-Refused : goal.returns-in-Refused
+pub returns-in-Err : goal.returns-in-Err
 unfolding room field_room
-returns-in-Refused c =
+returns-in-Err c =
     let r = c.read in
-    refused_answer _ _ _ r.result r.ensures.equals refl refl _ _ _ _ _ c.in-Refused.is c.print_refused.ensures
+    refused_answer _ _ _ r.result r.ensures.equals refl refl _ _ _ _ c.in-Err.is c.print_refused.ensures
 
-pub returns-in-Pairs : goal.returns-in-Pairs
+pub returns-in-Ok : goal.returns-in-Ok
 unfolding room field_room
-returns-in-Pairs c =
+returns-in-Ok c =
     let r = c.read in
-    accepted_answer _ _ _ r.result r.ensures.equals refl refl _ _ c.in-Pairs.is _ _ _ c.print_pool.ensures
+    accepted_answer _ _ _ r.result r.ensures.equals refl refl _ c.in-Ok.is _ _ _ c.print_pool.ensures
