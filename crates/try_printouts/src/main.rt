@@ -150,13 +150,8 @@ fn try_plans(rt: &impl Print) -> io::Result<()> {
 // The example as a program prints it: into a buffer that always suffices for two pairs, so that there is no refusal, and the text alone.
 fn print_example(rt: &impl Print) -> io::Result<()> {
     let mut out = [b'#'; 204];
-    match printout::print_plan(2, 1, 2900, &[11, 12], &[1, 0], &[1, 0], 1, 6, 1, &mut out) {
-        Ok(n) => rt.write_all(&out[..n]),
-        Err(_) => {
-            prove!(false);
-            Ok(())
-        }
-    }
+    let n = printout::print_plan(2, 1, 2900, &[11, 12], &[1, 0], &[1, 0], 1, 6, 1, &mut out).unwrap();
+    rt.write_all(&out[..n])
 }
 
 fn run(rt: &impl Print) -> io::Result<()> {

@@ -11,19 +11,18 @@ use Rattle.try_printouts.proofs.print_example.Goals as goal
 abbrev example : PrintedPlan
 example = printed_plan 2 1 2900 (11 ∷ 12 ∷ []) (1 ∷ 0 ∷ []) (1 ∷ 0 ∷ []) 1 6 1
 
+pub unwrap-requires : goal.unwrap-requires
+unwrap-requires g c =
+    let p = c.print_plan in
+    never_refused {k = length (plan_text example)} p.result
+    (p.ensures.rightly.prints (record { ids = omega arith; donors = omega arith; recipients = omega arith }, omega arith))
+
 pub slice_bounds-out-end : goal.slice_bounds-out-end
 slice_bounds-out-end g c =
     let p = c.print_plan in
-    omega (arith, length_within p.result p.ensures.rightly.within c.in-Length.n c.in-Length.is)
+    omega (arith, length_within p.result p.ensures.rightly.within _ c.unwrap-n.ensures)
 
 pub slice_bounds-write_all-end : goal.slice_bounds-write_all-end
 slice_bounds-write_all-end g c =
     let p = c.print_plan in
-    sym (length-take-le c.in-Length.n p.new.out (omega (arith, length_within p.result p.ensures.rightly.within c.in-Length.n c.in-Length.is)))
-
-pub prove-unreachable-requires : goal.prove-unreachable-requires
-prove-unreachable-requires g c =
-    let p = c.print_plan in
-    never_refused {k = length (plan_text example)} p.result
-    (p.ensures.rightly.prints (record { ids = omega arith; donors = omega arith; recipients = omega arith }, omega arith)) c.in-Refused.field-0
-    c.in-Refused.is
+    sym (length-take-le c.unwrap-n.result p.new.out (omega (arith, length_within p.result p.ensures.rightly.within _ c.unwrap-n.ensures)))
