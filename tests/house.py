@@ -31,7 +31,9 @@ def used_by(name):
             text = without_comments(file)
             named = re.findall(r'\bRattle\.([a-z0-9_]+)', text)
             if folder == 'src':
-                named += re.findall(r'(?<![\w:])([a-z0-9_]+)::', text)
+                # what is brought in from std is not the kit's crate of the same name, as `io`
+                std = re.findall(r'\w+', ' '.join(''.join(names) for names in re.findall(r'^use std::(?:\{([\w, ]+)\};|(\w+)(?:;|::\{self\b))', text, re.M)))
+                named += [other for other in re.findall(r'(?<![\w:])([a-z0-9_]+)::', text) if other not in std]
             for other in set(named) & ({*house, *KIT} - {name}):
                 found.setdefault(other, file.relative_to(top))
     return found

@@ -75,8 +75,8 @@ module _ (v n : â„•) (t : Tables) (p : Read v n t) (old : Graph) (room : (1600 â
       })
       (record { compatibilities = omega (arith, square-most n p.few, room.0); weights = omega (arith, square-most n p.few, room.1) })
 
-  pub surely_built : IsOk a
-  surely_built = built_ok a surely
+  pub never_unbuilt : IsOk a
+  never_unbuilt = built_ok a surely
 
   -- ## What is built is planned
 

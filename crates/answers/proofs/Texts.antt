@@ -16,7 +16,7 @@ use Rattle.printout.specs.Calls.{printing_plan, printing_refusal}
 use Rattle.printout.specs.Answers.{answer_of}
 use Rattle.partners.specs.Preconditions.{PlanTablesHold}
 use Rattle.printout.specs.Promises.{plan_room, PrintsPlan, PrintsRefusal}
-use Rattle.printout.proofs.Answered.{surely_printed}
+use Rattle.printout.proofs.Answered.{never_refused}
 use Rattle.answers.specs.Most.{most}
 use Rattle.answers.specs.Answering.{putting}
 
@@ -43,7 +43,7 @@ module _ (out new : List ℕ) (l : length out ≡ plan_room most) (r : Result �
     refusal_printed = printed _ (refusal_text number place) out new r e refusal_sure
 
     pub refusal_surely : IsOk r
-    refusal_surely = surely_printed r refusal_sure
+    refusal_surely = never_refused r refusal_sure
 
   module _ (p : PrintedPlan) (e : outcome (answer_of r) new ≡ printing_plan p out) (w : PrintsPlan p out (outcome (answer_of r) new))
       (h : PlanTablesHold p.pairs p.ids p.donors p.recipients) (few : p.pairs ≤ most) where
@@ -55,7 +55,7 @@ module _ (out new : List ℕ) (l : length out ≡ plan_room most) (r : Result �
     plan-printed = printed _ (plan_text p) out new r e plan_sure
 
     pub plan_surely : IsOk r
-    plan_surely = surely_printed r plan_sure
+    plan_surely = never_refused r plan_sure
 
 -- what was put into a buffer is no longer than it
 pub put_fits : (text out new : List ℕ) (k : ℕ) → outcome (finished k) new ≡ putting text out → k ≤ length new

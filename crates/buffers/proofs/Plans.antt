@@ -89,8 +89,8 @@ module _ (n : ℕ) (M W s : List ℕ) (p : FaultlessTables (request n no_floor M
       answer_is : Planner.answer_of x ≡ finished (plan_from (input_of a))
       answer_is = ap (λ (o : Outcome Plan Lent). o.answer) outcome_is
 
-      pub surely_planned : IsOk x
-      surely_planned = planned_ok x answer_is
+      pub never_refused : IsOk x
+      never_refused = planned_ok x answer_is
 
       pub partnered : (q : Planned) → x ≡ Ok q → Partnered a t.donors t.recipients (plan_in q) u.donors u.recipients
       unfolding Planner.answer_of filled_lent

@@ -1,5 +1,5 @@
 -- The laws of the gates. Assumes nothing.
-use Prim.Native.Nat.{ℕ, ◌+◌, ◌≤◌}
+use Prim.Native.Nat.{ℕ, ◌+◌}
 use mathlib.Core.Bool.{Bool, true, false, cond}
 use mathlib.Core.Path.{◌≡◌, ap, ◌∙◌}
 use native.Mathlib.Omega.{arith}
@@ -13,11 +13,6 @@ use Rattle.gates.specs.declared.Secret.{Secret}
 use Rattle.gates.specs.declared.Tally.{Tally}
 
 -- ## A bit that is a test
-
-pub bit_le : (t : Bool) (bit : ℕ) → bit ≡ one t → bit ≤ 1
-unfolding one
-bit_le true bit e = omega arith
-bit_le false bit e = omega arith
 
 pub pick_by : (t : Bool) (bit a b x : ℕ) → bit ≡ one t → x ≡ cond (eqb bit 1) a b → x ≡ cond t a b
 unfolding one

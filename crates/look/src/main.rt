@@ -1,177 +1,210 @@
 // Reads a pool sheet from standard input and says what it found: the points of version 2, the pairs and the shuffle, or the refusal's number and place.
 #![tactic(auto)]
 
-ghost use Rattle.std.specs.Prelude.{◌≤◌};
+ghost use Rattle.std.specs.Prelude.{◌<◌, ◌≤◌, IfOk};
 
-use reader::Reading;
+use refusal::Refused;
+use std::fmt;
 
-fn print(text: &[u8]) {
-    io::write_all(1, text);
+#[derive(Clone, Copy)]
+enum Blood {
+    O,
+    A,
+    B,
+    Ab,
 }
 
-fn print_number(n: u64) {
-    io::print_decimal(1, n);
-}
-
-fn print_blood(group: u8) {
-    match group {
-        0 => print(b"O"),
-        1 => print(b"A"),
-        2 => print(b"B"),
-        _ => print(b"AB"),
+// An accepted sheet has no number but 0 to 3.
+impl From<u8> for Blood {
+    fn from(group: u8) -> Self {
+        match group {
+            0 => Self::O,
+            1 => Self::A,
+            2 => Self::B,
+            _ => Self::Ab,
+        }
     }
 }
 
-fn print_age(group: u8) {
-    match group {
-        0 => print(b" young"),
-        _ => print(b" senior"),
+impl fmt::Display for Blood {
+    fn fmt<W: fmt::Write>(&self, f: &mut fmt::Formatter<W>) -> fmt::Result {
+        f.write_str(match self {
+            Self::O => "O",
+            Self::A => "A",
+            Self::B => "B",
+            Self::Ab => "AB",
+        })
     }
 }
 
-fn print_person(who: &[u8], blood: u8, age: u8) {
-    print(who);
-    print_blood(blood);
-    print_age(age);
+#[derive(Clone, Copy)]
+enum Age {
+    Young,
+    Senior,
 }
 
-// Antigens and antibodies in hexadecimal, one bit per entry of the laboratory's list.
-fn print_tissue(what: &[u8], bits: u64) {
-    print(what);
-    io::print_hex(1, bits, 1);
+// An accepted sheet has no number but 0 and 1.
+impl From<u8> for Age {
+    fn from(group: u8) -> Self {
+        match group {
+            0 => Self::Young,
+            _ => Self::Senior,
+        }
+    }
 }
 
-fn print_pair(
-    id: u32,
-    donor_blood: u8,
-    patient_blood: u8,
-    donor_age: u8,
-    patient_age: u8,
-    donor_antigens: u64,
-    patient_antigens: u64,
-    patient_antibodies: u64,
-) {
-    print(b"pair ");
-    print_number(id as u64);
-    print_person(b": donor ", donor_blood, donor_age);
-    print_tissue(b" antigens ", donor_antigens);
-    print_person(b", patient ", patient_blood, patient_age);
-    print_tissue(b" antigens ", patient_antigens);
-    print_tissue(b" antibodies ", patient_antibodies);
-    print(b"\n");
+impl fmt::Display for Age {
+    fn fmt<W: fmt::Write>(&self, f: &mut fmt::Formatter<W>) -> fmt::Result {
+        f.write_str(match self {
+            Self::Young => "young",
+            Self::Senior => "senior",
+        })
+    }
 }
 
-fn print_pairs(
+// A donor or a patient; the antigens are one bit per entry of the laboratory's list.
+#[derive(Clone, Copy)]
+struct Person {
+    blood: Blood,
+    age: Age,
+    antigens: u64,
+}
+
+impl fmt::Display for Person {
+    fn fmt<W: fmt::Write>(&self, f: &mut fmt::Formatter<W>) -> fmt::Result {
+        let Self {
+            blood,
+            age,
+            antigens,
+        } = self;
+        write!(f, "{blood} {age} antigens {antigens:x}")
+    }
+}
+
+// Numbers in a row, each after a blank.
+#[derive(Clone, Copy)]
+struct Row<'a>(&'a [u16]);
+
+impl fmt::Display for Row<'_> {
+    fn fmt<W: fmt::Write>(&self, f: &mut fmt::Formatter<W>) -> fmt::Result {
+        for number in self.0 {
+            write!(f, " {number}")?;
+        }
+        Ok(())
+    }
+}
+
+// What a sheet says.
+#[derive(Clone, Copy)]
+struct Pool {
+    version: u16,
     n: usize,
-    ids: &[u32; 200],
-    donor_blood: &[u8; 200],
-    patient_blood: &[u8; 200],
-    donor_age: &[u8; 200],
-    patient_age: &[u8; 200],
-    donor_antigens: &[u64; 200],
-    patient_antigens: &[u64; 200],
-    patient_antibodies: &[u64; 200],
-)
-    requires { n ≤ 200 }
-{
-    let mut i: usize = 0;
-    while i < n {
-        print_pair(
-            ids[i],
-            donor_blood[i],
-            patient_blood[i],
-            donor_age[i],
-            patient_age[i],
-            donor_antigens[i],
-            patient_antigens[i],
-            patient_antibodies[i],
-        );
-        i += 1;
+    points: [u16; 6],
+    ids: [u32; 200],
+    donor_blood: [u8; 200],
+    patient_blood: [u8; 200],
+    donor_age: [u8; 200],
+    patient_age: [u8; 200],
+    donor_antigens: [u64; 200],
+    patient_antigens: [u64; 200],
+    patient_antibodies: [u64; 200],
+    shuffle: [u16; 200],
+}
+
+impl Pool {
+    // The pool of a sheet, or the first of its faults and its place.
+    fn read(sheet: &[u8]) -> Result<Self, Refused>
+        ensures { IfOk result (λ p. p.n ≤ 200) }
+    {
+        let mut points = [0; 6];
+        let mut ids = [0; 200];
+        let mut donor_blood = [0; 200];
+        let mut patient_blood = [0; 200];
+        let mut donor_age = [0; 200];
+        let mut patient_age = [0; 200];
+        let mut donor_antigens = [0; 200];
+        let mut patient_antigens = [0; 200];
+        let mut patient_antibodies = [0; 200];
+        let mut shuffle = [0; 200];
+        let head = reader::read(
+            sheet,
+            &mut points,
+            &mut ids,
+            &mut donor_blood,
+            &mut patient_blood,
+            &mut donor_age,
+            &mut patient_age,
+            &mut donor_antigens,
+            &mut patient_antigens,
+            &mut patient_antibodies,
+            &mut shuffle,
+        )?;
+        Ok(Self {
+            version: head.version,
+            n: head.pairs,
+            points,
+            ids,
+            donor_blood,
+            patient_blood,
+            donor_age,
+            patient_age,
+            donor_antigens,
+            patient_antigens,
+            patient_antibodies,
+            shuffle,
+        })
+    }
+
+    fn donor(&self, i: usize) -> Person
+        requires { i < 200 }
+    {
+        Person {
+            blood: Blood::from(self.donor_blood[i]),
+            age: Age::from(self.donor_age[i]),
+            antigens: self.donor_antigens[i],
+        }
+    }
+
+    fn patient(&self, i: usize) -> Person
+        requires { i < 200 }
+    {
+        Person {
+            blood: Blood::from(self.patient_blood[i]),
+            age: Age::from(self.patient_age[i]),
+            antigens: self.patient_antigens[i],
+        }
+    }
+
+    fn print(&self, rt: &impl Print) -> std::io::Result<()>
+        requires { self.now.n ≤ 200 }
+    {
+        println!(rt; "{} pairs", self.n)?;
+        // Version 1 has no points.
+        if layout::has_points(self.version) {
+            println!(rt; "points{}", Row(&self.points))?;
+        }
+        for i in 0..self.n {
+            let id = self.ids[i];
+            let donor = self.donor(i);
+            let patient = self.patient(i);
+            let antibodies = self.patient_antibodies[i];
+            println!(rt; "pair {id}: donor {donor}, patient {patient} antibodies {antibodies:x}")?;
+        }
+        println!(rt; "shuffle{}", Row(&self.shuffle[..self.n]))
     }
 }
 
-// A number of a list, after a blank.
-fn print_entry(entry: u16) {
-    print(b" ");
-    print_number(entry as u64);
+fn look(rt: &impl Print, sheet: &[u8]) -> std::io::Result<()> {
+    match Pool::read(sheet) {
+        Ok(pool) => pool.print(rt),
+        Err(refused) => println!(rt; "REFUSED {} {}", refused.why.number(), refused.place),
+    }
 }
 
-// The six points in the sheet's order. Version 1 has none.
-fn print_points(version: u16, points: &[u16; 6]) {
-    if !layout::has_points(version) {
-        return;
-    }
-    print(b"points");
-    let mut k: usize = 0;
-    while k < 6 {
-        print_entry(points[k]);
-        k += 1;
-    }
-    print(b"\n");
-}
-
-fn print_shuffle(n: usize, shuffle: &[u16; 200])
-    requires { n ≤ 200 }
-{
-    print(b"shuffle");
-    let mut i: usize = 0;
-    while i < n {
-        print_entry(shuffle[i]);
-        i += 1;
-    }
-    print(b"\n");
-}
-
-fn main() {
+fn main(rt: HostRuntime) {
     // The longest sheet has 7,425 bytes; one more shows that bytes are left over.
-    let mut input = [0u8; 7426];
+    let mut input = [0; 7426];
     let size = io::read_full(0, &mut input);
-    let mut points = [0u16; 6];
-    let mut ids = [0u32; 200];
-    let mut donor_blood = [0u8; 200];
-    let mut patient_blood = [0u8; 200];
-    let mut donor_age = [0u8; 200];
-    let mut patient_age = [0u8; 200];
-    let mut donor_antigens = [0u64; 200];
-    let mut patient_antigens = [0u64; 200];
-    let mut patient_antibodies = [0u64; 200];
-    let mut shuffle = [0u16; 200];
-    match reader::read(
-        &input[..size],
-        &mut points,
-        &mut ids,
-        &mut donor_blood,
-        &mut patient_blood,
-        &mut donor_age,
-        &mut patient_age,
-        &mut donor_antigens,
-        &mut patient_antigens,
-        &mut patient_antibodies,
-        &mut shuffle,
-    ) {
-        Reading::Refused(why, place) => {
-            print(b"REFUSED ");
-            print_number(refusal::number(why) as u64);
-            print(b" ");
-            print_number(place as u64);
-            print(b"\n");
-        }
-        Reading::Pairs(version, n) => {
-            print_number(n as u64);
-            print(b" pairs\n");
-            print_points(version, &points);
-            print_pairs(
-                n,
-                &ids,
-                &donor_blood,
-                &patient_blood,
-                &donor_age,
-                &patient_age,
-                &donor_antigens,
-                &patient_antigens,
-                &patient_antibodies,
-            );
-            print_shuffle(n, &shuffle);
-        }
-    }
+    // Output that is lost is lost silently.
+    let _ = look(&rt, &input[..size]);
 }

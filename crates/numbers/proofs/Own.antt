@@ -49,7 +49,7 @@ from_one WeightlessEdge = omega arith
 at_0 : {Given : Type 0} (why : Refusal) → NumberedAt0 {Result = Given} (refused (number_of why) 0)
 at_0 why k o e = let f : k ≡ number_of why = cc in let g : o ≡ 0 = cc in (rw f (from_one why), g)
 
-of_finished : {Given : Type 0} (x : Result) → NumberedAt0 (finished x)
+of_finished : {Given : Type 0} (x : Given) → NumberedAt0 (finished x)
 of_finished x k o e = let z : ◌≡◌ {A = ℕ} 0 1 = cc in absurd (omega arith)
 
 of_refused : {Given : Type 0} (why : Refusal) (place : ℕ) → Numbered {Result = Given} (refused (number_of why) place)

@@ -190,9 +190,9 @@ unfolding answer_of
 length_within r w n e = w n (rw e)
 
 -- what is surely printed is not refused
-pub surely_printed : {k : ℕ} (r : Result ℕ Refusal) → answer_of r ≡ finished k → IsOk r
+pub never_refused : {k : ℕ} (r : Result ℕ Refusal) → answer_of r ≡ finished k → IsOk r
 unfolding answer_of
-surely_printed (Ok n) f = refl
-surely_printed (Err why) f =
+never_refused (Ok n) f = refl
+never_refused (Err why) f =
     let z : ◌≡◌ {A = ℕ} 0 1 = cc in
     absurd (omega arith)

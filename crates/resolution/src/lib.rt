@@ -80,6 +80,7 @@ fn give(a: u16, b: u16, donors: &mut [u16], recipients: &mut [u16])
 }
 
 // The edges of a cycle.
+#[tactic(auto, using(crate::proofs::Partnered::given_two, crate::proofs::Partnered::received_two, crate::proofs::Partnered::given_three, crate::proofs::Partnered::received_three))]
 fn engage(n: usize, c: Cycle, donors: &mut [u16], recipients: &mut [u16])
     requires { Partners n c donors.old recipients.old }
     ensures { (recipients.new ≡ given (edges (pairs_of n c)) recipients.old)

@@ -1,9 +1,10 @@
 -- Turns of the loops that count, compare and take out. Assumes nothing.
 use mathlib.Core.Path.{◌≡◌, refl, sym, ap, ap₂, ◌∙◌}
-use mathlib.Core.Bool.{not}
+use mathlib.Core.Bool.{Bool, true, false, not}
 use mathlib.Core.List.{List, ◌++◌}
 use Prim.Native.Nat.{ℕ, zero, suc, ◌+◌, ◌-◌, ◌*◌, ◌≤◌, ◌<◌}
 use native.Mathlib.Omega.{arith}
+use mir.Val.{bool_byte}
 use lib.Dec.{eqb}
 use lib.ListN.{length, set, take, drop, replicate, length-replicate, get_or-replicate}
 use lib.Seq.{length-take-le}
@@ -24,6 +25,12 @@ use Rattle.suiting.specs.Preconditions.{Countable, CountedAbove, Lowerable}
 -- what stands past the entries that are filled
 filling_past : (j k : ℕ) (f : ℕ → ℕ) (old t : List ℕ) → Filling j f old t → j ≤ k → item_in t k ≡ item_in old k
 filling_past j k f old t w l = ap (λ (s : List ℕ). item_in s k) w.holds ∙ filled_past (table j f) old k (rw (length-table) l)
+
+-- a test as a number
+pub as_number : (t : Bool) → bool_byte t ≡ one t
+unfolding one
+as_number true = refl
+as_number false = refl
 
 -- n zeros, and what stood past them
 pub cleared : (n : ℕ) (old zeros : List ℕ) → n ≤ length old → zeros ≡ replicate (length (take n old)) 0 → zeros ++ drop n old ≡ filled (table n (λ _. 0)) old
@@ -122,8 +129,8 @@ is_compared n m counts old t e =
 -- ## A pair goes
 
 -- where a patient's number stood
-pub before_inside : (a n j : ℕ) → j < n - 1 → (before : ℕ) → before ≡ up a j → before < n
-before_inside a n j l before e = rw e (up-below a n j l)
+pub before_inside : (a n j before : ℕ) → before ≡ up a j → j < n - 1 → before < n
+before_inside a n j before e l = rw e (up-below a n j l)
 
 module _ (a n : ℕ) (m old : List ℕ) (w : Lowerable a n m old) (j : ℕ) (l : j < n - 1) (t : List ℕ)
     (v : Filling j (ones_in (n - 1) (without_row a n m)) old t) (before : ℕ) (e : before ≡ up a j) where
@@ -132,7 +139,7 @@ module _ (a n : ℕ) (m old : List ℕ) (w : Lowerable a n m old) (j : ℕ) (l :
     number_before : item_in t before ≡ ones_in (n - 1) (without_row a n m) j + x
     number_before =
         filling_past j before _ old t v (rw e (up_least a j))
-        ∙ w.numbered before (before_inside a n j l before e)
+        ∙ w.numbered before (before_inside a n j before e l)
         ∙ ap (ones_in n m) e
         ∙ ones_without a n m j w.inside l
         ∙ ap (λ (y : ℕ). ones_in (n - 1) (without_row a n m) j + y) (sym (rw e at s))

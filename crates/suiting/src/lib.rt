@@ -70,6 +70,7 @@ pub fn judge(n: usize, compatibilities: &[u8], suitable: &[u16]) -> Result<(), R
 }
 
 // Pair a of n goes, while M still has its row: each number moves to its patient's new place, less by one where donor a suits that patient.
+#[tactic(auto, using(crate::proofs::Counting::before_inside, graph::proofs::Rows::row_fits, graph::proofs::Rows::rows_few))]
 pub fn take_out(a: usize, n: usize, compatibilities: &[u8], suitable: &mut [u16])
     requires { Lowerable a n compatibilities.now suitable.old }
     ensures { suitable.new ≡ with_numbers (n - 1) (without_row a n compatibilities.now) suitable.old }

@@ -3,11 +3,11 @@
 // to the file 'stdout'. Every lent entry holds 99 before a call, and the first one past the filled part is printed too.
 #![tactic(auto)]
 
-ghost use Rattle.std.specs.Prelude.{◌≤◌, length};
+ghost use Rattle.std.specs.Prelude.{◌≤◌};
 
 use fields::Fields;
 use refusal::Refusal;
-use weighing::Building;
+use std::{fmt, io};
 
 // Registries' points: one in which more mismatches and a senior patient weigh more; one whose heaviest edge is as heavy as may be; document 01's.
 const REGISTRIES: [[u16; 6]; 3] = [
@@ -17,73 +17,75 @@ const REGISTRIES: [[u16; 6]; 3] = [
 ];
 
 // The ages of a donor and a patient, and their antigens, for every step: no mismatch with equal ages, young to senior, senior to young; then 1, 2, 3, 4 and 5.
-const STEPS: [[u64; 4]; 9] = [
-    [1, 1, 7, 7],
-    [0, 1, 7, 7],
-    [1, 0, 7, 7],
-    [1, 0, 1, 0],
-    [0, 0, 3, 0],
-    [0, 1, 7, 0],
-    [1, 0, 15, 0],
-    [1, 1, 31, 0],
-    [1, 0, 31, 0],
+const STEPS: [(u8, u8, u64, u64); 9] = [
+    (1, 1, 7, 7),
+    (0, 1, 7, 7),
+    (1, 0, 7, 7),
+    (1, 0, 1, 0),
+    (0, 0, 3, 0),
+    (0, 1, 7, 0),
+    (1, 0, 15, 0),
+    (1, 1, 31, 0),
+    (1, 0, 31, 0),
 ];
 
 // The version, N, the base, the second step and the last, how many points are lent, the donor's blood group and the space for M. What 14 lets pass and what
 // it refuses; version 1, whatever is lent; and what comes first of two faults, 3, 4, 9, 14, 6, 9.
-const BUILT: [[u16; 8]; 20] = [
-    [2, 2, 65535, 0, 0, 6, 0, 4],
-    [2, 2, 0, 250, 30, 6, 0, 4],
-    [2, 2, 1, 65534, 0, 6, 0, 4],
-    [2, 2, 2, 65534, 0, 6, 0, 4],
-    [2, 2, 5, 65000, 530, 6, 0, 4],
-    [2, 2, 5, 65000, 531, 6, 0, 4],
-    [1, 2, 0, 65535, 65535, 0, 0, 4],
-    [1, 2, 0, 65535, 65535, 5, 0, 4],
-    [1, 2, 0, 65535, 65535, 6, 0, 4],
-    [0, 201, 0, 0, 0, 5, 4, 3],
-    [3, 2, 1000, 250, 30, 6, 0, 4],
-    [2, 201, 0, 0, 0, 5, 4, 3],
-    [2, 3, 0, 0, 0, 6, 4, 3],
-    [2, 2, 0, 0, 0, 5, 4, 3],
-    [2, 0, 0, 0, 0, 5, 4, 3],
-    [2, 2, 0, 0, 0, 6, 4, 3],
-    [2, 0, 0, 0, 0, 6, 4, 3],
-    [2, 2, 1000, 250, 30, 6, 4, 3],
-    [2, 2, 1000, 250, 30, 6, 0, 3],
-    [2, 2, 1000, 250, 30, 6, 0, 4],
+const BUILT: [(u16, usize, u16, u16, u16, usize, u8, usize); 20] = [
+    (2, 2, 65535, 0, 0, 6, 0, 4),
+    (2, 2, 0, 250, 30, 6, 0, 4),
+    (2, 2, 1, 65534, 0, 6, 0, 4),
+    (2, 2, 2, 65534, 0, 6, 0, 4),
+    (2, 2, 5, 65000, 530, 6, 0, 4),
+    (2, 2, 5, 65000, 531, 6, 0, 4),
+    (1, 2, 0, 65535, 65535, 0, 0, 4),
+    (1, 2, 0, 65535, 65535, 5, 0, 4),
+    (1, 2, 0, 65535, 65535, 6, 0, 4),
+    (0, 201, 0, 0, 0, 5, 4, 3),
+    (3, 2, 1000, 250, 30, 6, 0, 4),
+    (2, 201, 0, 0, 0, 5, 4, 3),
+    (2, 3, 0, 0, 0, 6, 4, 3),
+    (2, 2, 0, 0, 0, 5, 4, 3),
+    (2, 0, 0, 0, 0, 5, 4, 3),
+    (2, 2, 0, 0, 0, 6, 4, 3),
+    (2, 0, 0, 0, 0, 6, 4, 3),
+    (2, 2, 1000, 250, 30, 6, 4, 3),
+    (2, 2, 1000, 250, 30, 6, 0, 3),
+    (2, 2, 1000, 250, 30, 6, 0, 4),
 ];
 
-fn print(text: &[u8]) {
-    io::write_all(1, text);
+// The blood groups by number and name.
+const BLOODS: [(u8, &str); 4] = [(0, "O"), (1, "A"), (2, "B"), (3, "AB")];
+
+// Entries of a table, each after a blank.
+#[derive(Clone, Copy)]
+struct Row<'a, T>(&'a [T]);
+
+impl<T: fmt::Display> fmt::Display for Row<'_, T> {
+    fn fmt<W: fmt::Write>(&self, f: &mut fmt::Formatter<W>) -> fmt::Result {
+        for entry in self.0 {
+            write!(f, " {entry}")?;
+        }
+        Ok(())
+    }
 }
 
-fn print_number(n: u64) {
-    print(b" ");
-    io::print_decimal(1, n);
-}
+// What building answered.
+#[derive(Clone, Copy)]
+struct Answer(Result<(), Refusal>);
 
-fn print_byte(n: u8) {
-    print_number(n as u64);
-}
-
-fn print_weight(n: u16) {
-    print_number(n as u64);
-}
-
-fn print_answer(answer: Building) {
-    match answer {
-        Building::Built => print(b" built"),
-        Building::Refused(why) => {
-            print(b" refused");
-            print_byte(refusal::number(why));
+impl fmt::Display for Answer {
+    fn fmt<W: fmt::Write>(&self, f: &mut fmt::Formatter<W>) -> fmt::Result {
+        match self.0 {
+            Ok(()) => write!(f, " built"),
+            Err(why) => write!(f, " refused {}", why.number()),
         }
     }
 }
 
 // The first pair's donor and the second pair's patient; the second pair's donor and the first pair's patient are O, young, with no antigens and
 // no antibodies.
-#[derive(Clone, Copy)]
+#[derive(Clone, Copy, Default)]
 struct Edge {
     donor_blood: u8,
     patient_blood: u8,
@@ -96,13 +98,11 @@ struct Edge {
 
 fn weighed(donor_age: u8, patient_age: u8, donor_antigens: u64, patient_antigens: u64) -> Edge {
     Edge {
-        donor_blood: 0,
-        patient_blood: 0,
         donor_age,
         patient_age,
         donor_antigens,
         patient_antigens,
-        patient_antibodies: 0,
+        ..Edge::default()
     }
 }
 
@@ -110,414 +110,342 @@ fn of_blood(donor_blood: u8, patient_blood: u8) -> Edge {
     Edge {
         donor_blood,
         patient_blood,
-        donor_age: 0,
-        patient_age: 0,
-        donor_antigens: 0,
-        patient_antigens: 0,
-        patient_antibodies: 0,
+        ..Edge::default()
     }
 }
 
 fn of_tissue(donor_antigens: u64, patient_antigens: u64, patient_antibodies: u64) -> Edge {
     Edge {
-        donor_blood: 0,
-        patient_blood: 0,
-        donor_age: 0,
-        patient_age: 0,
         donor_antigens,
         patient_antigens,
         patient_antibodies,
+        ..Edge::default()
     }
 }
 
-// Builds the tables of n pairs, n up to 2, of which the second has this id, by the points of this version.
-fn build_two(
+// What is built: the tables of n pairs, n up to 2, of which the second has this id, by the points of this version, where M has space for `m_space` entries
+// and W for `w_space`.
+#[derive(Clone, Copy)]
+struct Build<'a> {
     version: u16,
     n: usize,
-    points: &[u16],
+    points: &'a [u16],
     second_id: u32,
     edge: Edge,
-    m: &mut [u8],
-    w: &mut [u16],
-) -> Building {
-    let ids = [1, second_id];
-    let donor_blood = [edge.donor_blood, 0];
-    let patient_blood = [0, edge.patient_blood];
-    let donor_age = [edge.donor_age, 0];
-    let patient_age = [0, edge.patient_age];
-    let donor_antigens = [edge.donor_antigens, 0];
-    let patient_antigens = [0, edge.patient_antigens];
-    let patient_antibodies = [0, edge.patient_antibodies];
-    weighing::build(
-        version,
-        n,
-        points,
-        Fields {
-            ids: &ids,
-            donor_blood: &donor_blood,
-            patient_blood: &patient_blood,
-            donor_age: &donor_age,
-            patient_age: &patient_age,
-            donor_antigens: &donor_antigens,
-            patient_antigens: &patient_antigens,
-            patient_antibodies: &patient_antibodies,
-        },
-        m,
-        w,
-    )
+    m_space: usize,
+    w_space: usize,
 }
 
-// The same in the first entries of two tables.
-fn build_within(
-    version: u16,
-    n: usize,
-    points: &[u16],
-    second_id: u32,
-    edge: Edge,
-    m: &mut [u8],
-    m_space: usize,
-    w: &mut [u16],
-    w_space: usize,
-) -> Building
-    requires { (m_space ≤ length m.old) × (w_space ≤ length w.old) }
+// Two pairs in version 1, with no table of points.
+fn usual(edge: Edge) -> Build<'static>
+    ensures { (result.m_space ≤ 5) × (result.w_space ≤ 5) }
 {
-    build_two(
-        version,
-        n,
-        points,
-        second_id,
+    Build {
+        version: 1,
+        n: 2,
+        points: &[],
+        second_id: 2,
         edge,
-        &mut m[..m_space],
-        &mut w[..w_space],
-    )
+        m_space: 5,
+        w_space: 5,
+    }
 }
 
-// M's four entries and the one past them, then W's.
-fn print_tables(m: [u8; 5], w: [u16; 5]) {
-    print(b" M");
-    print_byte(m[0]);
-    print_byte(m[1]);
-    print_byte(m[2]);
-    print_byte(m[3]);
-    print(b" past");
-    print_byte(m[4]);
-    print(b" W");
-    print_weight(w[0]);
-    print_weight(w[1]);
-    print_weight(w[2]);
-    print_weight(w[3]);
-    print(b" past");
-    print_weight(w[4]);
-    print(b"\n");
+impl Build<'_> {
+    // Prints what building answers and leaves: M's four entries and the one past them, then W's.
+    fn attempt(self, rt: &impl Print, name: impl fmt::Display + Drop) -> io::Result<()>
+        requires { (self.m_space ≤ 5) × (self.w_space ≤ 5) }
+    {
+        let edge = self.edge;
+        let mut m = [99; 5];
+        let mut w = [99; 5];
+        let answer = Answer(weighing::build(
+            self.version,
+            self.n,
+            self.points,
+            Fields {
+                ids: &[1, self.second_id],
+                donor_blood: &[edge.donor_blood, 0],
+                patient_blood: &[0, edge.patient_blood],
+                donor_age: &[edge.donor_age, 0],
+                patient_age: &[0, edge.patient_age],
+                donor_antigens: &[edge.donor_antigens, 0],
+                patient_antigens: &[0, edge.patient_antigens],
+                patient_antibodies: &[0, edge.patient_antibodies],
+            },
+            &mut m[..self.m_space],
+            &mut w[..self.w_space],
+        ));
+        print!(rt; "{name}:{answer} M{} past {}", Row(&m[..4]), m[4])?;
+        println!(rt; " W{} past {}", Row(&w[..4]), w[4])
+    }
 }
 
-// What building answers and leaves where M has space for `m_space` entries and W for `w_space`.
-fn try_building(
-    name: &[u8],
-    version: u16,
-    n: usize,
-    points: &[u16],
-    second_id: u32,
-    edge: Edge,
-    m_space: usize,
-    w_space: usize,
-)
-    requires { (m_space ≤ 5) × (w_space ≤ 5) }
-{
-    let mut m = [99u8; 5];
-    let mut w = [99u16; 5];
-    print(name);
-    print_answer(build_within(
-        version, n, points, second_id, edge, &mut m, m_space, &mut w, w_space,
-    ));
-    print_tables(m, w);
-}
-
-// In version 1, with no table of points.
-fn try_pairs(name: &[u8], n: usize, second_id: u32, edge: Edge, m_space: usize, w_space: usize)
-    requires { (m_space ≤ 5) × (w_space ≤ 5) }
-{
-    let none = [0u16; 0];
-    try_building(name, 1, n, &none, second_id, edge, m_space, w_space);
-}
-
-fn try_edge(name: &[u8], edge: Edge) {
-    try_pairs(name, 2, 2, edge, 5, 5);
+fn try_edge(rt: &impl Print, name: impl fmt::Display + Drop, edge: Edge) -> io::Result<()> {
+    usual(edge).attempt(rt, name)
 }
 
 // "0 mismatches, equal ages 1,450; 2 give 1,300; 3, young to senior 1,130; 4, the same 1,130; 5, senior to young 1,000", "read with the mismatches all
 // on the donor's side", and the steps' other edges.
-fn try_edges() {
-    try_edge(b"0 mismatches, equal ages:", weighed(0, 0, 0, 0));
-    try_edge(b"0 mismatches, both senior:", weighed(1, 1, 5, 5));
-    try_edge(b"1 mismatch, equal ages:", weighed(0, 0, 5, 4));
-    try_edge(b"2 mismatches, equal ages:", weighed(0, 0, 3, 0));
-    try_edge(b"3 mismatches, young to senior:", weighed(0, 1, 7, 0));
-    try_edge(b"4 mismatches, young to senior:", weighed(0, 1, 15, 0));
-    try_edge(b"5 mismatches, senior to young:", weighed(1, 0, 31, 0));
+fn try_edges(rt: &impl Print) -> io::Result<()> {
+    try_edge(rt, "0 mismatches, equal ages", weighed(0, 0, 0, 0))?;
+    try_edge(rt, "0 mismatches, both senior", weighed(1, 1, 5, 5))?;
+    try_edge(rt, "1 mismatch, equal ages", weighed(0, 0, 5, 4))?;
+    try_edge(rt, "2 mismatches, equal ages", weighed(0, 0, 3, 0))?;
+    try_edge(rt, "3 mismatches, young to senior", weighed(0, 1, 7, 0))?;
+    try_edge(rt, "4 mismatches, young to senior", weighed(0, 1, 15, 0))?;
+    try_edge(rt, "5 mismatches, senior to young", weighed(1, 0, 31, 0))?;
     try_edge(
-        b"64 mismatches, equal ages:",
+        rt,
+        "64 mismatches, equal ages",
         weighed(0, 0, 18446744073709551615, 0),
-    );
+    )
 }
 
 // Of the donor's antigens the patient has some: three of five, two of six, and all but entry 32 of all.
-fn try_shared() {
-    try_edge(b"2 mismatches of 5, equal ages:", weighed(0, 0, 31, 28));
+fn try_shared(rt: &impl Print) -> io::Result<()> {
+    try_edge(rt, "2 mismatches of 5, equal ages", weighed(0, 0, 31, 28))?;
     try_edge(
-        b"4 mismatches of 6, young to senior:",
+        rt,
+        "4 mismatches of 6, young to senior",
         weighed(0, 1, 63, 48),
-    );
+    )?;
     try_edge(
-        b"1 mismatch of 64, equal ages:",
+        rt,
+        "1 mismatch of 64, equal ages",
         weighed(0, 0, 18446744073709551615, 18446744069414584319),
-    );
+    )
 }
 
 // "A patient antigen missing in the donor no longer counts": some of these beside the mismatches, and alone.
-fn try_patients_own() {
+fn try_patients_own(rt: &impl Print) -> io::Result<()> {
     try_edge(
-        b"1 mismatch, 2 of the patient's alone, equal ages:",
+        rt,
+        "1 mismatch, 2 of the patient's alone, equal ages",
         weighed(0, 0, 4, 3),
-    );
+    )?;
     try_edge(
-        b"2 mismatches, 1 of the patient's alone, equal ages:",
+        rt,
+        "2 mismatches, 1 of the patient's alone, equal ages",
         weighed(0, 0, 3, 4),
-    );
+    )?;
     try_edge(
-        b"3 mismatches, 2 of the patient's alone, young to senior:",
+        rt,
+        "3 mismatches, 2 of the patient's alone, young to senior",
         weighed(0, 1, 7, 24),
-    );
+    )?;
     try_edge(
-        b"4 mismatches, 2 of the patient's alone, young to senior:",
+        rt,
+        "4 mismatches, 2 of the patient's alone, young to senior",
         weighed(0, 1, 60, 3),
-    );
+    )?;
     try_edge(
-        b"5 mismatches, 59 of the patient's alone, senior to young:",
+        rt,
+        "5 mismatches, 59 of the patient's alone, senior to young",
         weighed(1, 0, 31, 18446744073709551584),
-    );
+    )?;
     try_edge(
-        b"0 mismatches, 5 of the patient's alone, senior to young:",
+        rt,
+        "0 mismatches, 5 of the patient's alone, senior to young",
         weighed(1, 0, 0, 31),
-    );
+    )?;
     try_edge(
-        b"0 mismatches, 64 of the patient's alone, equal ages:",
+        rt,
+        "0 mismatches, 64 of the patient's alone, equal ages",
         weighed(0, 0, 0, 18446744073709551615),
-    );
+    )
 }
 
 // The first and the last entry of the laboratory's list, the donor's or the patient's.
-fn try_ends() {
-    try_edge(b"the donor's entry 0 alone:", weighed(0, 0, 1, 0));
-    try_edge(b"the patient's entry 0 alone:", weighed(0, 0, 0, 1));
+fn try_ends(rt: &impl Print) -> io::Result<()> {
+    try_edge(rt, "the donor's entry 0 alone", weighed(0, 0, 1, 0))?;
+    try_edge(rt, "the patient's entry 0 alone", weighed(0, 0, 0, 1))?;
     try_edge(
-        b"the donor's entry 63 alone:",
+        rt,
+        "the donor's entry 63 alone",
         weighed(0, 0, 9223372036854775808, 0),
-    );
+    )?;
     try_edge(
-        b"the patient's entry 63 alone:",
+        rt,
+        "the patient's entry 63 alone",
         weighed(0, 0, 0, 9223372036854775808),
-    );
-}
-
-fn print_blood(blood: u8) {
-    match blood {
-        0 => print(b"O"),
-        1 => print(b"A"),
-        2 => print(b"B"),
-        _ => print(b"AB"),
-    }
+    )
 }
 
 // Every two blood groups.
-fn try_bloods() {
-    let mut two: u8 = 0;
-    while two < 16 {
-        print_blood(two / 4);
-        print(b" to ");
-        print_blood(two % 4);
-        try_edge(b":", of_blood(two / 4, two % 4));
-        two += 1;
+fn try_bloods(rt: &impl Print) -> io::Result<()> {
+    for (donor, from) in BLOODS {
+        for (patient, to) in BLOODS {
+            try_edge(rt, format_args!("{from} to {to}"), of_blood(donor, patient))?;
+        }
     }
+    Ok(())
 }
 
-fn try_antibodies() {
-    try_edge(b"antibody at bit 0:", of_tissue(1, 1, 1));
+fn try_antibodies(rt: &impl Print) -> io::Result<()> {
+    try_edge(rt, "antibody at bit 0", of_tissue(1, 1, 1))?;
     try_edge(
-        b"antibody at bit 63:",
+        rt,
+        "antibody at bit 63",
         of_tissue(
             9223372036854775808,
             9223372036854775808,
             9223372036854775808,
         ),
-    );
+    )?;
     try_edge(
-        b"antibodies at every other bit:",
+        rt,
+        "antibodies at every other bit",
         of_tissue(1, 1, 18446744073709551614),
-    );
-    try_edge(b"antigens alike, no antibody:", of_tissue(3, 3, 0));
+    )?;
+    try_edge(rt, "antigens alike, no antibody", of_tissue(3, 3, 0))
 }
 
 // Each refusal, and what comes first of two.
-fn try_refusals() {
-    try_pairs(b"no pair, no space:", 0, 2, of_blood(0, 0), 0, 0);
-    try_pairs(b"one pair:", 1, 2, of_blood(0, 0), 1, 1);
-    try_pairs(b"two pairs, space for four:", 2, 2, of_blood(0, 0), 4, 4);
-    try_pairs(b"M with space for three:", 2, 2, of_blood(0, 0), 3, 4);
-    try_pairs(b"W with space for three:", 2, 2, of_blood(0, 0), 4, 3);
-    try_pairs(b"three pairs in fields of two:", 3, 2, of_blood(4, 0), 5, 5);
-    try_pairs(b"blood 4:", 2, 1, of_blood(4, 0), 0, 0);
-    try_pairs(b"age group 2:", 2, 2, weighed(0, 2, 0, 0), 5, 5);
-    try_pairs(b"the same id twice:", 2, 1, of_blood(0, 0), 0, 0);
-    try_pairs(b"201 pairs:", 201, 2, of_blood(4, 0), 0, 0);
-    try_pairs(
-        b"as many pairs as a word holds:",
-        18446744073709551615,
-        2,
-        of_blood(0, 0),
-        0,
-        0,
-    );
+fn try_refusals(rt: &impl Print) -> io::Result<()> {
+    let pairs = usual(Edge::default());
+    let bare = Build {
+        m_space: 0,
+        w_space: 0,
+        ..pairs
+    };
+    let four = Build {
+        m_space: 4,
+        w_space: 4,
+        ..pairs
+    };
+    let one = Build {
+        n: 1,
+        m_space: 1,
+        w_space: 1,
+        ..pairs
+    };
+    Build { n: 0, ..bare }.attempt(rt, "no pair, no space")?;
+    one.attempt(rt, "one pair")?;
+    four.attempt(rt, "two pairs, space for four")?;
+    Build { m_space: 3, ..four }.attempt(rt, "M with space for three")?;
+    Build { w_space: 3, ..four }.attempt(rt, "W with space for three")?;
+    let wrong_blood = of_blood(4, 0);
+    let three = Build {
+        n: 3,
+        ..usual(wrong_blood)
+    };
+    three.attempt(rt, "three pairs in fields of two")?;
+    let wrong = Build {
+        edge: wrong_blood,
+        ..bare
+    };
+    let twice = Build {
+        second_id: 1,
+        ..bare
+    };
+    let wrong_twice = Build {
+        second_id: 1,
+        ..wrong
+    };
+    wrong_twice.attempt(rt, "blood 4")?;
+    try_edge(rt, "age group 2", weighed(0, 2, 0, 0))?;
+    twice.attempt(rt, "the same id twice")?;
+    Build { n: 201, ..wrong }.attempt(rt, "201 pairs")?;
+    let most = Build {
+        n: usize::MAX,
+        ..bare
+    };
+    most.attempt(rt, "as many pairs as a word holds")
 }
 
-// A registry's points, on every step.
-fn try_registry(points: [u16; 6]) {
-    let mut i: usize = 0;
-    while i < 9 {
-        let row = STEPS[i];
-        print(b"  ages");
-        print_number(row[0]);
-        print_number(row[1]);
-        print(b", antigens");
-        print_number(row[2]);
-        print_number(row[3]);
-        let edge = weighed((row[0] % 256) as u8, (row[1] % 256) as u8, row[2], row[3]);
-        try_building(b":", 2, 2, &points, 2, edge, 5, 5);
-        i += 1;
-    }
-}
-
-// Each registry's.
-fn try_registries() {
-    let mut i: usize = 0;
-    while i < 3 {
-        let points = REGISTRIES[i];
-        print(b"points");
-        print_weight(points[0]);
-        print_weight(points[1]);
-        print_weight(points[2]);
-        print_weight(points[3]);
-        print_weight(points[4]);
-        print_weight(points[5]);
-        print(b"\n");
-        try_registry(points);
-        i += 1;
-    }
-}
-
-// Builds as the row says; of the points not named there the others are 0.
-fn try_row(row: [u16; 8]) {
-    let points = [row[2], 0, row[3], 0, 0, row[4]];
-    let count = row[5] as usize;
-    let space = row[7] as usize;
-    if count <= 6 {
-        if space <= 5 {
-            let edge = of_blood((row[6] % 256) as u8, 0);
-            try_building(
-                b":",
-                row[0],
-                row[1] as usize,
-                &points[..count],
-                2,
-                edge,
-                space,
-                5,
-            );
+// Each registry's points, on every step.
+fn try_registries(rt: &impl Print) -> io::Result<()> {
+    for points in REGISTRIES {
+        println!(rt; "points{}", Row(&points))?;
+        for (donor_age, patient_age, donor_antigens, patient_antigens) in STEPS {
+            let build = Build {
+                version: 2,
+                points: &points,
+                ..usual(weighed(donor_age, patient_age, donor_antigens, patient_antigens))
+            };
+            build.attempt(
+                rt,
+                format_args!(
+                    "  ages {donor_age} {patient_age}, antigens {donor_antigens} {patient_antigens}"
+                ),
+            )?;
         }
     }
+    Ok(())
 }
 
-fn print_labelled(label: &[u8], n: u16) {
-    print(label);
-    print_weight(n);
-}
-
-// Builds each row.
-fn try_built() {
-    let mut i: usize = 0;
-    while i < 20 {
-        let row = BUILT[i];
-        print_labelled(b"version", row[0]);
-        print_labelled(b", pairs", row[1]);
-        print_labelled(b", base", row[2]);
-        print_labelled(b", steps", row[3]);
-        print_labelled(b"", row[4]);
-        print_labelled(b", points", row[5]);
-        print_labelled(b", blood", row[6]);
-        print_labelled(b", space", row[7]);
-        try_row(row);
-        i += 1;
+// Builds each row; of the points not named there the others are 0.
+fn try_built(rt: &impl Print) -> io::Result<()> {
+    for (version, n, base, step, last, count, blood, space) in BUILT {
+        print!(rt; "version {version}, pairs {n}, base {base}, steps {step} {last}")?;
+        print!(rt; ", points {count}, blood {blood}, space {space}")?;
+        let points = [base, 0, step, 0, 0, last];
+        let build = Build {
+            version,
+            n,
+            points: &points[..count.min(6)],
+            m_space: space.min(5),
+            ..usual(of_blood(blood, 0))
+        };
+        build.attempt(rt, "")?;
     }
-}
-
-// Two hundred different ids.
-fn many_ids() -> [u32; 200] {
-    let mut ids = [0u32; 200];
-    let mut i: usize = 0;
-    while i < 200 {
-        ids[i] = i as u32;
-        i += 1;
-    }
-    ids
+    Ok(())
 }
 
 // The most pairs there are: the corners of both tables, and what lies past them.
-fn try_most() {
-    let ids = many_ids();
-    let bloods = [3u8; 200];
-    let ages = [1u8; 200];
-    let none = [0u64; 200];
-    let points = [0u16; 0];
-    let mut m = [99u8; 40001];
-    let mut w = [99u16; 40001];
-    print(b"200 pairs:");
-    let fields = Fields {
-        ids: &ids,
-        donor_blood: &bloods,
-        patient_blood: &bloods,
-        donor_age: &ages,
-        patient_age: &ages,
-        donor_antigens: &none,
-        patient_antigens: &none,
-        patient_antibodies: &none,
-    };
-    print_answer(weighing::build(1, 200, &points, fields, &mut m, &mut w));
-    print(b" M");
-    print_byte(m[0]);
-    print_byte(m[199]);
-    print_byte(m[39800]);
-    print_byte(m[39999]);
-    print(b" past");
-    print_byte(m[40000]);
-    print(b" W");
-    print_weight(w[0]);
-    print_weight(w[199]);
-    print_weight(w[39800]);
-    print_weight(w[39999]);
-    print(b" past");
-    print_weight(w[40000]);
-    print(b"\n");
+fn try_most(rt: &impl Print) -> io::Result<()> {
+    let mut ids = [0; 200];
+    for (id, i) in ids.iter_mut().zip(0..200) {
+        *id = i;
+    }
+    let bloods = [3; 200];
+    let ages = [1; 200];
+    let none = [0; 200];
+    let mut m = [99; 40001];
+    let mut w = [99; 40001];
+    let answer = Answer(weighing::build(
+        1,
+        200,
+        &[],
+        Fields {
+            ids: &ids,
+            donor_blood: &bloods,
+            patient_blood: &bloods,
+            donor_age: &ages,
+            patient_age: &ages,
+            donor_antigens: &none,
+            patient_antigens: &none,
+            patient_antibodies: &none,
+        },
+        &mut m,
+        &mut w,
+    ));
+    print!(rt; "200 pairs:{answer}")?;
+    print!(rt;
+        " M {} {} {} {} past {}",
+        m[0], m[199], m[39800], m[39999], m[40000]
+    )?;
+    println!(rt;
+        " W {} {} {} {} past {}",
+        w[0], w[199], w[39800], w[39999], w[40000]
+    )
 }
 
-fn main() {
-    try_edges();
-    try_shared();
-    try_patients_own();
-    try_ends();
-    try_bloods();
-    try_antibodies();
-    try_refusals();
-    try_registries();
-    try_built();
-    try_most();
+fn run(rt: &impl Print) -> io::Result<()> {
+    try_edges(rt)?;
+    try_shared(rt)?;
+    try_patients_own(rt)?;
+    try_ends(rt)?;
+    try_bloods(rt)?;
+    try_antibodies(rt)?;
+    try_refusals(rt)?;
+    try_registries(rt)?;
+    try_built(rt)?;
+    try_most(rt)
+}
+
+fn main(rt: HostRuntime) {
+    // Where output is lost, it is lost silently.
+    let _ = run(&rt);
 }

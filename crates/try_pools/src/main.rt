@@ -2,555 +2,496 @@
 // W-208's bound allows, one of 36 and one of 200. What it prints is held to the file 'stdout'. Every lent entry holds 99 before a call, and the first one past the filled part is printed too.
 #![tactic(auto)]
 
-ghost use Rattle.std.specs.Prelude.{◌≡◌, ◌≤◌, ◌<◌, length, replicate};
-ghost use Rattle.refusal.specs.Answer.{outcome};
-ghost use Rattle.exchange.specs.Input.{request};
-ghost use Rattle.exchange.specs.Planning.{lent, planning};
-ghost use Rattle.planner.specs.Answers.{answer_of};
+ghost use Rattle.std.specs.Prelude.{◌≡◌, ◌≤◌, ◌<◌, length};
 
 use cycle::Cycle;
+use planner::Planned;
 use refusal::Refusal;
+use std::{array, fmt, io};
 
-fn print(text: &[u8]) {
-    io::write_all(1, text);
-}
-
-fn print_number(n: u64) {
-    print(b" ");
-    io::print_decimal(1, n);
-}
-
-fn print_pair(p: u16) {
-    print_number(p as u64);
-}
-
-fn print_choice(c: u32) {
-    print_number(c as u64);
-}
-
-// The first entries of a table, as far as it has them.
-fn print_pairs(name: &[u8], t: &[u16], count: usize) {
-    print(name);
-    let mut i: usize = 0;
-    while i < count {
-        if i < t.len() {
-            print_pair(t[i]);
-        }
-        i += 1;
-    }
-}
-
-fn print_choices(name: &[u8], t: &[u32], count: usize) {
-    print(name);
-    let mut i: usize = 0;
-    while i < count {
-        if i < t.len() {
-            print_choice(t[i]);
-        }
-        i += 1;
-    }
-}
-
-// One of a record's three numbers.
-fn number_of(record: Cycle, which: usize) -> u16 {
-    if which == 0 {
-        return record.first;
-    }
-    if which == 1 {
-        return record.second;
-    }
-    record.third
-}
-
-// The first numbers of a table of records, as far as it has them.
-fn print_records(name: &[u8], records: [Cycle; 101], count: usize) {
-    print(name);
-    let mut i: usize = 0;
-    while i < count {
-        let k = i / 3;
-        if k < 101 {
-            let record = records[k];
-            print_pair(number_of(record, i % 3));
-        }
-        i += 1;
-    }
-}
-
-fn print_answer(answer: Result<planner::Planned, Refusal>) {
-    match answer {
-        Ok(plan) => {
-            print(b" weight");
-            print_number(plan.weight);
-            print(b" cycles");
-            print_number(plan.cycles as u64);
-            print(b" tally");
-            print_number(plan.tally.comparisons);
-            print_number(plan.tally.products);
-            print_number(plan.tally.rounds);
-        }
-        Err(why) => {
-            print(b" refused");
-            print_number(why.number() as u64);
-        }
-    }
-}
-
-// What planning answered, and the table of records that it was lent.
+// Entries of a table, each after a blank.
 #[derive(Clone, Copy)]
-struct Planned {
-    answer: Result<planner::Planned, Refusal>,
-    records: [Cycle; 101],
-}
+struct Row<'a, T>(&'a [T]);
 
-// A table of records, whose numbers are 99.
-fn fresh() -> [Cycle; 101]
-    ensures { result ≡ replicate 101 (record { first = 99; second = 99; third = 99 }) }
-{
-    [Cycle {
-        first: 99,
-        second: 99,
-        third: 99,
-    }; 101]
-}
-
-fn together(answer: Result<planner::Planned, Refusal>, records: [Cycle; 101]) -> Planned
-    ensures { (result.answer ≡ answer) × (result.records ≡ records) }
-{
-    Planned {
-        answer: answer,
-        records: records,
+impl<T: fmt::Display> fmt::Display for Row<'_, T> {
+    fn fmt<W: fmt::Write>(&self, f: &mut fmt::Formatter<W>) -> fmt::Result {
+        for entry in self.0 {
+            write!(f, " {entry}")?;
+        }
+        Ok(())
     }
 }
 
-// Plans, lending a table of records.
-fn plan(
+// The three numbers of each record, and the first number of the record past them.
+#[derive(Clone, Copy)]
+struct Records<'a> {
+    records: &'a [Cycle],
+    past: Cycle,
+}
+
+impl fmt::Display for Records<'_> {
+    fn fmt<W: fmt::Write>(&self, f: &mut fmt::Formatter<W>) -> fmt::Result {
+        for record in self.records {
+            write!(f, " {} {} {}", record.first, record.second, record.third)?;
+        }
+        write!(f, " {}", self.past.first)
+    }
+}
+
+// What planning answered.
+#[derive(Clone, Copy)]
+struct Answer(Result<Planned, Refusal>);
+
+impl fmt::Display for Answer {
+    fn fmt<W: fmt::Write>(&self, f: &mut fmt::Formatter<W>) -> fmt::Result {
+        match self.0 {
+            Ok(plan) => {
+                let tally = plan.tally;
+                write!(f, " weight {} cycles {}", plan.weight, plan.cycles)?;
+                write!(
+                    f,
+                    " tally {} {} {}",
+                    tally.comparisons, tally.products, tally.rounds
+                )
+            }
+            Err(why) => write!(f, " refused {}", why.number()),
+        }
+    }
+}
+
+// A record whose numbers are 99.
+const UNTOUCHED: Cycle = Cycle {
+    first: 99,
+    second: 99,
+    third: 99,
+};
+
+// What planning is asked.
+#[derive(Clone, Copy)]
+struct Pool<'a> {
     n: usize,
     floor: u32,
-    m: &[u8],
-    w: &[u16],
-    shuffle: &[u16],
-    weights: &mut [u32],
-    choices: &mut [u32],
-    donors: &mut [u16],
-    recipients: &mut [u16],
-) -> Planned
-    ensures { let a = request n floor m.now w.now shuffle.now in
-        let old = lent weights.old choices.old donors.old recipients.old in
-        let new = lent weights.new choices.new donors.new recipients.new in
-        outcome (answer_of result.answer) (new result.records)
-        ≡ planning a (old (replicate 101 (record { first = 99; second = 99; third = 99 }))) }
-{
-    let mut records = fresh();
-    let answer = planner::plan(
-        n,
-        floor,
-        m,
-        w,
-        shuffle,
-        weights,
-        choices,
-        donors,
-        recipients,
-        &mut records,
-    );
-    together(answer, records)
+    m: &'a [u8],
+    w: &'a [u16],
+    shuffle: &'a [u16],
 }
 
-// Plans a pool of at most 10 pairs and so many subsets, and prints the answer and what stands then in each table, with one entry past what is due.
-fn try_pool(name: &[u8], n: usize, floor: u32, subsets: usize, m: &[u8], w: &[u16], shuffle: &[u16])
-    requires { (n ≤ 10) × (subsets ≤ 165) }
-{
-    let past = n + 1;
-    let rounds = n / 2;
-    let past_choices = rounds + 1;
-    let past_records = 3 * rounds + 1;
-    let past_weights = subsets + 1;
-    let mut weights = [99u32; 166];
-    let mut choices = [99u32; 6];
-    let mut donors = [99u16; 11];
-    let mut recipients = [99u16; 11];
-    let planned = plan(
-        n,
-        floor,
-        m,
-        w,
-        shuffle,
-        &mut weights,
-        &mut choices,
-        &mut donors,
-        &mut recipients,
-    );
-    let answer = planned.answer;
-    let records = planned.records;
-    print(name);
-    print_answer(answer);
-    print_choices(b"\n  weights", &weights, past_weights);
-    print_choices(b"\n  choices", &choices, past_choices);
-    print_pairs(b"\n  donors", &donors, past);
-    print_pairs(b"\n  recipients", &recipients, past);
-    print_records(b"\n  records", records, past_records);
-    print(b"\n");
+impl Pool<'_> {
+    // Plans it in lent tables.
+    fn plan(
+        self,
+        weights: &mut [u32],
+        choices: &mut [u32],
+        donors: &mut [u16],
+        recipients: &mut [u16],
+        records: &mut [Cycle],
+    ) -> Answer {
+        Answer(planner::plan(
+            self.n,
+            self.floor,
+            self.m,
+            self.w,
+            self.shuffle,
+            weights,
+            choices,
+            donors,
+            recipients,
+            records,
+        ))
+    }
+
+    // Plans a pool of at most 10 pairs and so many subsets, and prints the answer and what stands then in each table, with one entry past what is due.
+    fn attempt(self, rt: &impl Print, name: &str, subsets: usize) -> io::Result<()>
+        requires { (self.n ≤ 10) × (subsets ≤ 165) }
+    {
+        let mut weights = [99; 166];
+        let mut choices = [99; 6];
+        let mut donors = [99; 11];
+        let mut recipients = [99; 11];
+        let mut records = [UNTOUCHED; 101];
+        let answer = self.plan(
+            &mut weights,
+            &mut choices,
+            &mut donors,
+            &mut recipients,
+            &mut records,
+        );
+        let rounds = self.n / 2;
+        let records = Records {
+            records: &records[..rounds],
+            past: records[rounds],
+        };
+        println!(rt; "{name}:{answer}")?;
+        println!(rt; "  weights{}", Row(&weights[..=subsets]))?;
+        println!(rt; "  choices{}", Row(&choices[..=rounds]))?;
+        println!(rt; "  donors{}", Row(&donors[..=self.n]))?;
+        println!(rt; "  recipients{}", Row(&recipients[..=self.n]))?;
+        println!(rt; "  records{records}")
+    }
 }
 
 // Plans a pool of two pairs, each table in the order (0, 0), (0, 1), (1, 0), (1, 1).
-fn try_two(name: &[u8], floor: u32, m: [u8; 4], w: [u16; 4], shuffle: [u16; 2]) {
-    try_pool(name, 2, floor, 1, &m, &w, &shuffle);
+fn try_two(
+    rt: &impl Print,
+    name: &str,
+    floor: u32,
+    m: [u8; 4],
+    w: [u16; 4],
+    shuffle: [u16; 2],
+) -> io::Result<()> {
+    let pool = Pool {
+        n: 2,
+        floor,
+        m: &m,
+        w: &w,
+        shuffle: &shuffle,
+    };
+    pool.attempt(rt, name, 1)
 }
 
-fn try_small() {
-    let m = [0u8; 1];
-    let w = [0u16; 1];
-    let shuffle = [0u16; 1];
-    try_pool(b"k1:", 0, 0, 0, &m, &w, &shuffle);
-    try_pool(b"k2:", 1, 0, 0, &m, &w, &shuffle);
-    try_two(b"k3:", 0, [0, 1, 1, 0], [0, 5, 7, 0], [0, 1]);
-    try_two(b"k4:", 0, [0, 1, 0, 0], [0, 5, 0, 0], [0, 1]);
-    try_two(b"k5:", 0, [0, 1, 1, 0], [0, 0, 0, 0], [0, 1]);
+fn try_small(rt: &impl Print) -> io::Result<()> {
+    let none = Pool {
+        n: 0,
+        floor: 0,
+        m: &[0],
+        w: &[0],
+        shuffle: &[0],
+    };
+    none.attempt(rt, "k1", 0)?;
+    Pool { n: 1, ..none }.attempt(rt, "k2", 0)?;
+    try_two(rt, "k3", 0, [0, 1, 1, 0], [0, 5, 7, 0], [0, 1])?;
+    try_two(rt, "k4", 0, [0, 1, 0, 0], [0, 5, 0, 0], [0, 1])?;
+    try_two(rt, "k5", 0, [0, 1, 1, 0], [0, 0, 0, 0], [0, 1])
 }
 
-fn try_triples() {
-    let identity = [0u16, 1, 2];
-    let all = [0u8, 1, 1, 1, 0, 1, 1, 1, 0];
-    let alike = [0u16, 4, 4, 4, 0, 4, 4, 4, 0];
-    try_pool(b"k6:", 3, 0, 4, &all, &alike, &identity);
-    let reverse_heavier = [0u16, 1, 2, 2, 0, 1, 1, 2, 0];
-    try_pool(b"k7:", 3, 0, 4, &all, &reverse_heavier, &identity);
-    let m = [0u8, 1, 1, 1, 0, 0, 1, 0, 0];
-    let w = [0u16, 5, 5, 5, 0, 0, 5, 0, 0];
-    try_pool(b"k10:", 3, 0, 4, &m, &w, &identity);
-    let other = [2u16, 0, 1];
-    try_pool(b"k10 with shuffle 2 0 1:", 3, 0, 4, &m, &w, &other);
+fn try_triples(rt: &impl Print) -> io::Result<()> {
+    let k6 = Pool {
+        n: 3,
+        floor: 0,
+        m: &[0, 1, 1, 1, 0, 1, 1, 1, 0],
+        w: &[0, 4, 4, 4, 0, 4, 4, 4, 0],
+        shuffle: &[0, 1, 2],
+    };
+    k6.attempt(rt, "k6", 4)?;
+    let reverse_heavier = [0, 1, 2, 2, 0, 1, 1, 2, 0];
+    let k7 = Pool {
+        w: &reverse_heavier,
+        ..k6
+    };
+    k7.attempt(rt, "k7", 4)?;
+    let k10 = Pool {
+        m: &[0, 1, 1, 1, 0, 0, 1, 0, 0],
+        w: &[0, 5, 5, 5, 0, 0, 5, 0, 0],
+        ..k6
+    };
+    k10.attempt(rt, "k10", 4)?;
+    let other = [2, 0, 1];
+    let turned = Pool {
+        shuffle: &other,
+        ..k10
+    };
+    turned.attempt(rt, "k10 with shuffle 2 0 1", 4)
 }
 
 // 0 to 1 to 2 to 0 at 2; 0 and 3, 1 and 4, 2 and 5 both ways at 3.
-fn try_k8(name: &[u8], floor: u32) {
-    let mut m = [0u8; 36];
-    let mut w = [0u16; 36];
-    m[1] = 1;
-    m[8] = 1;
-    m[12] = 1;
-    w[1] = 2;
-    w[8] = 2;
-    w[12] = 2;
-    m[3] = 1;
-    m[18] = 1;
-    m[10] = 1;
-    m[25] = 1;
-    m[17] = 1;
-    m[32] = 1;
-    w[3] = 3;
-    w[18] = 3;
-    w[10] = 3;
-    w[25] = 3;
-    w[17] = 3;
-    w[32] = 3;
-    let identity = [0u16, 1, 2, 3, 4, 5];
-    try_pool(name, 6, floor, 35, &m, &w, &identity);
+fn try_k8(rt: &impl Print, name: &str, floor: u32) -> io::Result<()> {
+    let w: [u16; 36] = array::from_fn(|k| match (k / 6, k % 6) {
+        (0, 1) | (1, 2) | (2, 0) => 2,
+        (0, 3) | (3, 0) | (1, 4) | (4, 1) | (2, 5) | (5, 2) => 3,
+        _ => 0,
+    });
+    let m = w.map(|weight| u8::from(weight > 0));
+    let pool = Pool {
+        n: 6,
+        floor,
+        m: &m,
+        w: &w,
+        shuffle: &[0, 1, 2, 3, 4, 5],
+    };
+    pool.attempt(rt, name, 35)
 }
 
-fn try_k9() {
-    let m = [0u8, 1, 0, 0, 1, 0, 0, 0, 0, 0, 0, 1, 0, 0, 1, 0];
-    let w = [0u16, 3, 0, 0, 3, 0, 0, 0, 0, 0, 0, 3, 0, 0, 3, 0];
-    let identity = [0u16, 1, 2, 3];
-    try_pool(b"k9:", 4, 0, 10, &m, &w, &identity);
+fn try_k9(rt: &impl Print) -> io::Result<()> {
+    let pool = Pool {
+        n: 4,
+        floor: 0,
+        m: &[0, 1, 0, 0, 1, 0, 0, 0, 0, 0, 0, 1, 0, 0, 1, 0],
+        w: &[0, 3, 0, 0, 3, 0, 0, 0, 0, 0, 0, 3, 0, 0, 3, 0],
+        shuffle: &[0, 1, 2, 3],
+    };
+    pool.attempt(rt, "k9", 10)
 }
 
-fn try_refusals() {
-    try_two(b"k11:", 0, [0, 1, 1, 0], [0, 5, 7, 0], [0, 0]);
-    try_two(b"k12:", 0, [0, 2, 1, 0], [0, 5, 7, 0], [0, 1]);
-    try_two(b"M(0, 0) is 1:", 0, [1, 1, 1, 0], [0, 5, 7, 0], [0, 1]);
-    try_two(b"8 and 10:", 0, [1, 2, 1, 0], [0, 5, 7, 0], [1, 1]);
-    let m = [2u8; 8];
-    let w = [0u16; 9];
-    let shuffle = [0u16; 3];
-    try_pool(b"9, 8 and 10:", 3, 0, 4, &m, &w, &shuffle);
+fn try_refusals(rt: &impl Print) -> io::Result<()> {
+    try_two(rt, "k11", 0, [0, 1, 1, 0], [0, 5, 7, 0], [0, 0])?;
+    try_two(rt, "k12", 0, [0, 2, 1, 0], [0, 5, 7, 0], [0, 1])?;
+    try_two(rt, "M(0, 0) is 1", 0, [1, 1, 1, 0], [0, 5, 7, 0], [0, 1])?;
+    try_two(rt, "8 and 10", 0, [1, 2, 1, 0], [0, 5, 7, 0], [1, 1])?;
+    let pool = Pool {
+        n: 3,
+        floor: 0,
+        m: &[2; 8],
+        w: &[0; 9],
+        shuffle: &[0; 3],
+    };
+    pool.attempt(rt, "9, 8 and 10", 4)
 }
 
 // Two swaps, of weights 6 and 8; then one of weight 10, and one of weight 2 that shares a pair with it.
-fn try_swaps() {
-    let identity = [0u16, 1, 2, 3];
-    let apart = [0u8, 1, 0, 0, 1, 0, 0, 0, 0, 0, 0, 1, 0, 0, 1, 0];
-    let six_and_eight = [0u16, 3, 0, 0, 3, 0, 0, 0, 0, 0, 0, 4, 0, 0, 4, 0];
-    try_pool(
-        b"6 and 8, floor 5:",
-        4,
-        5,
-        10,
-        &apart,
-        &six_and_eight,
-        &identity,
-    );
-    try_pool(
-        b"6 and 8, floor 6:",
-        4,
-        6,
-        10,
-        &apart,
-        &six_and_eight,
-        &identity,
-    );
-    try_pool(
-        b"6 and 8, floor 8:",
-        4,
-        8,
-        10,
-        &apart,
-        &six_and_eight,
-        &identity,
-    );
-    let sharing = [0u8, 1, 1, 0, 1, 0, 0, 0, 1, 0, 0, 0, 0, 0, 0, 0];
-    let ten_and_two = [0u16, 5, 1, 0, 5, 0, 0, 0, 1, 0, 0, 0, 0, 0, 0, 0];
-    try_pool(
-        b"10 and 2, floor 5:",
-        4,
-        5,
-        10,
-        &sharing,
-        &ten_and_two,
-        &identity,
-    );
+fn try_swaps(rt: &impl Print) -> io::Result<()> {
+    let apart = Pool {
+        n: 4,
+        floor: 5,
+        m: &[0, 1, 0, 0, 1, 0, 0, 0, 0, 0, 0, 1, 0, 0, 1, 0],
+        w: &[0, 3, 0, 0, 3, 0, 0, 0, 0, 0, 0, 4, 0, 0, 4, 0],
+        shuffle: &[0, 1, 2, 3],
+    };
+    apart.attempt(rt, "6 and 8, floor 5", 10)?;
+    Pool { floor: 6, ..apart }.attempt(rt, "6 and 8, floor 6", 10)?;
+    Pool { floor: 8, ..apart }.attempt(rt, "6 and 8, floor 8", 10)?;
+    let sharing = Pool {
+        m: &[0, 1, 1, 0, 1, 0, 0, 0, 1, 0, 0, 0, 0, 0, 0, 0],
+        w: &[0, 5, 1, 0, 5, 0, 0, 0, 1, 0, 0, 0, 0, 0, 0, 0],
+        ..apart
+    };
+    sharing.attempt(rt, "10 and 2, floor 5", 10)
 }
 
 // The greatest weight that a cycle can have, 196,605.
-fn try_greatest() {
-    let identity = [0u16, 1, 2];
-    let m = [0u8, 1, 0, 0, 0, 1, 1, 0, 0];
-    let w = [0u16, 65535, 0, 0, 0, 65535, 65535, 0, 0];
-    try_pool(b"196605, floor 196604:", 3, 196604, 4, &m, &w, &identity);
-    try_pool(b"196605, floor 196605:", 3, 196605, 4, &m, &w, &identity);
-    try_pool(b"196605, floor 200000:", 3, 200000, 4, &m, &w, &identity);
+fn try_greatest(rt: &impl Print) -> io::Result<()> {
+    let pool = Pool {
+        n: 3,
+        floor: 196604,
+        m: &[0, 1, 0, 0, 0, 1, 1, 0, 0],
+        w: &[0, 65535, 0, 0, 0, 65535, 65535, 0, 0],
+        shuffle: &[0, 1, 2],
+    };
+    pool.attempt(rt, "196605, floor 196604", 4)?;
+    let at = Pool {
+        floor: 196605,
+        ..pool
+    };
+    at.attempt(rt, "196605, floor 196605", 4)?;
+    let above = Pool {
+        floor: 200000,
+        ..pool
+    };
+    above.attempt(rt, "196605, floor 200000", 4)
 }
 
 // A floor that is too high, alone and with other faults.
-fn try_high() {
-    try_two(b"floor 200001:", 200001, [0, 1, 1, 0], [0, 5, 7, 0], [0, 1]);
-    let m = [0u8; 1];
-    let w = [0u16; 1];
-    let shuffle = [0u16; 1];
-    try_pool(
-        b"9 and not 13:",
-        2,
-        200000,
-        1,
-        &m[..0],
-        &w[..0],
-        &shuffle[..0],
-    );
-    try_pool(b"13 and 9:", 2, 200001, 1, &m[..0], &w[..0], &shuffle[..0]);
-    let mut weights = [99u32; 1];
-    let mut choices = [99u32; 1];
-    let mut donors = [99u16; 1];
-    let mut recipients = [99u16; 1];
-    let planned = plan(
-        201,
+fn try_high(rt: &impl Print) -> io::Result<()> {
+    try_two(
+        rt,
+        "floor 200001",
         200001,
-        &m,
-        &w,
-        &shuffle,
-        &mut weights,
-        &mut choices,
-        &mut donors,
-        &mut recipients,
-    );
-    let answer = planned.answer;
-    print(b"4 and 13:");
-    print_answer(answer);
-    print(b"\n");
+        [0, 1, 1, 0],
+        [0, 5, 7, 0],
+        [0, 1],
+    )?;
+    let allowed = Pool {
+        n: 2,
+        floor: 200000,
+        m: &[],
+        w: &[],
+        shuffle: &[],
+    };
+    allowed.attempt(rt, "9 and not 13", 1)?;
+    let high = Pool {
+        floor: 200001,
+        ..allowed
+    };
+    high.attempt(rt, "13 and 9", 1)?;
+    let many = Pool { n: 201, ..high };
+    let answer = many.plan(&mut [], &mut [], &mut [], &mut [], &mut []);
+    println!(rt; "4 and 13:{answer}")
 }
 
-fn try_floors() {
-    try_two(b"k3, floor 11:", 11, [0, 1, 1, 0], [0, 5, 7, 0], [0, 1]);
-    try_two(b"k3, floor 12:", 12, [0, 1, 1, 0], [0, 5, 7, 0], [0, 1]);
-    try_k8(b"k8, floor 5:", 5);
-    try_k8(b"k8, floor 6:", 6);
-    try_swaps();
-    try_greatest();
-    try_high();
+fn try_floors(rt: &impl Print) -> io::Result<()> {
+    try_two(rt, "k3, floor 11", 11, [0, 1, 1, 0], [0, 5, 7, 0], [0, 1])?;
+    try_two(rt, "k3, floor 12", 12, [0, 1, 1, 0], [0, 5, 7, 0], [0, 1])?;
+    try_k8(rt, "k8, floor 5", 5)?;
+    try_k8(rt, "k8, floor 6", 6)?;
+    try_swaps(rt)?;
+    try_greatest(rt)?;
+    try_high(rt)
 }
 
 // Edges that weigh 0, beside other faults, and weights that are not looked at.
-fn try_weightless() {
+fn try_weightless(rt: &impl Print) -> io::Result<()> {
     let both = [0u8, 1, 1, 0];
     let nothing = [0u16; 4];
     try_two(
-        b"a weightless edge in no cycle:",
+        rt,
+        "a weightless edge in no cycle",
         0,
         [0, 1, 0, 0],
         nothing,
         [0, 1],
-    );
-    try_two(b"weightless, shuffle 0 0:", 0, both, nothing, [0, 0]);
-    try_two(b"weightless, floor 200001:", 200001, both, nothing, [0, 1]);
+    )?;
+    try_two(rt, "weightless, shuffle 0 0", 0, both, nothing, [0, 0])?;
     try_two(
-        b"weightless, an entry 2:",
+        rt,
+        "weightless, floor 200001",
+        200001,
+        both,
+        nothing,
+        [0, 1],
+    )?;
+    try_two(
+        rt,
+        "weightless, an entry 2",
         0,
         [0, 1, 2, 0],
         [0, 0, 7, 0],
         [0, 1],
-    );
+    )?;
     try_two(
-        b"an own edge, weightless:",
+        rt,
+        "an own edge, weightless",
         0,
         [0, 1, 1, 1],
         [0, 5, 7, 0],
         [0, 1],
-    );
+    )?;
     try_two(
-        b"an edge of weight 1, floor 5:",
+        rt,
+        "an edge of weight 1, floor 5",
         5,
         both,
         [0, 1, 1, 0],
         [0, 1],
-    );
-    try_two(b"own weights of 7:", 0, both, [7, 5, 7, 7], [0, 1]);
+    )?;
+    try_two(rt, "own weights of 7", 0, both, [7, 5, 7, 7], [0, 1])
 }
 
 // Rivals that weigh the sum of each planned cycle's weight times its number of pairs: beside a two, and beside a triple and a two.
-fn try_rivals() {
-    let identity = [0u16, 1, 2, 3, 4, 5, 6, 7, 8, 9];
-    let four = [0u8, 1, 1, 0, 1, 0, 0, 1, 1, 0, 0, 0, 0, 1, 0, 0];
-    let fives = [0u16, 5, 5, 0, 5, 0, 0, 5, 5, 0, 0, 0, 0, 5, 0, 0];
-    try_pool(b"10 against 20:", 4, 0, 10, &four, &fives, &identity);
-    let mut m = [0u8; 100];
-    let mut w = [0u16; 100];
-    // 0 to 1 to 2 to 0, and 3 and 4 both ways, at 4
-    m[1] = 1;
-    m[12] = 1;
-    m[20] = 1;
-    m[34] = 1;
-    m[43] = 1;
-    w[1] = 4;
-    w[12] = 4;
-    w[20] = 4;
-    w[34] = 4;
-    w[43] = 4;
-    // 0 and 5, 1 and 6, 2 and 7 both ways at 6
-    m[5] = 1;
-    m[50] = 1;
-    m[16] = 1;
-    m[61] = 1;
-    m[27] = 1;
-    m[72] = 1;
-    w[5] = 6;
-    w[50] = 6;
-    w[16] = 6;
-    w[61] = 6;
-    w[27] = 6;
-    w[72] = 6;
-    // 3 and 8, 4 and 9 both ways at 4
-    m[38] = 1;
-    m[83] = 1;
-    m[49] = 1;
-    m[94] = 1;
-    w[38] = 4;
-    w[83] = 4;
-    w[49] = 4;
-    w[94] = 4;
-    try_pool(b"20 against 52:", 10, 0, 165, &m, &w, &identity);
+fn try_rivals(rt: &impl Print) -> io::Result<()> {
+    let four = Pool {
+        n: 4,
+        floor: 0,
+        m: &[0, 1, 1, 0, 1, 0, 0, 1, 1, 0, 0, 0, 0, 1, 0, 0],
+        w: &[0, 5, 5, 0, 5, 0, 0, 5, 5, 0, 0, 0, 0, 5, 0, 0],
+        shuffle: &[0, 1, 2, 3],
+    };
+    four.attempt(rt, "10 against 20", 10)?;
+    // 0 to 1 to 2 to 0 at 4; 3 and 4, 3 and 8, 4 and 9 both ways at 4; 0 and 5, 1 and 6, 2 and 7 both ways at 6
+    let w: [u16; 100] = array::from_fn(|k| match (k / 10, k % 10) {
+        (0, 1) | (1, 2) | (2, 0) => 4,
+        (3, 4) | (4, 3) | (3, 8) | (8, 3) | (4, 9) | (9, 4) => 4,
+        (0, 5) | (5, 0) | (1, 6) | (6, 1) | (2, 7) | (7, 2) => 6,
+        _ => 0,
+    });
+    let m = w.map(|weight| u8::from(weight > 0));
+    let ten = Pool {
+        n: 10,
+        floor: 0,
+        m: &m,
+        w: &w,
+        shuffle: &[0, 1, 2, 3, 4, 5, 6, 7, 8, 9],
+    };
+    ten.attempt(rt, "20 against 52", 165)
 }
 
 // A pool that a formula gives: an edge where (7i + 11j) mod 5 is below 2, of weight 1 + (31i + 17j) mod 997; place p holds pair 7p mod n.
-fn fill_entry(n: usize, k: usize, m: &mut [u8], w: &mut [u16])
-    requires { (0 < n) × (k < 40000) × (k < length m.old) × (k < length w.old) }
+fn fill(n: usize, m: &mut [u8], w: &mut [u16], shuffle: &mut [u16])
+    requires { (0 < n) × (length m.old ≤ 40000) × (length w.old ≡ length m.old) × (length shuffle.old ≤ 200) }
 {
-    let i = k / n;
-    let j = k % n;
-    let present = (i != j) & ((7 * i + 11 * j) % 5 < 2);
-    m[k] = present as u8;
-    w[k] = (1 + (31 * i + 17 * j) % 997) as u16;
-}
-
-fn fill(n: usize, entries: usize, m: &mut [u8], w: &mut [u16])
-    requires { (0 < n) × (entries ≤ 40000) × (entries ≤ length m.old) × (entries ≤ length w.old) }
-{
-    let mut k: usize = 0;
-    while k < entries {
-        fill_entry(n, k, m, w);
-        k += 1;
+    for k in 0..m.len() {
+        let i = k / n;
+        let j = k % n;
+        m[k] = u8::from(i != j && (7 * i + 11 * j) % 5 < 2);
+        w[k] = (1 + (31 * i + 17 * j) % 997) as u16;
     }
-}
-
-fn fill_shuffle(n: usize, shuffle: &mut [u16])
-    requires { (0 < n) × (n ≤ 200) × (n ≤ length shuffle.old) }
-{
-    let mut p: usize = 0;
-    while p < n {
+    for p in 0..shuffle.len() {
         shuffle[p] = (7 * p % n) as u16;
-        p += 1;
     }
 }
 
-fn try_36(name: &[u8], floor: u32) {
-    let mut m = [0u8; 1296];
-    let mut w = [0u16; 1296];
-    let mut shuffle = [0u16; 36];
-    fill(36, 1296, &mut m, &mut w);
-    fill_shuffle(36, &mut shuffle);
-    let mut weights = [99u32; 7771];
-    let mut choices = [99u32; 19];
-    let mut donors = [99u16; 37];
-    let mut recipients = [99u16; 37];
-    let planned = plan(
-        36,
+fn try_36(rt: &impl Print, name: &str, floor: u32) -> io::Result<()> {
+    let mut m = [0; 1296];
+    let mut w = [0; 1296];
+    let mut shuffle = [0; 36];
+    fill(36, &mut m, &mut w, &mut shuffle);
+    let pool = Pool {
+        n: 36,
         floor,
-        &m,
-        &w,
-        &shuffle,
+        m: &m,
+        w: &w,
+        shuffle: &shuffle,
+    };
+    let mut weights = [99; 7771];
+    let mut choices = [99; 19];
+    let mut donors = [99; 37];
+    let mut recipients = [99; 37];
+    let mut records = [UNTOUCHED; 101];
+    let answer = pool.plan(
         &mut weights,
         &mut choices,
         &mut donors,
         &mut recipients,
+        &mut records,
     );
-    let answer = planned.answer;
-    let records = planned.records;
-    print(name);
-    print_answer(answer);
-    print_choices(b"\n  choices", &choices, 19);
-    print_pairs(b"\n  donors", &donors, 37);
-    print_pairs(b"\n  recipients", &recipients, 37);
-    print_records(b"\n  records", records, 55);
-    print(b"\n");
+    let records = Records {
+        records: &records[..18],
+        past: records[18],
+    };
+    println!(rt; "{name}:{answer}")?;
+    println!(rt; "  choices{}", Row(&choices))?;
+    println!(rt; "  donors{}", Row(&donors))?;
+    println!(rt; "  recipients{}", Row(&recipients))?;
+    println!(rt; "  records{records}")
 }
 
-fn try_200() {
-    let mut m = [0u8; 40000];
-    let mut w = [0u16; 40000];
-    let mut shuffle = [0u16; 200];
-    fill(200, 40000, &mut m, &mut w);
-    fill_shuffle(200, &mut shuffle);
-    let mut weights = [99u32; 1333301];
-    let mut choices = [99u32; 101];
-    let mut donors = [99u16; 201];
-    let mut recipients = [99u16; 201];
-    let planned = plan(
-        200,
-        0,
-        &m,
-        &w,
-        &shuffle,
-        &mut weights,
+// With this table of weights.
+fn try_200_with(rt: &impl Print, weights: &mut [u32]) -> io::Result<()> {
+    let mut m = [0; 40000];
+    let mut w = [0; 40000];
+    let mut shuffle = [0; 200];
+    fill(200, &mut m, &mut w, &mut shuffle);
+    let pool = Pool {
+        n: 200,
+        floor: 0,
+        m: &m,
+        w: &w,
+        shuffle: &shuffle,
+    };
+    let mut choices = [99; 101];
+    let mut donors = [99; 201];
+    let mut recipients = [99; 201];
+    let mut records = [UNTOUCHED; 101];
+    let answer = pool.plan(
+        weights,
         &mut choices,
         &mut donors,
         &mut recipients,
+        &mut records,
     );
-    let answer = planned.answer;
-    print(b"200 pairs:");
-    print_answer(answer);
-    print_choices(b"\n  choices", &choices, 101);
-    print_pairs(b"\n  recipients", &recipients, 201);
-    print(b"\n");
+    println!(rt; "200 pairs:{answer}")?;
+    println!(rt; "  choices{}", Row(&choices))?;
+    println!(rt; "  recipients{}", Row(&recipients))
 }
 
-fn main() {
-    try_small();
-    try_triples();
-    try_k8(b"k8:", 0);
-    try_k9();
-    try_refusals();
-    try_floors();
-    try_weightless();
-    try_rivals();
-    try_36(b"36 pairs:", 0);
-    try_36(b"36 pairs, floor 2500:", 2500);
-    try_200();
+fn try_200(rt: &impl Print) -> io::Result<()> {
+    let mut weights = [99; 1333301];
+    try_200_with(rt, &mut weights)
+}
+
+fn run(rt: &impl Print) -> io::Result<()> {
+    try_small(rt)?;
+    try_triples(rt)?;
+    try_k8(rt, "k8", 0)?;
+    try_k9(rt)?;
+    try_refusals(rt)?;
+    try_floors(rt)?;
+    try_weightless(rt)?;
+    try_rivals(rt)?;
+    try_36(rt, "36 pairs", 0)?;
+    try_36(rt, "36 pairs, floor 2500", 2500)?;
+    try_200(rt)
+}
+
+fn main(rt: HostRuntime) {
+    // Where output is lost, it is lost silently.
+    let _ = run(&rt);
 }

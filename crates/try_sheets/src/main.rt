@@ -5,8 +5,9 @@
 ghost use Rattle.std.specs.Prelude.{◌≤◌};
 
 use fields::Fields;
-use reader::Reading;
-use writer::Writing;
+use reader::Head;
+use refusal::{Refusal, Refused};
+use std::{fmt, io};
 
 // Document 01's points.
 const DOCUMENT: [u16; 6] = [1000, 400, 250, 100, 50, 30];
@@ -30,44 +31,44 @@ const REGISTRIES: [[u16; 6]; 11] = [
 
 // What is changed in the example as version 2: its base, and one byte, by its place. The other version, a later one, the tag and the length of the points;
 // N with a base of 0, and the first pair's tag with it; a blood group, an id again, a number of the shuffle twice.
-const CHANGES: [[u16; 3]; 9] = [
-    [1000, 4, 1],
-    [1000, 4, 3],
-    [1000, 7, 3],
-    [1000, 9, 10],
-    [0, 6, 201],
-    [0, 22, 3],
-    [1000, 64, 4],
-    [1000, 63, 11],
-    [1000, 98, 0],
+const CHANGES: [(u16, usize, u8); 9] = [
+    (1000, 4, 1),
+    (1000, 4, 3),
+    (1000, 7, 3),
+    (1000, 9, 10),
+    (0, 6, 201),
+    (0, 22, 3),
+    (1000, 64, 4),
+    (1000, 63, 11),
+    (1000, 98, 0),
 ];
 
 // What is written: the version, N, the base and how many points are lent; the second pair's donor blood and id, the second number of the shuffle, and the
 // bytes of the buffer. First version 1, with each of its refusals; then what comes first of two faults, 3, 4, 9, 14, 6; then version 2.
-const WRITTEN: [[u16; 8]; 23] = [
-    [1, 201, 0, 0, 2, 12, 1, 85],
-    [1, 3, 0, 0, 2, 12, 1, 85],
-    [1, 2, 0, 0, 4, 12, 1, 85],
-    [1, 2, 0, 0, 2, 11, 1, 85],
-    [1, 2, 0, 0, 2, 12, 0, 85],
-    [1, 2, 0, 0, 2, 12, 1, 85],
-    [1, 2, 0, 5, 2, 12, 1, 84],
-    [1, 2, 0, 6, 2, 12, 1, 83],
-    [1, 1, 0, 6, 4, 11, 0, 83],
-    [0, 201, 1000, 6, 2, 12, 1, 100],
-    [3, 2, 1000, 6, 2, 12, 1, 100],
-    [2, 201, 0, 5, 4, 12, 1, 100],
-    [2, 3, 0, 6, 4, 12, 1, 100],
-    [2, 2, 0, 5, 4, 12, 1, 100],
-    [2, 0, 0, 5, 4, 12, 1, 100],
-    [2, 2, 0, 6, 4, 12, 1, 100],
-    [2, 0, 0, 6, 4, 12, 1, 100],
-    [2, 2, 1000, 6, 4, 12, 1, 100],
-    [2, 2, 1000, 6, 2, 12, 0, 98],
-    [2, 2, 1000, 6, 2, 12, 1, 98],
-    [2, 2, 1000, 6, 2, 12, 1, 99],
-    [2, 2, 1000, 6, 2, 12, 1, 100],
-    [2, 0, 1000, 6, 4, 12, 1, 98],
+const WRITTEN: [(u16, usize, u16, usize, u8, u32, u16, usize); 23] = [
+    (1, 201, 0, 0, 2, 12, 1, 85),
+    (1, 3, 0, 0, 2, 12, 1, 85),
+    (1, 2, 0, 0, 4, 12, 1, 85),
+    (1, 2, 0, 0, 2, 11, 1, 85),
+    (1, 2, 0, 0, 2, 12, 0, 85),
+    (1, 2, 0, 0, 2, 12, 1, 85),
+    (1, 2, 0, 5, 2, 12, 1, 84),
+    (1, 2, 0, 6, 2, 12, 1, 83),
+    (1, 1, 0, 6, 4, 11, 0, 83),
+    (0, 201, 1000, 6, 2, 12, 1, 100),
+    (3, 2, 1000, 6, 2, 12, 1, 100),
+    (2, 201, 0, 5, 4, 12, 1, 100),
+    (2, 3, 0, 6, 4, 12, 1, 100),
+    (2, 2, 0, 5, 4, 12, 1, 100),
+    (2, 0, 0, 5, 4, 12, 1, 100),
+    (2, 2, 0, 6, 4, 12, 1, 100),
+    (2, 0, 0, 6, 4, 12, 1, 100),
+    (2, 2, 1000, 6, 4, 12, 1, 100),
+    (2, 2, 1000, 6, 2, 12, 0, 98),
+    (2, 2, 1000, 6, 2, 12, 1, 98),
+    (2, 2, 1000, 6, 2, 12, 1, 99),
+    (2, 2, 1000, 6, 2, 12, 1, 100),
+    (2, 0, 1000, 6, 4, 12, 1, 98),
 ];
 
 // Document 01's example, and a byte after it.
@@ -77,556 +78,435 @@ const EXAMPLE: [u8; 85] = [
     0, 0, 0, 0, 0, 0, 0, 0, 0, 0, 0, 0, 0, 0, 0, 3, 0, 4, 0, 0, 0, 1, 0,
 ];
 
-fn print(text: &[u8]) {
-    io::write_all(1, text);
-}
+// Entries of a table, each after a blank.
+#[derive(Clone, Copy)]
+struct Row<'a>(&'a [u16]);
 
-fn print_number(n: u64) {
-    print(b" ");
-    io::print_decimal(1, n);
-}
-
-fn print_refusal(why: refusal::Refusal, place: usize) {
-    print(b" refused");
-    print_number(refusal::number(why) as u64);
-    print(b" at");
-    print_number(place as u64);
-}
-
-fn print_reading(answer: Reading) {
-    match answer {
-        Reading::Pairs(version, n) => {
-            print_number(n as u64);
-            print(b" pairs of version");
-            print_number(version as u64);
+impl fmt::Display for Row<'_> {
+    fn fmt<W: fmt::Write>(&self, f: &mut fmt::Formatter<W>) -> fmt::Result {
+        for entry in self.0 {
+            write!(f, " {entry}")?;
         }
-        Reading::Refused(why, place) => print_refusal(why, place),
+        Ok(())
     }
 }
 
-fn print_writing(answer: Writing) {
-    match answer {
-        Writing::Length(n) => {
-            print_number(n as u64);
-            print(b" bytes");
+// The first entry of a table and the last.
+#[derive(Clone, Copy)]
+struct Ends<'a, T>(&'a [T]);
+
+impl<T: fmt::Display> fmt::Display for Ends<'_, T> {
+    fn fmt<W: fmt::Write>(&self, f: &mut fmt::Formatter<W>) -> fmt::Result {
+        match (self.0.first(), self.0.last()) {
+            (Some(first), Some(last)) => write!(f, " | {first} {last}"),
+            _ => Ok(()),
         }
-        Writing::Refused(why) => print_refusal(why, 0),
     }
 }
 
-fn print_byte(b: u8) {
-    print_number(b as u64);
-}
+// What reading answered.
+#[derive(Clone, Copy)]
+struct Read(Result<Head, Refused>);
 
-fn wide(x: u16) -> usize {
-    x as usize
-}
-
-fn print_short(p: u16) {
-    print_number(p as u64);
-}
-
-// The first and the last number of a shuffle.
-fn print_ends(shuffle: &[u16]) {
-    if 0 < shuffle.len() {
-        let last = shuffle.len() - 1;
-        print(b" |");
-        print_short(shuffle[0]);
-        print_short(shuffle[last]);
+impl fmt::Display for Read {
+    fn fmt<W: fmt::Write>(&self, f: &mut fmt::Formatter<W>) -> fmt::Result {
+        match self.0 {
+            Ok(head) => write!(f, "{} pairs of version {}", head.pairs, head.version),
+            Err(refused) => write!(f, "refused {} at {}", refused.why.number(), refused.place),
+        }
     }
 }
 
-fn print_points(points: &[u16]) {
-    print(b" points");
-    let mut k: usize = 0;
-    while k < points.len() {
-        print_short(points[k]);
-        k += 1;
+// What writing answered.
+#[derive(Clone, Copy)]
+struct Written(Result<usize, Refusal>);
+
+impl fmt::Display for Written {
+    fn fmt<W: fmt::Write>(&self, f: &mut fmt::Formatter<W>) -> fmt::Result {
+        match self.0 {
+            Ok(n) => write!(f, "{n} bytes"),
+            Err(why) => write!(f, "refused {} at 0", why.number()),
+        }
     }
 }
 
-// One entry of each of the eight tables of the fields.
-fn print_entry(
-    id: u32,
-    donor_blood: u8,
-    patient_blood: u8,
-    donor_age: u8,
-    patient_age: u8,
-    donor_antigens: u64,
-    patient_antigens: u64,
-    patient_antibodies: u64,
-) {
-    print(b" |");
-    print_number(id as u64);
-    print_number(donor_blood as u64);
-    print_number(patient_blood as u64);
-    print_number(donor_age as u64);
-    print_number(patient_age as u64);
-    print_number(donor_antigens);
-    print_number(patient_antigens);
-    print_number(patient_antibodies);
+// The eight tables of the fields, for 200 pairs.
+#[derive(Clone, Copy)]
+struct Pool {
+    ids: [u32; 200],
+    donor_blood: [u8; 200],
+    patient_blood: [u8; 200],
+    donor_age: [u8; 200],
+    patient_age: [u8; 200],
+    donor_antigens: [u64; 200],
+    patient_antigens: [u64; 200],
+    patient_antibodies: [u64; 200],
+}
+
+impl Pool {
+    fn fresh() -> Self {
+        Self {
+            ids: [99; 200],
+            donor_blood: [99; 200],
+            patient_blood: [99; 200],
+            donor_age: [99; 200],
+            patient_age: [99; 200],
+            donor_antigens: [99; 200],
+            patient_antigens: [99; 200],
+            patient_antibodies: [99; 200],
+        }
+    }
+
+    // Reads a sheet into them and into these tables for the points and the shuffle.
+    fn read(&mut self, sheet: &[u8], points: &mut [u16], shuffle: &mut [u16]) -> Result<Head, Refused> {
+        reader::read(
+            sheet,
+            points,
+            &mut self.ids,
+            &mut self.donor_blood,
+            &mut self.patient_blood,
+            &mut self.donor_age,
+            &mut self.patient_age,
+            &mut self.donor_antigens,
+            &mut self.patient_antigens,
+            &mut self.patient_antibodies,
+            shuffle,
+        )
+    }
+
+    fn fields(&self) -> Fields<'_> {
+        Fields {
+            ids: &self.ids,
+            donor_blood: &self.donor_blood,
+            patient_blood: &self.patient_blood,
+            donor_age: &self.donor_age,
+            patient_age: &self.patient_age,
+            donor_antigens: &self.donor_antigens,
+            patient_antigens: &self.patient_antigens,
+            patient_antibodies: &self.patient_antibodies,
+        }
+    }
+
+    // Writes their first pairs, as many as a head says.
+    fn write(&self, head: Head, points: &[u16], shuffle: &[u16], out: &mut [u8]) -> Written {
+        let fields = self.fields();
+        Written(writer::write(
+            head.version,
+            head.pairs,
+            points,
+            fields,
+            shuffle,
+            out,
+        ))
+    }
+
+    // One entry of each.
+    fn print_entry(&self, rt: &impl Print, i: usize) -> io::Result<()>
+        requires { i ≤ 199 }
+    {
+        print!(rt; " | {}", self.ids[i])?;
+        print!(rt; " {} {}", self.donor_blood[i], self.patient_blood[i])?;
+        print!(rt; " {} {}", self.donor_age[i], self.patient_age[i])?;
+        print!(rt; " {} {}", self.donor_antigens[i], self.patient_antigens[i])?;
+        print!(rt; " {}", self.patient_antibodies[i])
+    }
 }
 
 // Reads a sheet into tables of 200 entries and these for the points and the shuffle; prints the answer, and what stands then at the first and the last
 // entry of the tables, and in all of the points'.
-fn try_reading(name: &[u8], sheet: &[u8], points: &mut [u16], shuffle: &mut [u16]) {
-    let mut ids = [99u32; 200];
-    let mut donor_blood = [99u8; 200];
-    let mut patient_blood = [99u8; 200];
-    let mut donor_age = [99u8; 200];
-    let mut patient_age = [99u8; 200];
-    let mut donor_antigens = [99u64; 200];
-    let mut patient_antigens = [99u64; 200];
-    let mut patient_antibodies = [99u64; 200];
-    let answer = reader::read(
-        sheet,
-        points,
-        &mut ids,
-        &mut donor_blood,
-        &mut patient_blood,
-        &mut donor_age,
-        &mut patient_age,
-        &mut donor_antigens,
-        &mut patient_antigens,
-        &mut patient_antibodies,
-        shuffle,
-    );
-    print(name);
-    print_reading(answer);
-    print_entry(
-        ids[0],
-        donor_blood[0],
-        patient_blood[0],
-        donor_age[0],
-        patient_age[0],
-        donor_antigens[0],
-        patient_antigens[0],
-        patient_antibodies[0],
-    );
-    print_entry(
-        ids[199],
-        donor_blood[199],
-        patient_blood[199],
-        donor_age[199],
-        patient_age[199],
-        donor_antigens[199],
-        patient_antigens[199],
-        patient_antibodies[199],
-    );
-    print_ends(shuffle);
-    print(b" |");
-    print_points(points);
-    print(b"\n");
+fn try_reading(
+    rt: &impl Print,
+    name: impl fmt::Display + Drop,
+    sheet: &[u8],
+    points: &mut [u16],
+    shuffle: &mut [u16],
+) -> io::Result<()> {
+    let mut fields = Pool::fresh();
+    let answer = fields.read(sheet, points, shuffle);
+    print!(rt; "{name}: {}", Read(answer))?;
+    fields.print_entry(rt, 0)?;
+    fields.print_entry(rt, 199)?;
+    println!(rt; "{} | points{}", Ends(shuffle), Row(points))
 }
 
 // Reads a sheet with room for 200 pairs, and for six points and one past them.
-fn try_sheet(name: &[u8], sheet: &[u8]) {
-    let mut points = [99u16; 7];
-    let mut shuffle = [99u16; 200];
-    try_reading(name, sheet, &mut points, &mut shuffle);
+fn try_sheet(rt: &impl Print, name: impl fmt::Display + Drop, sheet: &[u8]) -> io::Result<()> {
+    try_reading(rt, name, sheet, &mut [99; 7], &mut [99; 200])
 }
 
 // The example with one byte changed.
 fn changed(at: usize, to: u8) -> [u8; 85] {
     let mut sheet = EXAMPLE;
-    if at < 85 {
-        sheet[at] = to;
+    if let Some(byte) = sheet.get_mut(at) {
+        *byte = to;
     }
     sheet
 }
 
 // Reads the first `size` bytes of the example with one byte changed.
-fn try_changed(name: &[u8], at: usize, to: u8, size: usize)
+fn try_changed(rt: &impl Print, name: &str, at: usize, to: u8, size: usize) -> io::Result<()>
     requires { size ≤ 85 }
 {
     let sheet = changed(at, to);
-    try_sheet(name, &sheet[..size]);
+    try_sheet(rt, name, &sheet[..size])
 }
 
 // Reads them with a table for one number of the shuffle.
-fn try_short(name: &[u8], size: usize)
+fn try_short(rt: &impl Print, name: &str, size: usize) -> io::Result<()>
     requires { size ≤ 85 }
 {
-    let sheet = EXAMPLE;
-    let mut points = [99u16; 7];
-    let mut shuffle = [99u16; 1];
-    try_reading(name, &sheet[..size], &mut points, &mut shuffle);
+    try_reading(rt, name, &EXAMPLE[..size], &mut [99; 7], &mut [99; 1])
 }
 
-// The example as version 2, with zeros for points: what follows the head stands 15 bytes further on.
-fn moved() -> [u8; 99] {
-    let example = EXAMPLE;
-    let mut sheet = [0u8; 99];
-    sheet[0] = 1;
-    sheet[2] = 4;
-    sheet[4] = 2;
-    sheet[6] = 2;
-    sheet[7] = 4;
-    sheet[9] = 12;
-    let mut at: usize = 7;
-    while at < 84 {
-        sheet[at + 15] = example[at];
-        at += 1;
-    }
-    sheet
-}
-
-// The example as version 2 with these points, and with one byte changed.
-fn second(points: [u16; 6], at: usize, to: u8) -> [u8; 99] {
-    let mut sheet = moved();
-    let mut k: usize = 0;
-    while k < 6 {
-        sheet[10 + 2 * k] = (points[k] / 256 % 256) as u8;
+// The example as version 2 with these points: what follows the head stands 15 bytes further on.
+fn second(points: [u16; 6]) -> [u8; 99] {
+    let mut sheet = [0; 99];
+    sheet[..10].copy_from_slice(&[1, 0, 4, 0, 2, 0, 2, 4, 0, 12]);
+    for k in 0..6 {
+        sheet[10 + 2 * k] = (points[k] / 256) as u8;
         sheet[11 + 2 * k] = (points[k] % 256) as u8;
-        k += 1;
     }
-    if at < 99 {
-        sheet[at] = to;
-    }
+    sheet[22..].copy_from_slice(&EXAMPLE[7..84]);
     sheet
 }
 
 // Reads the first `size` bytes of the example as version 2 with these points and one byte changed.
-fn try_second(name: &[u8], points: [u16; 6], at: usize, to: u8, size: usize)
+fn try_second(
+    rt: &impl Print,
+    name: impl fmt::Display + Drop,
+    points: [u16; 6],
+    at: usize,
+    to: u8,
+    size: usize,
+) -> io::Result<()>
     requires { size ≤ 99 }
 {
-    let sheet = second(points, at, to);
-    try_sheet(name, &sheet[..size]);
+    let mut sheet = second(points);
+    if let Some(byte) = sheet.get_mut(at) {
+        *byte = to;
+    }
+    try_sheet(rt, name, &sheet[..size])
 }
 
 // Its first bytes, cut off in the field of the points and just after it.
-fn try_cuts() {
-    let mut size: usize = 7;
-    while size < 23 {
-        print(b"version 2 cut at");
-        print_number(size as u64);
-        try_second(b":", DOCUMENT, 0, 1, size);
-        size += 1;
+fn try_cuts(rt: &impl Print) -> io::Result<()> {
+    for size in 7..23 {
+        try_second(
+            rt,
+            format_args!("version 2 cut at {size}"),
+            DOCUMENT,
+            0,
+            1,
+            size,
+        )?;
     }
+    Ok(())
 }
 
-// The example as version 2 with these points.
-fn try_points(points: [u16; 6]) {
-    print(b"version 2,");
-    print_points(&points);
-    try_second(b":", points, 0, 1, 99);
-}
-
-// And with each of the points to try.
-fn try_registries() {
-    let mut i: usize = 0;
-    while i < 11 {
-        try_points(REGISTRIES[i]);
-        i += 1;
+// The example as version 2 with each of the points to try.
+fn try_registries(rt: &impl Print) -> io::Result<()> {
+    for points in REGISTRIES {
+        print!(rt; "version 2, points{}", Row(&points))?;
+        try_second(rt, "", points, 0, 1, 99)?;
     }
+    Ok(())
 }
 
 // And with document 01's, and each of the changes.
-fn try_changes() {
-    let mut i: usize = 0;
-    while i < 9 {
-        let row = CHANGES[i];
+fn try_changes(rt: &impl Print) -> io::Result<()> {
+    for (base, at, to) in CHANGES {
         let mut points = DOCUMENT;
-        points[0] = row[0];
-        print(b"version 2, base");
-        print_short(row[0]);
-        print(b", byte");
-        print_short(row[1]);
-        print(b" is");
-        print_short(row[2]);
-        try_second(b":", points, wide(row[1]), (row[2] % 256) as u8, 99);
-        i += 1;
+        points[0] = base;
+        print!(rt; "version 2, base {base}, byte {at} is {to}")?;
+        try_second(rt, "", points, at, to, 99)?;
     }
+    Ok(())
 }
 
-fn print_bytes(out: &[u8]) {
-    if 0 < out.len() {
-        let last = out.len() - 1;
-        print(b" |");
-        print_byte(out[0]);
-        print_byte(out[last]);
-    }
-    print(b"\n");
-}
-
-// Writes the first pairs of two, as the row says; prints the answer and what stands then at the first and the last byte of the buffer.
-fn try_writing(row: [u16; 8], points: &[u16], out: &mut [u8]) {
-    let ids = [11, row[5] as u32];
-    let donor_blood = [1, (row[4] % 256) as u8];
-    let patient_blood = [2u8, 1];
-    let ages = [0u8; 2];
-    let tissue = [0u64; 2];
-    let shuffle = [0, row[6]];
-    let answer = writer::write(
-        row[0],
-        row[1] as usize,
-        points,
-        Fields {
-            ids: &ids,
-            donor_blood: &donor_blood,
-            patient_blood: &patient_blood,
-            donor_age: &ages,
-            patient_age: &ages,
-            donor_antigens: &tissue,
-            patient_antigens: &tissue,
-            patient_antibodies: &tissue,
-        },
-        &shuffle,
-        out,
-    );
-    print_writing(answer);
-    print_bytes(out);
-}
-
-// The same, with the row's points and buffer.
-fn try_row(row: [u16; 8]) {
-    let mut points = DOCUMENT;
-    points[0] = row[2];
-    let mut out = [99u8; 100];
-    let count = row[3] as usize;
-    let room = row[7] as usize;
-    if count <= 6 {
-        if room <= 100 {
-            try_writing(row, &points[..count], &mut out[..room]);
-        }
-    }
-}
-
-fn print_labelled(label: &[u8], n: u16) {
-    print(label);
-    print_short(n);
-}
-
-// Writes each row.
-fn try_written() {
-    let mut i: usize = 0;
-    while i < 23 {
-        let row = WRITTEN[i];
-        print_labelled(b"written, version", row[0]);
-        print_labelled(b", pairs", row[1]);
-        print_labelled(b", base", row[2]);
-        print_labelled(b" of points", row[3]);
-        print_labelled(b", blood", row[4]);
-        print_labelled(b", id", row[5]);
-        print_labelled(b", number", row[6]);
-        print_labelled(b", into", row[7]);
-        print(b":");
-        try_row(row);
-        i += 1;
-    }
-}
-
-// Writes the sheet's pool again, from the tables that it was read into.
-fn write_again(sheet: &[u8], out: &mut [u8]) {
-    let mut points = [99u16; 6];
-    let mut ids = [99u32; 200];
-    let mut donor_blood = [99u8; 200];
-    let mut patient_blood = [99u8; 200];
-    let mut donor_age = [99u8; 200];
-    let mut patient_age = [99u8; 200];
-    let mut donor_antigens = [99u64; 200];
-    let mut patient_antigens = [99u64; 200];
-    let mut patient_antibodies = [99u64; 200];
-    let mut shuffle = [99u16; 200];
-    match reader::read(
-        sheet,
-        &mut points,
-        &mut ids,
-        &mut donor_blood,
-        &mut patient_blood,
-        &mut donor_age,
-        &mut patient_age,
-        &mut donor_antigens,
-        &mut patient_antigens,
-        &mut patient_antibodies,
-        &mut shuffle,
-    ) {
-        Reading::Refused(why, place) => print_refusal(why, place),
-        Reading::Pairs(version, n) => print_writing(writer::write(
+// Writes the first pairs of two, as each row says; prints the answer and what stands then at the first and the last byte of the buffer.
+fn try_written(rt: &impl Print) -> io::Result<()> {
+    for (version, n, base, count, blood, id, number, room) in WRITTEN {
+        print!(rt; "written, version {version}, pairs {n}, base {base} of points {count}")?;
+        print!(rt; ", blood {blood}, id {id}, number {number}, into {room}: ")?;
+        let mut points = DOCUMENT;
+        points[0] = base;
+        let mut buffer = [99; 100];
+        let out = &mut buffer[..room.min(100)];
+        let ages = [0; 2];
+        let tissue = [0; 2];
+        let answer = Written(writer::write(
             version,
             n,
-            &points,
+            &points[..count.min(6)],
             Fields {
-                ids: &ids,
-                donor_blood: &donor_blood,
-                patient_blood: &patient_blood,
-                donor_age: &donor_age,
-                patient_age: &patient_age,
-                donor_antigens: &donor_antigens,
-                patient_antigens: &patient_antigens,
-                patient_antibodies: &patient_antibodies,
+                ids: &[11, id],
+                donor_blood: &[1, blood],
+                patient_blood: &[2, 1],
+                donor_age: &ages,
+                patient_age: &ages,
+                donor_antigens: &tissue,
+                patient_antigens: &tissue,
+                patient_antibodies: &tissue,
             },
-            &shuffle,
+            &[0, number],
             out,
-        )),
+        ));
+        println!(rt; "{answer}{}", Ends(out))?;
     }
+    Ok(())
 }
 
-// Reads a sheet, writes it again, and compares.
-fn try_round_trip(name: &[u8], sheet: &[u8], out: &mut [u8]) {
-    print(name);
-    write_again(sheet, out);
-    if check::same(sheet, out) {
-        print(b", the same");
+// Reads a sheet, writes its pool again from the tables that it was read into, and compares.
+fn try_round_trip(rt: &impl Print, name: &str, sheet: &[u8], out: &mut [u8]) -> io::Result<()> {
+    let mut points = [99; 6];
+    let mut shuffle = [99; 200];
+    let mut fields = Pool::fresh();
+    let answer = fields.read(sheet, &mut points, &mut shuffle);
+    match answer {
+        Ok(head) => {
+            let answer = fields.write(head, &points, &shuffle, out);
+            print!(rt; "{name}: {answer}")?;
+        }
+        Err(_) => print!(rt; "{name}: {}", Read(answer))?,
     }
-    print(b"\n");
+    if sheet == out {
+        print!(rt; ", the same")?;
+    }
+    println!(rt)
 }
 
 // The greatest pool, ids and shuffle 0 to 199, written with document 01's points.
-fn write_greatest(version: u16, out: &mut [u8]) -> Writing {
-    let mut ids = [0u32; 200];
-    let mut shuffle = [0u16; 200];
-    let mut i: usize = 0;
-    while i < 200 {
-        ids[i] = i as u32;
-        shuffle[i] = i as u16;
-        i += 1;
+fn write_greatest(version: u16, out: &mut [u8]) -> Written {
+    let mut ids = [0; 200];
+    let mut shuffle = [0; 200];
+    for i in 0..200u8 {
+        ids[usize::from(i)] = u32::from(i);
+        shuffle[usize::from(i)] = u16::from(i);
     }
-    let points = DOCUMENT;
-    let groups = [0u8; 200];
-    let tissue = [0u64; 200];
-    writer::write(
-        version,
-        200,
-        &points,
-        Fields {
-            ids: &ids,
-            donor_blood: &groups,
-            patient_blood: &groups,
-            donor_age: &groups,
-            patient_age: &groups,
-            donor_antigens: &tissue,
-            patient_antigens: &tissue,
-            patient_antibodies: &tissue,
-        },
-        &shuffle,
-        out,
-    )
-}
-
-fn say_201(sheet: &mut [u8]) {
-    if 6 < sheet.len() {
-        sheet[6] = 201;
-    }
+    let groups = [0; 200];
+    let tissue = [0; 200];
+    let fields = Fields {
+        ids: &ids,
+        donor_blood: &groups,
+        patient_blood: &groups,
+        donor_age: &groups,
+        patient_age: &groups,
+        donor_antigens: &tissue,
+        patient_antigens: &tissue,
+        patient_antibodies: &tissue,
+    };
+    Written(writer::write(
+        version, 200, &DOCUMENT, fields, &shuffle, out,
+    ))
 }
 
 // Written into a buffer of just so many bytes, and read; then with 201 for its 200.
-fn try_greatest(version: u16, sheet: &mut [u8]) {
+fn try_greatest(rt: &impl Print, version: u16, sheet: &mut [u8]) -> io::Result<()> {
     let answer = write_greatest(version, sheet);
-    print(b"200 pairs written:");
-    print_writing(answer);
-    print(b"\n");
-    try_sheet(b"200 pairs read:", sheet);
-    say_201(sheet);
-    try_sheet(b"201 pairs:", sheet);
+    println!(rt; "200 pairs written: {answer}")?;
+    try_sheet(rt, "200 pairs read", sheet)?;
+    if let Some(n) = sheet.get_mut(6) {
+        *n = 201;
+    }
+    try_sheet(rt, "201 pairs", sheet)
 }
 
-fn try_limits() {
-    let none = [1u8, 0, 4, 0, 1, 0, 0, 3, 0, 0];
-    try_sheet(b"no pairs:", &none);
-    let mut first = [99u8; 7410];
-    try_greatest(1, &mut first);
-    let mut second = [99u8; 7425];
-    try_greatest(2, &mut second);
-    let mut short = [99u8; 7424];
-    print(b"200 pairs of version 2 into 7,424 bytes:");
-    print_writing(write_greatest(2, &mut short));
-    print(b"\n");
+fn try_limits(rt: &impl Print) -> io::Result<()> {
+    try_sheet(rt, "no pairs", &[1, 0, 4, 0, 1, 0, 0, 3, 0, 0])?;
+    try_greatest(rt, 1, &mut [99; 7410])?;
+    try_greatest(rt, 2, &mut [99; 7425])?;
+    let answer = write_greatest(2, &mut [99; 7424]);
+    println!(rt; "200 pairs of version 2 into 7,424 bytes: {answer}")
 }
 
-fn try_round_trips() {
-    let example = EXAMPLE;
-    let mut out = [99u8; 84];
-    try_round_trip(b"copied:", &example[..84], &mut out);
-    let mut short = [99u8; 83];
-    try_round_trip(b"copied into 83 bytes:", &example[..84], &mut short);
+fn try_round_trips(rt: &impl Print) -> io::Result<()> {
+    let sheet = &EXAMPLE[..84];
+    try_round_trip(rt, "copied", sheet, &mut [99; 84])?;
+    try_round_trip(rt, "copied into 83 bytes", sheet, &mut [99; 83])
 }
 
 // The same in version 2; and into a byte more, which is then read with the rest.
-fn try_second_round_trips() {
-    let sheet = second(DOCUMENT, 0, 1);
-    let mut out = [99u8; 99];
-    try_round_trip(b"version 2 copied:", &sheet, &mut out);
-    let mut short = [99u8; 98];
-    try_round_trip(b"version 2 copied into 98 bytes:", &sheet, &mut short);
-    let mut long = [99u8; 100];
-    try_round_trip(b"version 2 copied into 100 bytes:", &sheet, &mut long);
-    try_sheet(b"  a byte too many:", &long);
-    let mut five = [99u16; 5];
-    let mut shuffle = [99u16; 200];
+fn try_second_round_trips(rt: &impl Print) -> io::Result<()> {
+    let sheet = second(DOCUMENT);
+    try_round_trip(rt, "version 2 copied", &sheet, &mut [99; 99])?;
+    try_round_trip(rt, "version 2 copied into 98 bytes", &sheet, &mut [99; 98])?;
+    let mut long = [99; 100];
+    try_round_trip(rt, "version 2 copied into 100 bytes", &sheet, &mut long)?;
+    try_sheet(rt, "  a byte too many", &long)?;
     try_reading(
-        b"  and a table of five points:",
+        rt,
+        "  and a table of five points",
         &long,
-        &mut five,
-        &mut shuffle,
-    );
+        &mut [99; 5],
+        &mut [99; 200],
+    )
 }
 
-fn try_refusals() {
-    try_changed(b"nothing:", 0, 1, 0);
-    try_changed(b"the head's start cut off:", 0, 1, 2);
-    try_changed(b"the head's value cut off:", 0, 1, 6);
-    try_changed(b"the second pair missing:", 0, 1, 42);
-    try_changed(b"the shuffle's value cut off:", 0, 1, 83);
-    try_changed(b"another tag:", 42, 3, 84);
-    try_changed(b"another length:", 44, 33, 84);
-    try_changed(b"version 0:", 4, 0, 84);
-    try_changed(b"version 3:", 4, 3, 84);
-    try_changed(b"200 pairs said, two there:", 6, 200, 84);
-    try_changed(b"201 pairs said:", 6, 201, 84);
-    try_changed(b"a byte too many:", 0, 1, 85);
+fn try_refusals(rt: &impl Print) -> io::Result<()> {
+    try_changed(rt, "nothing", 0, 1, 0)?;
+    try_changed(rt, "the head's start cut off", 0, 1, 2)?;
+    try_changed(rt, "the head's value cut off", 0, 1, 6)?;
+    try_changed(rt, "the second pair missing", 0, 1, 42)?;
+    try_changed(rt, "the shuffle's value cut off", 0, 1, 83)?;
+    try_changed(rt, "another tag", 42, 3, 84)?;
+    try_changed(rt, "another length", 44, 33, 84)?;
+    try_changed(rt, "version 0", 4, 0, 84)?;
+    try_changed(rt, "version 3", 4, 3, 84)?;
+    try_changed(rt, "200 pairs said, two there", 6, 200, 84)?;
+    try_changed(rt, "201 pairs said", 6, 201, 84)?;
+    try_changed(rt, "a byte too many", 0, 1, 85)
 }
 
-fn try_more_refusals() {
-    try_changed(b"blood 4:", 49, 4, 84);
-    try_changed(b"age group 2:", 17, 2, 84);
-    try_changed(b"an id again:", 48, 11, 84);
-    try_changed(b"a number twice:", 83, 0, 84);
-    try_changed(b"a number twice and a byte too many:", 83, 0, 85);
-    try_short(b"a byte too many and a table too short:", 85);
-    try_short(b"a table too short:", 84);
+fn try_more_refusals(rt: &impl Print) -> io::Result<()> {
+    try_changed(rt, "blood 4", 49, 4, 84)?;
+    try_changed(rt, "age group 2", 17, 2, 84)?;
+    try_changed(rt, "an id again", 48, 11, 84)?;
+    try_changed(rt, "a number twice", 83, 0, 84)?;
+    try_changed(rt, "a number twice and a byte too many", 83, 0, 85)?;
+    try_short(rt, "a byte too many and a table too short", 85)?;
+    try_short(rt, "a table too short", 84)
 }
 
 // Reads a sheet with a table for so many points, and one for two numbers of the shuffle.
-fn try_within(name: &[u8], sheet: &[u8], count: usize)
+fn try_within(rt: &impl Print, name: &str, sheet: &[u8], count: usize) -> io::Result<()>
     requires { count ≤ 7 }
 {
-    let mut points = [99u16; 7];
-    let mut shuffle = [99u16; 2];
-    try_reading(name, sheet, &mut points[..count], &mut shuffle);
+    let mut points = [99; 7];
+    try_reading(rt, name, sheet, &mut points[..count], &mut [99; 2])
 }
 
 // For version 1 any table of points will do; version 2 wants six, with no pairs too.
-fn try_room(count: usize)
+fn try_room(rt: &impl Print, count: usize) -> io::Result<()>
     requires { count ≤ 7 }
 {
-    let example = EXAMPLE;
-    let sheet = second(DOCUMENT, 0, 1);
     let none = [
-        1u8, 0, 4, 0, 2, 0, 0, 4, 0, 12, 0, 1, 0, 2, 0, 3, 0, 4, 0, 5, 0, 6, 3, 0, 0,
+        1, 0, 4, 0, 2, 0, 0, 4, 0, 12, 0, 1, 0, 2, 0, 3, 0, 4, 0, 5, 0, 6, 3, 0, 0,
     ];
-    print(b"room for points:");
-    print_number(count as u64);
-    print(b"\n");
-    try_within(b"  version 1:", &example[..84], count);
-    try_within(b"  version 2:", &sheet, count);
-    try_within(b"  version 2, no pairs:", &none, count);
+    println!(rt; "room for points: {count}")?;
+    try_within(rt, "  version 1", &EXAMPLE[..84], count)?;
+    try_within(rt, "  version 2", &second(DOCUMENT), count)?;
+    try_within(rt, "  version 2, no pairs", &none, count)
 }
 
-fn main() {
-    try_changed(b"the example:", 0, 1, 84);
-    try_round_trips();
-    try_second_round_trips();
-    try_limits();
-    try_refusals();
-    try_more_refusals();
-    try_changed(b"version 2 without points:", 4, 2, 84);
-    try_cuts();
-    try_registries();
-    try_changes();
-    try_room(0);
-    try_room(5);
-    try_room(6);
-    try_room(7);
-    try_written();
+fn run(rt: &impl Print) -> io::Result<()> {
+    try_changed(rt, "the example", 0, 1, 84)?;
+    try_round_trips(rt)?;
+    try_second_round_trips(rt)?;
+    try_limits(rt)?;
+    try_refusals(rt)?;
+    try_more_refusals(rt)?;
+    try_changed(rt, "version 2 without points", 4, 2, 84)?;
+    try_cuts(rt)?;
+    try_registries(rt)?;
+    try_changes(rt)?;
+    try_room(rt, 0)?;
+    try_room(rt, 5)?;
+    try_room(rt, 6)?;
+    try_room(rt, 7)?;
+    try_written(rt)
+}
+
+fn main(rt: HostRuntime) {
+    // Where output is lost, it is lost silently.
+    let _ = run(&rt);
 }

@@ -6,136 +6,89 @@ ghost use Rattle.std.specs.Prelude.{◌≤◌, ◌<◌};
 ghost use Rattle.exchange.specs.Subsets.{up_to_three, subset_count};
 
 use cursor::Places;
+use std::{fmt, io};
 
-fn print(text: &[u8]) {
-    io::write_all(1, text);
+// A cursor of n places: the places that it stands at, each after a blank, or none.
+#[derive(Clone, Copy)]
+struct Cursor {
+    n: usize,
+    at: Places,
 }
 
-fn print_number(n: usize) {
-    print(b" ");
-    io::print_decimal(1, n as u64);
-}
-
-// A cursor's places, or none.
-fn print_places(n: usize, p: Places) {
-    let u = p.u;
-    let v = p.v;
-    let w = p.w;
-    if u == n {
-        print(b" none");
-        return;
-    }
-    print_number(u);
-    print_number(v);
-    if w < n {
-        print_number(w);
+impl fmt::Display for Cursor {
+    fn fmt<W: fmt::Write>(&self, f: &mut fmt::Formatter<W>) -> fmt::Result {
+        let Places { u, v, w } = self.at;
+        if u == self.n {
+            write!(f, " none")
+        } else if w < self.n {
+            write!(f, " {u} {v} {w}")
+        } else {
+            write!(f, " {u} {v}")
+        }
     }
 }
 
-// The places of number k, and the number that comes back from them.
+// The places of number k.
+fn places(n: usize, k: usize) -> Cursor
+    requires { (n ≤ 200) × (k ≤ subset_count (up_to_three n)) }
+{
+    Cursor {
+        n,
+        at: cursor::at(n, k),
+    }
+}
+
+// The number that comes back from the places of number k.
 fn there_and_back(n: usize, k: usize) -> usize
     requires { (n ≤ 200) × (k < subset_count (up_to_three n)) }
 {
-    let p = cursor::at(n, k);
-    print_places(n, p);
-    print(b",");
-    cursor::number_of(n, p)
+    cursor::number_of(n, cursor::at(n, k))
 }
 
-// 1 where number k comes back, else 0.
-fn one_back(n: usize, k: usize) -> usize
-    requires { (n ≤ 200) × (k < subset_count (up_to_three n)) }
-    ensures { result ≤ 1 }
-{
-    if there_and_back(n, k) == k {
-        return 1;
-    }
-    0
-}
-
-// The places of all numbers in order, and how many numbers come back.
-fn all_back(n: usize) -> usize
+// All subsets of n places: the places of all numbers in order, and how many numbers come back.
+fn try_all(rt: &impl Print, n: usize) -> io::Result<()>
     requires { n ≤ 200 }
 {
     let count = cursor::count(n);
-    let mut back: usize = 0;
-    let mut k: usize = 0;
-    while k < count {
-        back += one_back(n, k);
-        k += 1;
+    print!(rt; "of {n} places {count}:")?;
+    for k in 0..count {
+        print!(rt; "{},", places(n, k))?;
     }
-    back
-}
-
-// All subsets of n places.
-fn try_all(n: usize)
-    requires { n ≤ 200 }
-{
-    print(b"of");
-    print_number(n);
-    print(b" places");
-    print_number(cursor::count(n));
-    print(b":");
-    let back = all_back(n);
-    print(b" back");
-    print_number(back);
-    print(b"\n");
+    let back = (0..count).filter(|k| there_and_back(n, *k) == *k).count();
+    println!(rt; " back {back}")
 }
 
 // The subset of number k of n places; past the last there is none.
-fn try_one(n: usize, k: usize)
+fn try_one(rt: &impl Print, n: usize, k: usize) -> io::Result<()>
     requires { n ≤ 200 }
 {
-    print(b"of");
-    print_number(n);
-    print(b" places, number");
-    print_number(k);
-    print(b":");
     let count = cursor::count(n);
+    print!(rt; "of {n} places, number {k}:")?;
     if k < count {
-        let back = there_and_back(n, k);
-        print(b" back");
-        print_number(back);
+        print!(rt; "{}, back {}", places(n, k), there_and_back(n, k))?;
     }
     if k == count {
-        print_places(n, cursor::at(n, k));
+        print!(rt; "{}", places(n, k))?;
     }
-    print(b"\n");
+    println!(rt)
 }
 
-fn try_36() {
-    try_one(36, 1000);
-    try_one(36, 2921);
-    try_one(36, 7139);
-    try_one(36, 7140);
-    try_one(36, 7316);
-    try_one(36, 7769);
-    try_one(36, 7770);
-}
-
-fn try_200() {
-    try_one(200, 0);
-    try_one(200, 19700);
-    try_one(200, 19701);
-    try_one(200, 841430);
-    try_one(200, 1000000);
-    try_one(200, 1313399);
-    try_one(200, 1313400);
-    try_one(200, 1323190);
-    try_one(200, 1333299);
-    try_one(200, 1333300);
-}
-
-fn try_small() {
-    let mut n: usize = 0;
-    while n <= 12 {
-        try_all(n);
-        n += 1;
+fn run(rt: &impl Print) -> io::Result<()> {
+    for n in 0..=12 {
+        try_all(rt, n)?;
     }
+    for k in [1000, 2921, 7139, 7140, 7316, 7769, 7770] {
+        try_one(rt, 36, k)?;
+    }
+    for k in [
+        0, 19700, 19701, 841430, 1000000, 1313399, 1313400, 1323190, 1333299, 1333300,
+    ] {
+        try_one(rt, 200, k)?;
+    }
+    Ok(())
 }
 
-fn main() {
-    try_small();
-    try_36();
-    try_200();
+fn main(rt: HostRuntime) {
+    // Where output is lost, it is lost silently.
+    let _ = run(&rt);
 }

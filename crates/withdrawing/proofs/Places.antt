@@ -1,12 +1,22 @@
 -- The place of the first of n ids that is this one, and n where none is. Assumes nothing.
-use mathlib.Core.Path.{◌≡◌, refl}
-use mathlib.Core.Bool.{Bool, true, false}
-use Prim.Native.Nat.{ℕ, zero, suc, ◌<◌}
+use mathlib.Core.Path.{◌≡◌, refl, sym, ap, ◌∙◌}
+use mathlib.Core.Bool.{Bool, true, false, not, cond}
+use Prim.Native.Nat.{ℕ, zero, suc, ◌≤◌, ◌<◌}
 use native.Mathlib.Omega.{arith}
-use borrow.Author.Tests.{eqb-false, eq-eqb}
-use lib.Dec.{eqb}
+use borrow.Author.Tests.{eqb-true, eqb-false, eq-eqb}
+use lib.Dec.{eqb, ltb}
+use lib.ListN.{length, take}
+use Rattle.std.specs.List.{position, position_or_len}
+use Rattle.std.specs.Prelude.{Some, None}
+use Rattle.std.proofs.lemmas.Grind.{common_steps}
+use Rattle.std.proofs.lemmas.List.Sums.{prefix_len-le-length, fails_before_first, passes_at_first}
+use native.Mathlib.Decide.{dec_lt}
+use lib.Seq.{length-take-le, get_or-take}
+use Rattle.std.specs.Option.{unwrap_or}
+use Rattle.pool.specs.Tables.{item_in}
+use mathlib.Core.List.{List}
 use Rattle.laws.specs.Below.{any_below}
-use Rattle.laws.proofs.Below.{either_false, any_none, any_hit}
+use Rattle.laws.proofs.Below.{either_false, any_none, none_any, any_hit}
 use Rattle.live.specs.Calls.{place_of}
 use Rattle.live.proofs.Tables.{place_found}
 
@@ -45,3 +55,40 @@ module _ (n : ℕ) (id : ℕ → ℕ) (x : ℕ) where
       go : (t : Bool) → any_below n (same id x) ≡ t → t ≡ false
       go true e = absurd (omega (arith, h, (place_found n id x e).below))
       go false e = refl
+
+-- a place that is n where there is none
+unwrap_cut : (a n k : ℕ) → k ≡ n → a ≤ n → unwrap_or (cond (ltb a k) (Some a) None) n ≡ a
+unwrap_cut a n k e h = grind (arith, common_steps)
+
+-- what the library's search of the first n finds, and n where it finds none
+module _ (n : ℕ) (ids : List ℕ) (x : ℕ) (l : n ≤ length ids) where
+  abbrev is : ℕ → Bool
+  is y = eqb y x
+
+  -- the first that is this one, or n
+  abbrev at : ℕ
+  at = position_or_len is (take n ids)
+
+  long : length (take n ids) ≡ n
+  long = length-take-le n ids l
+
+  at_most : at ≤ n
+  at_most = omega (arith, prefix_len-le-length (λ y. not (is y)) (take n ids), long)
+
+  none_before : any_below at (same (item_in ids) x) ≡ false
+  none_before =
+      none_any at _ (λ k h. ap is (sym (get_or-take n ids k 0 (omega (arith, at_most)))) ∙ fails_before_first is (take n ids) k 0 h)
+
+  at_place : at ≡ place_of n (item_in ids) x
+  at_place = go (dec_lt at n)
+    where
+      go : Dec (at < n) → at ≡ place_of n (item_in ids) x
+      go (yes h) =
+          let there = passes_at_first is (take n ids) 0 (rw long h) in
+          sym (place_at n (item_in ids) x at h none_before (sym (get_or-take n ids at 0 h) ∙ eqb-true _ _ there))
+      go (no h) =
+          let e : at ≡ n = omega (arith, at_most) in
+          e ∙ sym (place_none n (item_in ids) x (ap (λ (k : ℕ). any_below k (same (item_in ids) x)) (sym e) ∙ none_before))
+
+  pub place_first : unwrap_or (position is (take n ids)) n ≡ place_of n (item_in ids) x
+  place_first = unwrap_cut at n (length (take n ids)) long at_most ∙ at_place

@@ -5,7 +5,7 @@ use lib.Seq.{length-take-le}
 use Rattle.graph.specs.Graph.{Graph, graph}
 use Rattle.printout.specs.Printed.{PrintedPlan, plan_text}
 use Rattle.answers.specs.Answering.{putting}
-use Rattle.answering.proofs.Pools.{surely_built, plannable, plan_is}
+use Rattle.answering.proofs.Pools.{never_unbuilt, plannable, plan_is}
 use Rattle.answering.proofs.print_pool.Goals as goal
 
 -- the tables to be built
@@ -16,7 +16,7 @@ roomy : (1600 ≤ length empty.compatibilities) × (1600 ≤ length empty.weight
 roomy = (lit≤ tt, lit≤ tt)
 
 pub unwrap-requires : goal.unwrap-requires
-unwrap-requires c = surely_built _ _ _ c.requires empty roomy c.build.result _ c.build.ensures.rightly
+unwrap-requires c = never_unbuilt _ _ _ c.requires empty roomy c.build.result _ c.build.ensures.rightly
 
 pub print_planned-requires : goal.print_planned-requires
 print_planned-requires c =

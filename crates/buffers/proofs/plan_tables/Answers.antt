@@ -5,7 +5,7 @@ use lib.ListN.{replicate, length-replicate}
 use Rattle.exchange.specs.Input.{no_floor, request}
 use Rattle.exchange.specs.Planning.{Lent, lent}
 use Rattle.buffers.specs.Preconditions.{FaultlessTables, no_records}
-use Rattle.buffers.proofs.Plans.{Roomy, surely_planned, partnered}
+use Rattle.buffers.proofs.Plans.{Roomy, never_refused, partnered}
 use Rattle.buffers.proofs.plan_tables.Goals as goal
 
 -- the lent tables, before the call
@@ -27,7 +27,7 @@ pub unwrap-requires : goal.unwrap-requires
 unwrap-requires c =
     let a = c.args in
     let p = c.plan_recorded in
-    surely_planned a.n _ _ _ c.requires.0 (lent_to a.donors.now a.recipients.now) (roomy a.n _ _ _ _ _ c.requires.0 c.requires.1 c.requires.2)
+    never_refused a.n _ _ _ c.requires.0 (lent_to a.donors.now a.recipients.now) (roomy a.n _ _ _ _ _ c.requires.0 c.requires.1 c.requires.2)
     p.result _ p.ensures.rightly
 
 pub returns : goal.returns

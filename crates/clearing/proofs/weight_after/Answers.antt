@@ -1,25 +1,11 @@
 -- `clearing::weight_after` meets its contract. Assumes nothing.
 use native.Mathlib.Omega.{arith}
 use mathlib.Core.Path.{◌∙◌}
-use borrow.Author.Rules.{rules}
 use Rattle.gates.specs.Secrets.{value_of}
-use Rattle.gates.proofs.Gates.{raised, raised_then, room-left}
+use Rattle.gates.proofs.Gates.{raised, raised_then}
 use Rattle.cursor.specs.Cursor.{shown}
-use Rattle.clearing.proofs.Kept.{first_fits, second_fits, two_cleared, third_fits, triple_cleared, tally_two, tally_triple}
+use Rattle.clearing.proofs.Kept.{two_cleared, triple_cleared, tally_two, tally_triple}
 use Rattle.clearing.proofs.weight_after.Goals as goal
-
-pub product-first-requires : goal.product-first-requires
-product-first-requires c =
-    let a = c.args in
-    (first_fits a.n (value_of a.x) a.p (shown a.choice) c.requires.0 (omega arith) _ c.demux_readout.ensures, search rules)
-
-pub product-second-requires : goal.product-second-requires
-product-second-requires c =
-    let a = c.args in (
-      second_fits a.n (value_of a.x) a.p (shown a.choice) c.requires.0 (omega arith) _ c.demux_readout.ensures _ c.product-first.ensures.0 _
-          c.demux_readout-2.ensures,
-      search rules,
-    )
 
 pub returns-then-p-n : goal.returns-then-p-n
 returns-then-p-n c =
@@ -27,14 +13,6 @@ returns-then-p-n c =
       two_cleared a.n (value_of a.x) a.p (shown a.choice) c.requires.0 (omega arith) _ c.demux_readout.ensures _ c.product-first.ensures.0 _
           c.demux_readout-2.ensures c.if-p-n.true _ c.product-second.ensures.0,
       raised 0 2 _ _ (raised_then c.product-first.ensures.1 c.product-second.ensures.1) ∙ tally_two _ _ c.requires.0 _ c.if-p-n.true,
-    )
-
-pub product-requires : goal.product-requires
-product-requires c =
-    let a = c.args in (
-      third_fits a.n (value_of a.x) a.p (shown a.choice) c.requires.0 (omega arith) _ c.demux_readout.ensures _ c.product-first.ensures.0 _
-          c.demux_readout-2.ensures _ c.product-second.ensures.0 _ c.demux_readout-3.ensures c.if-p-n.false,
-      room-left 0 2 0 1 _ _ c.requires.1 (raised_then c.product-first.ensures.1 c.product-second.ensures.1),
     )
 
 pub returns : goal.returns

@@ -7,6 +7,3 @@ pub overflow_add-result : goal.overflow_add-result
 overflow_add-result c =
     let start = c in
     record { fits = omega (arith, c.begin_below.ensures, start.requires.1, start.requires.2, start.requires.3, twos_le _ start.requires.3) }
-
-pub returns : goal.returns
-returns c = let start = c in record { rising = start.requires.1; within = start.requires.2; number = omega (arith, c.begin_below.ensures) }

@@ -3,15 +3,6 @@ use native.Mathlib.Omega.{arith}
 use Rattle.resolution.proofs.AllResolved.{begins, ends, asks_one, again}
 use Rattle.resolution.proofs.resolve.Goals as goal
 
-pub alone-requires : goal.alone-requires
-alone-requires c = (c.requires.readable.few, omega (arith, c.requires.readable.few, c.requires.all_donors))
-
-pub alone-requires-2 : goal.alone-requires-2
-alone-requires-2 c = (c.requires.readable.few, omega (arith, c.requires.readable.few, c.requires.all_recipients))
-
-pub none-resolved-requires : goal.none-resolved-requires
-none-resolved-requires c = c.requires.readable.few
-
 pub loop-choice-init : goal.loop-choice-init
 loop-choice-init c = begins _ _ _ _ _ _ _ c.requires _ _ _ c.alone.ensures c.alone-2.ensures c.none-resolved.ensures
 

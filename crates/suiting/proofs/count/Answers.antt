@@ -10,7 +10,7 @@ loop-i-init c = rows_none _ _ _ _ c.requires (cleared _ _ _ c.requires.numbers (
 pub add_row-requires : goal.add_row-requires
 add_row-requires c =
     let l = c.loop-i in
-    rows_above _ _ _ _ c.requires (cleared _ _ _ c.requires.numbers (c.fill.ensures.after (λ y h. h))) l.i l.counts l.invariant c.loop-i-test.true
+    rows_above _ _ _ _ c.requires (cleared _ _ _ c.requires.numbers (c.fill.ensures.after (λ y h. h))) l.i l.counts l.invariant (omega arith)
 
 pub loop-i-preserved : goal.loop-i-preserved
 loop-i-preserved c =

@@ -2,33 +2,12 @@
 -- Assumes nothing.
 use native.Mathlib.Omega.{arith}
 use Rattle.laws.proofs.Lent.{filling_none, filling_all}
-use Rattle.graph.proofs.Rows.{row_fits, rows_few}
 use Rattle.live.specs.Suitable.{with_numbers}
-use Rattle.suiting.proofs.Counting.{before_inside, number_least, number_more}
+use Rattle.suiting.proofs.Counting.{number_least, number_more}
 use Rattle.suiting.proofs.take_out.Goals as goal
 
 pub loop-j-init : goal.loop-j-init
 loop-j-init c = filling_none _ _
-
-pub offset_bounds-suitable-before : goal.offset_bounds-suitable-before
-offset_bounds-suitable-before c =
-    let inside = before_inside _ _ _ c.loop-j-test.true _ c.place_before-before.ensures in
-    omega arith
-
-pub bounds-suitable-before : goal.bounds-suitable-before
-bounds-suitable-before c =
-    let inside = before_inside _ _ _ c.loop-j-test.true _ c.place_before-before.ensures in
-    omega arith
-
-pub overflow_add-start : goal.overflow_add-start
-overflow_add-start c =
-    let inside = before_inside _ _ _ c.loop-j-test.true _ c.place_before-before.ensures in
-    omega (arith, row_fits c.requires.inside, rows_few c.requires.tables.few)
-
-pub bounds-compatibilities-start : goal.bounds-compatibilities-start
-bounds-compatibilities-start c =
-    let inside = before_inside _ _ _ c.loop-j-test.true _ c.place_before-before.ensures in
-    omega (arith, row_fits c.requires.inside)
 
 pub overflow_sub-suitable : goal.overflow_sub-suitable
 overflow_sub-suitable c =
