@@ -2,63 +2,35 @@
 // are left over. Where a read fails nothing is planned; that, and output that is lost, is said on standard error.
 #![tactic(auto)]
 
-ghost use Rattle.std.specs.Prelude.{◌≤◌, length};
+ghost use Rattle.std.specs.Prelude.{◌≤◌, length, IfOk};
 
-use std::io::Read;
+use std::io;
+use std::io::{Read, Write};
 
-// What was read: so many bytes, and whether that is all, or a read failed.
-#[derive(Clone, Copy)]
-struct Input {
-    size: usize,
-    whole: bool,
-}
-
-// Reads until the table is full or the input ends.
-fn read_sheet<R: Read>(from: &mut R, sheet: &mut [u8]) -> Input
-    ensures { result.size ≤ length sheet.new }
+// Reads until the table is full or the input ends, and gives how many bytes it read.
+fn read_sheet<R: Read>(from: &mut R, sheet: &mut [u8]) -> io::Result<usize>
+    ensures { IfOk result (λ size. size ≤ length sheet.new) }
 {
-    let mut size: usize = 0;
+    let mut size = 0;
     while size < sheet.len() {
-        match from.read(&mut sheet[size..]) {
-            Ok(0) => {
-                return Input {
-                    size: size,
-                    whole: true,
-                };
-            }
-            Ok(more) => {
-                size += more;
-            }
-            Err(_) => {
-                return Input {
-                    size: size,
-                    whole: false,
-                };
-            }
+        let more = from.read(&mut sheet[size..])?;
+        if more == 0 {
+            break;
         }
+        size += more;
     }
-    Input {
-        size: size,
-        whole: true,
-    }
+    Ok(size)
 }
 
 fn main(rt: HostRuntime) {
     let mut sheet = [0u8; 7426];
-    let input = read_sheet(&mut rt.stdin(), &mut sheet);
-    if !input.whole {
-        io::write_all(
-            2,
-            b"plan: standard input could not be read; nothing was planned\n",
-        );
+    let Ok(size) = read_sheet(&mut rt.stdin(), &mut sheet) else {
+        let _ = rt.eprintln("plan: standard input could not be read; nothing was planned");
         return;
-    }
+    };
     let mut text = [0u8; 1458];
-    let length = answering::answer(&sheet[..input.size], &mut text);
-    if !io::write_all(1, &text[..length]) {
-        io::write_all(
-            2,
-            b"plan: standard output could not be written; the text is not whole\n",
-        );
+    let length = answering::answer(&sheet[..size], &mut text);
+    if rt.stdout().write_all(&text[..length]).is_err() {
+        let _ = rt.eprintln("plan: standard output could not be written; the text is not whole");
     }
 }
