@@ -46,14 +46,14 @@ impl fmt::Display for Answer {
         match self.0 {
             Planning::Made(plan) => {
                 let tally = plan.tally;
-                write!(f, " weight {} cycles {}", plan.weight, plan.cycles)?;
+                write!(f, "weight {} cycles {}", plan.weight, plan.cycles)?;
                 write!(
                     f,
                     " tally {} {} {}",
                     tally.comparisons, tally.products, tally.rounds
                 )
             }
-            Planning::Refused(why) => write!(f, " refused {}", refusal::number(why)),
+            Planning::Refused(why) => write!(f, "refused {}", refusal::number(why)),
         }
     }
 }
@@ -120,7 +120,7 @@ impl Pool<'_> {
             records: &records[..rounds],
             past: records[rounds],
         };
-        println!(rt; "{name}:{answer}")?;
+        println!(rt; "{name}: {answer}")?;
         println!(rt; "  weights{}", Row(&weights[..=subsets]))?;
         println!(rt; "  choices{}", Row(&choices[..=rounds]))?;
         println!(rt; "  donors{}", Row(&donors[..=self.n]))?;
@@ -303,7 +303,7 @@ fn try_high(rt: &impl Print) -> io::Result<()> {
     high.attempt(rt, "13 and 9", 1)?;
     let many = Pool { n: 201, ..high };
     let answer = many.plan(&mut [], &mut [], &mut [], &mut [], &mut []);
-    println!(rt; "4 and 13:{answer}")
+    println!(rt; "4 and 13: {answer}")
 }
 
 fn try_floors(rt: &impl Print) -> io::Result<()> {
@@ -435,7 +435,7 @@ fn try_36(rt: &impl Print, name: &str, floor: u32) -> io::Result<()> {
         records: &records[..18],
         past: records[18],
     };
-    println!(rt; "{name}:{answer}")?;
+    println!(rt; "{name}: {answer}")?;
     println!(rt; "  choices{}", Row(&choices))?;
     println!(rt; "  donors{}", Row(&donors))?;
     println!(rt; "  recipients{}", Row(&recipients))?;
@@ -466,7 +466,7 @@ fn try_200_with(rt: &impl Print, weights: &mut [u32]) -> io::Result<()> {
         &mut recipients,
         &mut records,
     );
-    println!(rt; "200 pairs:{answer}")?;
+    println!(rt; "200 pairs: {answer}")?;
     println!(rt; "  choices{}", Row(&choices))?;
     println!(rt; "  recipients{}", Row(&recipients))
 }
