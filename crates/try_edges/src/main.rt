@@ -77,8 +77,8 @@ struct Answer(Result<(), Refusal>);
 impl fmt::Display for Answer {
     fn fmt<W: fmt::Write>(&self, f: &mut fmt::Formatter<W>) -> fmt::Result {
         match self.0 {
-            Ok(()) => write!(f, " built"),
-            Err(why) => write!(f, " refused {}", why.number()),
+            Ok(()) => write!(f, "built"),
+            Err(why) => write!(f, "refused {}", why.number()),
         }
     }
 }
@@ -176,7 +176,7 @@ impl Build<'_> {
             &mut m[..self.m_space],
             &mut w[..self.w_space],
         ));
-        print!(rt; "{name}:{answer} M{} past {}", Row(&m[..4]), m[4])?;
+        print!(rt; "{name}: {answer} M{} past {}", Row(&m[..4]), m[4])?;
         println!(rt; " W{} past {}", Row(&w[..4]), w[4])
     }
 }
@@ -421,7 +421,7 @@ fn try_most(rt: &impl Print) -> io::Result<()> {
         &mut m,
         &mut w,
     ));
-    print!(rt; "200 pairs:{answer}")?;
+    print!(rt; "200 pairs: {answer}")?;
     print!(rt;
         " M {} {} {} {} past {}",
         m[0], m[199], m[39800], m[39999], m[40000]

@@ -6,7 +6,7 @@
 ghost use Rattle.std.specs.Prelude.{◌+◌, ◌≤◌};
 
 use joining::Joining;
-use refusal::Refusal;
+use std::io;
 
 // Two sheets: the version, N and the first id of each; then a point of the second that is another, by its number, 6 for none, and what it is. Version 1
 // beside version 2 with document 01's points, and with no pairs on one side or both; each of the six points one more, and with no pairs in the first; an id in
@@ -34,32 +34,20 @@ const SHEETS: [[usize; 8]; 20] = [
     [1, 2, 11, 1, 1, 13, 6, 0],
 ];
 
-fn print(text: &[u8]) {
-    io::write_all(1, text);
-}
-
-fn print_number(n: usize) {
-    print(b" ");
-    io::print_decimal(1, n as u64);
-}
-
 // The byte at a place, and 0 past the end.
 fn byte(sheet: &[u8], at: usize) -> usize
     ensures { result ≤ 255 }
 {
-    if at < sheet.len() { wide(sheet[at]) } else { 0 }
-}
-
-fn wide(x: u8) -> usize
-    ensures { result ≤ 255 }
-{
-    x as usize
+    match sheet.get(at) {
+        Some(byte) => usize::from(*byte),
+        None => 0,
+    }
 }
 
 // Sets the byte at a place, if there is one.
 fn set(sheet: &mut [u8], at: usize, to: usize) {
-    if at < sheet.len() {
-        sheet[at] = (to % 256) as u8;
+    if let Some(byte) = sheet.get_mut(at) {
+        *byte = (to % 256) as u8;
     }
 }
 
@@ -118,11 +106,9 @@ fn fill(sheet: &mut [u8], version: usize, n: usize, id: usize, turned: bool)
 {
     set_head(sheet, version, n);
     let from = start(version);
-    let mut i: usize = 0;
-    while i < n {
+    for i in 0..n {
         let drawn = if turned { n - 1 - i } else { i };
         set_pair(sheet, from, n, i, id + i, drawn);
-        i += 1;
     }
     let last = from + 35 * n;
     set(sheet, last, 3);
@@ -153,196 +139,193 @@ fn place(from: usize, n: usize, i: usize, shuffle: bool) -> usize
 }
 
 // The ids of n pairs, or the shuffle: the last byte of each, or of many only of the first and the last.
-fn print_row(sheet: &[u8], n: usize, shuffle: bool)
+fn print_row(rt: &impl Print, sheet: &[u8], n: usize, shuffle: bool) -> io::Result<()>
     requires { n ≤ 255 }
 {
-    print(b" |");
+    print!(rt; " |")?;
     let from = start(byte(sheet, 4));
-    let mut i: usize = 0;
-    while i < n {
+    for i in 0..n {
         if n < 6 || i == 0 || i + 1 == n {
-            print_number(byte(sheet, place(from, n, i, shuffle)));
+            print!(rt; " {}", byte(sheet, place(from, n, i, shuffle)))?;
         }
-        i += 1;
     }
+    Ok(())
 }
 
 // The points of version 2.
-fn print_points(sheet: &[u8]) {
-    print(b" | points");
-    let mut k: usize = 0;
-    while k < 6 {
-        print_number(256 * byte(sheet, 10 + 2 * k) + byte(sheet, 11 + 2 * k));
-        k += 1;
+fn print_points(rt: &impl Print, sheet: &[u8]) -> io::Result<()> {
+    print!(rt; " | points")?;
+    for k in 0..6 {
+        let point = 256 * byte(sheet, 10 + 2 * k) + byte(sheet, 11 + 2 * k);
+        print!(rt; " {point}")?;
     }
+    Ok(())
 }
 
 // What is in the buffer: N and the version, the points, the ids, the shuffle, and what stands past the sheet.
-fn print_sheet(out: &[u8], length: usize) {
+fn print_sheet(rt: &impl Print, out: &[u8], length: usize) -> io::Result<()> {
     let n = byte(out, 6);
     let version = byte(out, 4);
-    print(b" |");
-    print_number(n);
-    print(b" pairs of version");
-    print_number(version);
+    print!(rt; " | {n} pairs of version {version}")?;
     if version == 2 {
-        print_points(out);
+        print_points(rt, out)?;
     }
-    print_row(out, n, false);
-    print_row(out, n, true);
-    if length < out.len() {
-        print(b" |");
-        print_number(byte(out, length));
+    print_row(rt, out, n, false)?;
+    print_row(rt, out, n, true)?;
+    if let Some(past) = out.get(length) {
+        print!(rt; " | {past}")?;
     }
-}
-
-fn print_refusal(why: Refusal, place: usize) {
-    print(b" refused");
-    print_number(wide(refusal::number(why)));
-    print(b" at");
-    print_number(place);
+    Ok(())
 }
 
 // Joins two sheets; prints the answer, and what stands then in the buffer: the sheet, or the first byte and the last.
-fn try_joining(name: &[u8], first: &[u8], second: &[u8], out: &mut [u8]) {
-    let answer = joining::join(first, second, out);
-    print(name);
-    match answer {
+fn try_joining(
+    rt: &impl Print,
+    name: &str,
+    first: &[u8],
+    second: &[u8],
+    out: &mut [u8],
+) -> io::Result<()> {
+    print!(rt; "{name}:")?;
+    match joining::join(first, second, out) {
         Joining::Length(length) => {
-            print_number(length);
-            print(b" bytes");
-            print_sheet(out, length);
+            print!(rt; " {length} bytes")?;
+            print_sheet(rt, out, length)?;
         }
         Joining::Refused(why, place) => {
-            print_refusal(why, place);
-            if 0 < out.len() {
-                let last = out.len() - 1;
-                print(b" |");
-                print_number(byte(out, 0));
-                print_number(byte(out, last));
+            print!(rt; " refused {} at {place}", refusal::number(why))?;
+            if let (Some(first), Some(last)) = (out.first(), out.last()) {
+                print!(rt; " | {first} {last}")?;
             }
         }
     }
-    print(b"\n");
+    println!(rt)
 }
 
 // Joins two sheets, and says whether the buffer begins with the sheet that is due.
-fn try_same(name: &[u8], first: &[u8], second: &[u8], due: &[u8]) {
-    let mut out = [99u8; 200];
-    try_joining(name, first, second, &mut out);
-    let size = due.len();
-    if size <= 200 {
-        if check::same(due, &out[..size]) {
-            print(b"  the same sheet\n");
-        }
+fn try_same(
+    rt: &impl Print,
+    name: &str,
+    first: &[u8],
+    second: &[u8],
+    due: &[u8],
+) -> io::Result<()> {
+    let mut out = [99; 200];
+    try_joining(rt, name, first, second, &mut out)?;
+    if out.starts_with(due) {
+        println!(rt; "  the same sheet")?;
     }
+    Ok(())
 }
 
 // Document 01's example, with addenda of one pair and of two.
-fn try_addenda() {
+fn try_addenda(rt: &impl Print) -> io::Result<()> {
     let sheet = example();
-    let mut one = [0u8; 47];
+    let mut one = [0; 47];
     fill(&mut one, 1, 1, 13, false);
-    let mut two = [0u8; 84];
+    let mut two = [0; 84];
     fill(&mut two, 1, 2, 13, true);
-    let mut out = [99u8; 122];
-    try_joining(b"an addendum of one pair:", &sheet, &one, &mut out);
-    let mut more = [99u8; 159];
+    let mut out = [99; 122];
+    try_joining(rt, "an addendum of one pair", &sheet, &one, &mut out)?;
+    let mut more = [99; 159];
     try_joining(
-        b"an addendum of two pairs, shuffle 1 0:",
+        rt,
+        "an addendum of two pairs, shuffle 1 0",
         &sheet,
         &two,
         &mut more,
-    );
+    )
 }
 
 // With a sheet of no pairs.
-fn try_empty() {
+fn try_empty(rt: &impl Print) -> io::Result<()> {
     let sheet = example();
-    let mut none = [0u8; 10];
+    let mut none = [0; 10];
     fill(&mut none, 1, 0, 0, false);
-    try_same(b"no pairs in the addendum:", &sheet, &none, &sheet);
-    try_same(b"no pairs in the first:", &none, &sheet, &sheet);
-    try_same(b"no pairs in either:", &none, &none, &none);
+    try_same(rt, "no pairs in the addendum", &sheet, &none, &sheet)?;
+    try_same(rt, "no pairs in the first", &none, &sheet, &sheet)?;
+    try_same(rt, "no pairs in either", &none, &none, &none)
 }
 
 // Buffers that are just long enough, a byte too short, and none.
-fn try_buffers() {
+fn try_buffers(rt: &impl Print) -> io::Result<()> {
     let sheet = example();
-    let mut one = [0u8; 47];
+    let mut one = [0; 47];
     fill(&mut one, 1, 1, 13, false);
-    let mut out = [99u8; 121];
-    try_joining(b"a buffer just long enough:", &sheet, &one, &mut out);
-    let mut short = [99u8; 120];
-    try_joining(b"a buffer a byte too short:", &sheet, &one, &mut short);
-    let mut nothing = [99u8; 0];
-    try_joining(b"no buffer:", &sheet, &one, &mut nothing);
+    let mut out = [99; 121];
+    try_joining(rt, "a buffer just long enough", &sheet, &one, &mut out)?;
+    let mut short = [99; 120];
+    try_joining(rt, "a buffer a byte too short", &sheet, &one, &mut short)?;
+    let mut nothing = [99; 0];
+    try_joining(rt, "no buffer", &sheet, &one, &mut nothing)
 }
 
 // 200 pairs together, in two sheets of so many bytes, into a buffer a byte longer than need be and into none.
-fn try_200(name: &[u8], version: usize, size: usize)
+fn try_200(rt: &impl Print, name: &str, version: usize, size: usize) -> io::Result<()>
     requires { size ≤ 3725 }
 {
-    let mut first = [0u8; 3725];
+    let mut first = [0; 3725];
     fill(&mut first, version, 100, 0, true);
-    let mut second = [0u8; 3725];
+    let mut second = [0; 3725];
     fill(&mut second, version, 100, 100, false);
-    let mut out = [99u8; 7426];
-    try_joining(name, &first[..size], &second[..size], &mut out);
-    let mut nothing = [99u8; 0];
+    let mut out = [99; 7426];
+    try_joining(rt, name, &first[..size], &second[..size], &mut out)?;
+    let mut nothing = [99; 0];
     try_joining(
-        b"  no buffer:",
+        rt,
+        "  no buffer",
         &first[..size],
         &second[..size],
         &mut nothing,
-    );
+    )
 }
 
 // 201 pairs together, the second's of this version, in so many bytes, with this id in its last pair, into a buffer that would hold them and into none.
-fn try_201(name: &[u8], version: usize, size: usize, id: usize)
+fn try_201(rt: &impl Print, name: &str, version: usize, size: usize, id: usize) -> io::Result<()>
     requires { size ≤ 3762 }
 {
-    let mut first = [0u8; 3710];
+    let mut first = [0; 3710];
     fill(&mut first, 1, 100, 0, true);
-    let mut second = [0u8; 3762];
+    let mut second = [0; 3762];
     fill(&mut second, version, 101, 100, false);
     set(&mut second, start(version) + 6 + 35 * 100, id);
-    let mut out = [99u8; 7447];
-    try_joining(name, &first, &second[..size], &mut out);
-    let mut nothing = [99u8; 0];
-    try_joining(b"  no buffer:", &first, &second[..size], &mut nothing);
+    let mut out = [99; 7447];
+    try_joining(rt, name, &first, &second[..size], &mut out)?;
+    let mut nothing = [99; 0];
+    try_joining(rt, "  no buffer", &first, &second[..size], &mut nothing)
 }
 
 // A fault of the first sheet, of the second, and of both. The buffer is too short as well.
-fn try_own_faults() {
+fn try_own_faults(rt: &impl Print) -> io::Result<()> {
     let sheet = example();
     let mut wrong = example();
     set(&mut wrong, 49, 4);
-    let mut long = [0u8; 48];
+    let mut long = [0; 48];
     fill(&mut long, 1, 1, 13, false);
-    let mut out = [99u8; 9];
-    try_joining(b"blood 4 in the first:", &wrong, &sheet, &mut out);
-    try_joining(b"a byte too many in the second:", &sheet, &long, &mut out);
-    try_joining(b"both:", &wrong, &long, &mut out);
-    try_joining(b"both, the other way round:", &long, &wrong, &mut out);
+    let mut out = [99; 9];
+    try_joining(rt, "blood 4 in the first", &wrong, &sheet, &mut out)?;
+    try_joining(rt, "a byte too many in the second", &sheet, &long, &mut out)?;
+    try_joining(rt, "both", &wrong, &long, &mut out)?;
+    try_joining(rt, "both, the other way round", &long, &wrong, &mut out)
 }
 
 // The id of the first's last pair, in a sheet with a byte too many and in one without.
-fn try_shared() {
+fn try_shared(rt: &impl Print) -> io::Result<()> {
     let sheet = example();
-    let mut one = [0u8; 47];
+    let mut one = [0; 47];
     fill(&mut one, 1, 1, 12, false);
-    let mut long = [0u8; 48];
+    let mut long = [0; 48];
     fill(&mut long, 1, 1, 12, false);
-    let mut out = [99u8; 122];
+    let mut out = [99; 122];
     try_joining(
-        b"an id in both, and a byte too many:",
+        rt,
+        "an id in both, and a byte too many",
         &sheet,
         &long,
         &mut out,
-    );
-    try_joining(b"an id in both:", &sheet, &one, &mut out);
-    try_joining(b"a sheet with itself:", &sheet, &sheet, &mut out);
+    )?;
+    try_joining(rt, "an id in both", &sheet, &one, &mut out)?;
+    try_joining(rt, "a sheet with itself", &sheet, &sheet, &mut out)
 }
 
 // The bytes of a sheet of a few pairs.
@@ -355,86 +338,53 @@ fn size(version: usize, n: usize) -> usize
 
 // A sheet of a few pairs, in 99 bytes.
 fn small(version: usize, n: usize, id: usize, turned: bool) -> [u8; 99] {
-    let mut sheet = [0u8; 99];
-    if n <= 2 {
-        if id <= 99 {
-            fill(&mut sheet, version, n, id, turned);
-        }
+    let mut sheet = [0; 99];
+    if n <= 2 && id <= 99 {
+        fill(&mut sheet, version, n, id, turned);
     }
     sheet
 }
 
-// With another point, by its number, if there is such a one.
-fn with_point(sheet: [u8; 99], k: usize, to: usize) -> [u8; 99] {
-    let mut other = sheet;
-    if k < 6 {
-        set_number(&mut other, 10 + 2 * k, to);
-    }
-    other
-}
-
-// Joins the first bytes of two such sheets.
-fn try_first(first: [u8; 99], m: usize, second: [u8; 99], n: usize)
-    requires { (m ≤ 99) × (n ≤ 99) }
-{
-    let mut out = [99u8; 137];
-    try_joining(b":", &first[..m], &second[..n], &mut out);
-}
-
-// Makes the two sheets of a row and joins them.
-fn try_small(row: [usize; 8]) {
-    let m = row[1];
-    let n = row[4];
-    if m <= 2 {
-        if n <= 2 {
-            try_first(
-                small(row[0], m, row[2], true),
-                size(row[0], m),
-                with_point(small(row[3], n, row[5], false), row[6], row[7]),
-                size(row[3], n),
-            );
+// Joins the sheets of each row.
+fn try_rows(rt: &impl Print) -> io::Result<()> {
+    for [version, m, id, second_version, n, second_id, k, to] in SHEETS {
+        print!(rt; "versions {version} {second_version}, pairs {m} {n}")?;
+        print!(rt; ", ids from {id} {second_id}, point {k} is {to}")?;
+        let first = small(version, m, id, true);
+        let mut second = small(second_version, n, second_id, false);
+        if k < 6 {
+            set_number(&mut second, 10 + 2 * k, to);
+        }
+        if m <= 2 && n <= 2 {
+            let first = &first[..size(version, m)];
+            let second = &second[..size(second_version, n)];
+            try_joining(rt, "", first, second, &mut [99; 137])?;
         }
     }
+    Ok(())
 }
 
-// Joins the sheets of each row.
-fn try_rows() {
-    let mut i: usize = 0;
-    while i < 20 {
-        let row = SHEETS[i];
-        print(b"versions");
-        print_number(row[0]);
-        print_number(row[3]);
-        print(b", pairs");
-        print_number(row[1]);
-        print_number(row[4]);
-        print(b", ids from");
-        print_number(row[2]);
-        print_number(row[5]);
-        print(b", point");
-        print_number(row[6]);
-        print(b" is");
-        print_number(row[7]);
-        try_small(row);
-        i += 1;
-    }
-}
-
-fn main() {
-    try_addenda();
-    try_empty();
-    try_buffers();
-    try_200(b"100 and 100 pairs:", 1, 3710);
-    try_200(b"100 and 100 pairs of version 2:", 2, 3725);
-    try_201(b"100 and 101 pairs:", 1, 3747, 200);
-    try_201(b"100 and 101 pairs, an id in both:", 1, 3747, 99);
+fn run(rt: &impl Print) -> io::Result<()> {
+    try_addenda(rt)?;
+    try_empty(rt)?;
+    try_buffers(rt)?;
+    try_200(rt, "100 and 100 pairs", 1, 3710)?;
+    try_200(rt, "100 and 100 pairs of version 2", 2, 3725)?;
+    try_201(rt, "100 and 101 pairs", 1, 3747, 200)?;
+    try_201(rt, "100 and 101 pairs, an id in both", 1, 3747, 99)?;
     try_201(
-        b"100 and 101 pairs, an id in both, and another version:",
+        rt,
+        "100 and 101 pairs, an id in both, and another version",
         2,
         3762,
         99,
-    );
-    try_own_faults();
-    try_shared();
-    try_rows();
+    )?;
+    try_own_faults(rt)?;
+    try_shared(rt)?;
+    try_rows(rt)
+}
+
+fn main(rt: HostRuntime) {
+    // Where output is lost, it is lost silently.
+    let _ = run(&rt);
 }

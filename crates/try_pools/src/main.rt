@@ -47,14 +47,14 @@ impl fmt::Display for Answer {
         match self.0 {
             Ok(plan) => {
                 let tally = plan.tally;
-                write!(f, " weight {} cycles {}", plan.weight, plan.cycles)?;
+                write!(f, "weight {} cycles {}", plan.weight, plan.cycles)?;
                 write!(
                     f,
                     " tally {} {} {}",
                     tally.comparisons, tally.products, tally.rounds
                 )
             }
-            Err(why) => write!(f, " refused {}", why.number()),
+            Err(why) => write!(f, "refused {}", why.number()),
         }
     }
 }
@@ -121,7 +121,7 @@ impl Pool<'_> {
             records: &records[..rounds],
             past: records[rounds],
         };
-        println!(rt; "{name}:{answer}")?;
+        println!(rt; "{name}: {answer}")?;
         println!(rt; "  weights{}", Row(&weights[..=subsets]))?;
         println!(rt; "  choices{}", Row(&choices[..=rounds]))?;
         println!(rt; "  donors{}", Row(&donors[..=self.n]))?;
@@ -304,7 +304,7 @@ fn try_high(rt: &impl Print) -> io::Result<()> {
     high.attempt(rt, "13 and 9", 1)?;
     let many = Pool { n: 201, ..high };
     let answer = many.plan(&mut [], &mut [], &mut [], &mut [], &mut []);
-    println!(rt; "4 and 13:{answer}")
+    println!(rt; "4 and 13: {answer}")
 }
 
 fn try_floors(rt: &impl Print) -> io::Result<()> {
@@ -436,7 +436,7 @@ fn try_36(rt: &impl Print, name: &str, floor: u32) -> io::Result<()> {
         records: &records[..18],
         past: records[18],
     };
-    println!(rt; "{name}:{answer}")?;
+    println!(rt; "{name}: {answer}")?;
     println!(rt; "  choices{}", Row(&choices))?;
     println!(rt; "  donors{}", Row(&donors))?;
     println!(rt; "  recipients{}", Row(&recipients))?;
@@ -467,7 +467,7 @@ fn try_200_with(rt: &impl Print, weights: &mut [u32]) -> io::Result<()> {
         &mut recipients,
         &mut records,
     );
-    println!(rt; "200 pairs:{answer}")?;
+    println!(rt; "200 pairs: {answer}")?;
     println!(rt; "  choices{}", Row(&choices))?;
     println!(rt; "  recipients{}", Row(&recipients))
 }
