@@ -5,7 +5,6 @@
 
 ghost use Rattle.std.specs.Prelude.{◌+◌, ◌≤◌};
 
-use joining::Joining;
 use std::io;
 
 // Two sheets: the version, N and the first id of each; then a point of the second that is another, by its number, 6 for none, and what it is. Version 1
@@ -188,12 +187,12 @@ fn try_joining(
 ) -> io::Result<()> {
     print!(rt; "{name}:")?;
     match joining::join(first, second, out) {
-        Joining::Length(length) => {
+        Ok(length) => {
             print!(rt; " {length} bytes")?;
             print_sheet(rt, out, length)?;
         }
-        Joining::Refused(why, place) => {
-            print!(rt; " refused {} at {place}", refusal::number(why))?;
+        Err(refused) => {
+            print!(rt; " refused {} at {}", refused.why.number(), refused.place)?;
             if let (Some(first), Some(last)) = (out.first(), out.last()) {
                 print!(rt; " | {first} {last}")?;
             }
