@@ -8,7 +8,12 @@ use refusal::Refusal;
 use std::io;
 
 // Prints the answer, the text and eight bytes more, or as many as there are.
-fn show(rt: &impl Print, name: &str, answer: Result<usize, Refusal>, out: &[u8; 300]) -> io::Result<()> {
+fn show(
+    rt: &impl Print,
+    name: &str,
+    answer: Result<usize, Refusal>,
+    out: &[u8; 300],
+) -> io::Result<()> {
     let length = match answer {
         Ok(n) => {
             println!(rt; "== {name}: {n} bytes")?;
@@ -150,7 +155,18 @@ fn try_plans(rt: &impl Print) -> io::Result<()> {
 // The example as a program prints it: into a buffer that always suffices for two pairs, so that there is no refusal, and the text alone.
 fn print_example(rt: &impl Print) -> io::Result<()> {
     let mut out = [b'#'; 204];
-    let n = printout::print_plan(2, 1, 2900, &[11, 12], &[1, 0], &[1, 0], 1, 6, 1, &mut out).unwrap();
+    let n = printout::print_plan(
+        2,
+        1,
+        2900,
+        &[11, 12],
+        &[1, 0],
+        &[1, 0],
+        1,
+        6,
+        1,
+        &mut out,
+    ).unwrap();
     rt.write_all(&out[..n])
 }
 

@@ -11,8 +11,8 @@ use Rattle.try_printouts.proofs.print_example.Goals as goal
 abbrev example : PrintedPlan
 example = printed_plan 2 1 2900 (11 ∷ 12 ∷ []) (1 ∷ 0 ∷ []) (1 ∷ 0 ∷ []) 1 6 1
 
-pub unwrap-requires : goal.unwrap-requires
-unwrap-requires g c =
+pub unwrap-n-requires : goal.unwrap-n-requires
+unwrap-n-requires g c =
     let p = c.print_plan in
     never_refused {k = length (plan_text example)} p.result
     (p.ensures.rightly.prints (record { ids = omega arith; donors = omega arith; recipients = omega arith }, omega arith))
