@@ -3,7 +3,7 @@
 
 ghost use Rattle.std.specs.Prelude.{◌≡◌};
 ghost use Rattle.pool.specs.Tables.{field_room};
-ghost use Rattle.fields.specs.Lent.{fields_in};
+ghost use Rattle.fields.specs.Lent.{fields_in, fields_lent};
 
 // A table for each field of a pair: pair i's fields stand at i.
 #[derive(Clone, Copy)]
@@ -35,5 +35,36 @@ impl Fields<'_> {
             .len()
             .min(self.patient_blood.len().min(ages));
         self.ids.len().min(bloods)
+    }
+}
+
+// The same tables, lent to be changed.
+#[derive(Drop)]
+pub struct FieldsMut<'a> {
+    pub ids: &'a mut [u32],
+    pub donor_blood: &'a mut [u8],
+    pub patient_blood: &'a mut [u8],
+    pub donor_age: &'a mut [u8],
+    pub patient_age: &'a mut [u8],
+    pub donor_antigens: &'a mut [u64],
+    pub patient_antigens: &'a mut [u64],
+    pub patient_antibodies: &'a mut [u64],
+}
+
+impl FieldsMut<'_> {
+    // The tables, to be read.
+    pub fn read(&self) -> Fields<'_>
+        ensures { fields_in result ≡ fields_lent self.now }
+    {
+        Fields {
+            ids: &*self.ids,
+            donor_blood: &*self.donor_blood,
+            patient_blood: &*self.patient_blood,
+            donor_age: &*self.donor_age,
+            patient_age: &*self.patient_age,
+            donor_antigens: &*self.donor_antigens,
+            patient_antigens: &*self.patient_antigens,
+            patient_antibodies: &*self.patient_antibodies,
+        }
     }
 }

@@ -3,7 +3,8 @@ use mathlib.Core.Path.{◌≡◌, sym, ap, ◌∙◌}
 use mathlib.Core.List.{List}
 use Prim.Native.Nat.{ℕ, ◌+◌}
 use native.Mathlib.Omega.{arith}
-use lib.ListN.{length}
+use lib.ListN.{length, set}
+use Rattle.laws.proofs.Lent.{stored_one}
 use Rattle.refusal.specs.Fault.{◌then◌}
 use Rattle.refusal.specs.Answer.{outcome}
 use Rattle.refusal.specs.Number.{number_of, fault_at}
@@ -12,7 +13,8 @@ use Rattle.std.specs.Prelude.{Result, Ok, Err}
 use Rattle.refusal.proofs.Faults.{sound_none, faulty_fault, unless_none, unless_fault}
 use Rattle.pool.specs.Pool.{Pair}
 use Rattle.pool.specs.Points.{Points}
-use Rattle.pool.specs.Tables.{Fields, pair_in}
+use Rattle.pool.specs.Tables.{Fields, fields, pair_in}
+use Rattle.pool.specs.Faultless.{FieldsHold}
 use Rattle.graph.specs.Graph.{Graph, filled_graph}
 use Rattle.graph.specs.Preconditions.{Buildable}
 use Rattle.weighing.proofs.Promised.{buildable, filled_whole}
@@ -32,6 +34,24 @@ pub add_countable : (p : Pair) (l : Live) → Registrable p l → (m : List ℕ)
     → Countable (l.count + 1) m l.suitable
 add_countable p l w m e =
     record { few = omega (arith, w.room); rows = rw e w.more.graph.compatibilities; numbers = w.more.suitable }
+
+-- ## A pair's fields are stored, each at this place of its table
+
+pub put_stored : (at : ℕ) (p : Pair) (f : Fields) → FieldsHold (at + 1) f
+    → fields (set f.ids at p.id) (set f.donor_blood at p.donor_blood) (set f.patient_blood at p.patient_blood) (set f.donor_age at p.donor_age) (set f.patient_age at p.patient_age)
+    (set f.donor_antigens at p.donor_antigens) (set f.patient_antigens at p.patient_antigens) (set f.patient_antibodies at p.patient_antibodies) ≡ with_pair at p f
+unfolding with_pair
+put_stored at p f h k =
+    record {
+      ids = stored_one at p.id f.ids (omega (arith, h.ids)) k;
+      donor_blood = stored_one at p.donor_blood f.donor_blood (omega (arith, h.donor_blood)) k;
+      patient_blood = stored_one at p.patient_blood f.patient_blood (omega (arith, h.patient_blood)) k;
+      donor_age = stored_one at p.donor_age f.donor_age (omega (arith, h.donor_age)) k;
+      patient_age = stored_one at p.patient_age f.patient_age (omega (arith, h.patient_age)) k;
+      donor_antigens = stored_one at p.donor_antigens f.donor_antigens (omega (arith, h.donor_antigens)) k;
+      patient_antigens = stored_one at p.patient_antigens f.patient_antigens (omega (arith, h.patient_antigens)) k;
+      patient_antibodies = stored_one at p.patient_antibodies f.patient_antibodies (omega (arith, h.patient_antibodies)) k;
+    }
 
 -- ## A pair that is added: f is what is left of the fields, q what the pool is weighed by
 

@@ -2,25 +2,23 @@
 // were.
 #![tactic(auto)]
 
-ghost use Rattle.std.specs.Prelude.{◌≡◌, List, ℕ, ◌+◌, ◌≤◌, length};
+ghost use Rattle.std.specs.Prelude.{◌≡◌, ◌+◌, ◌≤◌, length};
 ghost use Rattle.refusal.specs.Fault.{◌then◌};
 ghost use Rattle.refusal.specs.Answer.{outcome};
 ghost use Rattle.refusal.specs.Number.{fault_at};
 ghost use Rattle.pool.specs.Tables.{pair_in};
-ghost use Rattle.pool.specs.Lent.{mut_fields_now, mut_lent_fields};
-ghost use Rattle.pool.specs.Faultless.{FieldsHold};
-ghost use Rattle.fields.specs.Lent.{fields_in};
+ghost use Rattle.fields.specs.Lent.{fields_in, fields_lent, fields_left};
 ghost use Rattle.graph.specs.Lent.{graph_now, lent_graph};
 ghost use Rattle.checks.specs.Preconditions.{TablesHaveRoom};
 ghost use Rattle.live.specs.Faults.{stored_fault, range_fault, like_fault, more_fault};
 ghost use Rattle.live.specs.Live.{live};
 ghost use Rattle.live.specs.Faultless.{Registrable};
-ghost use Rattle.live.specs.Calls.{with_pair, registered, registering};
+ghost use Rattle.live.specs.Calls.{registered, registering};
 ghost use Rattle.live.specs.Answers.{answer_of, named};
 ghost use Rattle.live.specs.Lent.{lent_live};
 ghost use Rattle.live.specs.Promises.{RegistersRightly};
 
-use fields::Fields;
+use fields::{Fields, FieldsMut};
 use live::Pair;
 use refusal::Refusal;
 
@@ -88,65 +86,23 @@ fn judge(
     more(n, space, compatibilities.len(), weights)
 }
 
-// A pair's fields, each at this place of its table.
-fn put_pair(
-    at: usize,
-    ids: &mut [u32],
-    donor_blood: &mut [u8],
-    patient_blood: &mut [u8],
-    donor_age: &mut [u8],
-    patient_age: &mut [u8],
-    donor_antigens: &mut [u64],
-    patient_antigens: &mut [u64],
-    patient_antibodies: &mut [u64],
-    pair: Pair,
-)
-    requires { let f = mut_fields_now ids donor_blood patient_blood donor_age patient_age
-        donor_antigens patient_antigens patient_antibodies in
-        FieldsHold (at + 1) f }
-    ensures { let f = mut_lent_fields ids donor_blood patient_blood donor_age patient_age
-        donor_antigens patient_antigens patient_antibodies in
-        f.exit ≡ with_pair at (named pair) f.entry }
-{
-    ids[at] = pair.id;
-    donor_blood[at] = pair.donor_blood;
-    patient_blood[at] = pair.patient_blood;
-    donor_age[at] = pair.donor_age;
-    patient_age[at] = pair.patient_age;
-    donor_antigens[at] = pair.donor_antigens;
-    patient_antigens[at] = pair.patient_antigens;
-    patient_antibodies[at] = pair.patient_antibodies;
-}
-
 // A pair after the first n, and both tables built anew: from all pairs and by the pool's points, whatever they held. The numbers are counted in the M
 // so built: the old ones are those of the M that was lent, which need not be that of the pairs.
 fn add(
     n: usize,
     points: &[u16],
-    ids: &mut [u32],
-    donor_blood: &mut [u8],
-    patient_blood: &mut [u8],
-    donor_age: &mut [u8],
-    patient_age: &mut [u8],
-    donor_antigens: &mut [u64],
-    patient_antigens: &mut [u64],
-    patient_antibodies: &mut [u64],
+    fields: FieldsMut,
     compatibilities: &mut [u8],
     weights: &mut [u16],
     suitable: &mut [u16],
     pair: Pair,
 )
-    requires { let f = mut_fields_now ids donor_blood patient_blood donor_age patient_age
-        donor_antigens patient_antigens patient_antibodies in
-        Registrable (named pair) (live n points.now f (graph_now compatibilities weights) suitable.old) }
-    ensures { let f = mut_lent_fields ids donor_blood patient_blood donor_age patient_age
-        donor_antigens patient_antigens patient_antibodies in
-        let g = lent_graph compatibilities weights in
-        let l = live n points.now f.entry g.entry suitable.old in
-        live (n + 1) points.now f.exit g.exit suitable.new ≡ registered (named pair) l }
+    requires { Registrable (named pair) (live n points.now (fields_lent fields) (graph_now compatibilities weights) suitable.old) }
+    ensures { let g = lent_graph compatibilities weights in
+        let l = live n points.now (fields_lent fields.entry) g.entry suitable.old in
+        live (n + 1) points.now (fields_left fields.exit) g.exit suitable.new ≡ registered (named pair) l }
 {
-    put_pair(
-        n,
+    let FieldsMut {
         ids,
         donor_blood,
         patient_blood,
@@ -155,8 +111,15 @@ fn add(
         donor_antigens,
         patient_antigens,
         patient_antibodies,
-        pair,
-    );
+    } = fields;
+    ids[n] = pair.id;
+    donor_blood[n] = pair.donor_blood;
+    patient_blood[n] = pair.patient_blood;
+    donor_age[n] = pair.donor_age;
+    patient_age[n] = pair.patient_age;
+    donor_antigens[n] = pair.donor_antigens;
+    patient_antigens[n] = pair.patient_antigens;
+    patient_antibodies[n] = pair.patient_antibodies;
     graph::fill(
         points::own(points),
         n + 1,
@@ -201,7 +164,7 @@ pub fn register(
         RegistersRightly (named pair) l.entry (outcome (answer_of result) l.exit) }
 {
     let n = *count;
-    let fields = Fields {
+    let fields = FieldsMut {
         ids,
         donor_blood,
         patient_blood,
@@ -211,33 +174,19 @@ pub fn register(
         patient_antigens,
         patient_antibodies,
     };
-    let space = fields.room().min(suitable.len());
+    let lent = fields.read();
+    let space = lent.room().min(suitable.len());
     judge(
         n,
         space,
         points,
-        fields,
+        lent,
         compatibilities,
         weights.len(),
         suitable,
         pair,
     )?;
-    add(
-        n,
-        points,
-        ids,
-        donor_blood,
-        patient_blood,
-        donor_age,
-        patient_age,
-        donor_antigens,
-        patient_antigens,
-        patient_antibodies,
-        compatibilities,
-        weights,
-        suitable,
-        pair,
-    );
+    add(n, points, fields, compatibilities, weights, suitable, pair);
     *count = n + 1;
     Ok(())
 }

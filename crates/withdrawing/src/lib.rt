@@ -5,7 +5,7 @@
 ghost use Rattle.std.specs.Prelude.{◌≡◌, ◌-◌, ◌≤◌, length};
 ghost use Rattle.refusal.specs.Answer.{outcome};
 ghost use Rattle.pool.specs.Tables.{item_in};
-ghost use Rattle.pool.specs.Lent.{mut_fields_now, mut_lent_fields};
+ghost use Rattle.fields.specs.Lent.{fields_lent, fields_left};
 ghost use Rattle.graph.specs.Graph.{graph};
 ghost use Rattle.graph.specs.Lent.{graph_now, lent_graph};
 ghost use Rattle.live.specs.Suitable.{with_numbers};
@@ -15,7 +15,7 @@ ghost use Rattle.live.specs.Lent.{lent_live};
 ghost use Rattle.live.specs.Promises.{WithdrawsRightly};
 ghost use Rattle.withdrawing.specs.Preconditions.{OneOf};
 
-use fields::Fields;
+use fields::FieldsMut;
 use refusal::Refusal;
 
 // The place of the first of n ids that is this one; n where none is.
@@ -30,43 +30,26 @@ fn place_of(ids: &[u32], n: usize, id: u32) -> usize
 fn take_out(
     a: usize,
     n: usize,
-    ids: &mut [u32],
-    donor_blood: &mut [u8],
-    patient_blood: &mut [u8],
-    donor_age: &mut [u8],
-    patient_age: &mut [u8],
-    donor_antigens: &mut [u64],
-    patient_antigens: &mut [u64],
-    patient_antibodies: &mut [u64],
+    fields: FieldsMut,
     compatibilities: &mut [u8],
     weights: &mut [u16],
     suitable: &mut [u16],
 )
-    requires { let f = mut_fields_now ids donor_blood patient_blood donor_age patient_age
-        donor_antigens patient_antigens patient_antibodies in
-        OneOf a n f (graph_now compatibilities weights) suitable.old }
-    ensures fields { let f = mut_lent_fields ids donor_blood patient_blood donor_age patient_age
-        donor_antigens patient_antigens patient_antibodies in
-        let g = lent_graph compatibilities weights in
-        f.exit ≡ without_pair a n f.entry }
-    ensures graph { let f = mut_lent_fields ids donor_blood patient_blood donor_age patient_age
-        donor_antigens patient_antigens patient_antibodies in
-        let g = lent_graph compatibilities weights in
+    requires { OneOf a n (fields_lent fields) (graph_now compatibilities weights) suitable.old }
+    ensures fields { fields_left fields.exit ≡ without_pair a n (fields_lent fields.entry) }
+    ensures graph { let g = lent_graph compatibilities weights in
         g.exit ≡ graph (without_row a n g.entry.compatibilities) (without_row a n g.entry.weights) }
-    ensures numbers { let f = mut_lent_fields ids donor_blood patient_blood donor_age patient_age
-        donor_antigens patient_antigens patient_antibodies in
-        let g = lent_graph compatibilities weights in
-        suitable.new ≡ with_numbers (n - 1) (without_row a n g.entry.compatibilities) suitable.old }
+    ensures numbers { suitable.new ≡ with_numbers (n - 1) (without_row a n compatibilities.old) suitable.old }
 {
     suiting::take_out(a, n, compatibilities, suitable);
-    shifting::without_entry(ids, a, n);
-    shifting::without_entry(donor_blood, a, n);
-    shifting::without_entry(patient_blood, a, n);
-    shifting::without_entry(donor_age, a, n);
-    shifting::without_entry(patient_age, a, n);
-    shifting::without_entry(donor_antigens, a, n);
-    shifting::without_entry(patient_antigens, a, n);
-    shifting::without_entry(patient_antibodies, a, n);
+    shifting::without_entry(fields.ids, a, n);
+    shifting::without_entry(fields.donor_blood, a, n);
+    shifting::without_entry(fields.patient_blood, a, n);
+    shifting::without_entry(fields.donor_age, a, n);
+    shifting::without_entry(fields.patient_age, a, n);
+    shifting::without_entry(fields.donor_antigens, a, n);
+    shifting::without_entry(fields.patient_antigens, a, n);
+    shifting::without_entry(fields.patient_antibodies, a, n);
     shifting::without_row(compatibilities, a, n);
     shifting::without_row(weights, a, n);
 }
@@ -97,7 +80,7 @@ pub fn withdraw(
         WithdrawsRightly id l.entry (outcome (answer_of result) l.exit) }
 {
     let n = *count;
-    let fields = Fields {
+    let fields = FieldsMut {
         ids,
         donor_blood,
         patient_blood,
@@ -107,27 +90,14 @@ pub fn withdraw(
         patient_antigens,
         patient_antibodies,
     };
-    let space = fields.room().min(suitable.len());
+    let lent = fields.read();
+    let space = lent.room().min(suitable.len());
     keeping::judge(n, space, compatibilities, weights.len(), suitable, points)?;
-    let at = place_of(ids, n, id);
+    let at = place_of(lent.ids, n, id);
     if at == n {
         return Err(Refusal::UnknownId);
     }
-    take_out(
-        at,
-        n,
-        ids,
-        donor_blood,
-        patient_blood,
-        donor_age,
-        patient_age,
-        donor_antigens,
-        patient_antigens,
-        patient_antibodies,
-        compatibilities,
-        weights,
-        suitable,
-    );
+    take_out(at, n, fields, compatibilities, weights, suitable);
     *count = n - 1;
     Ok(())
 }

@@ -1,6 +1,9 @@
 -- `withdrawing::withdraw` meets its contract: `judge` was told the shortest of the tables with an entry for each pair. Assumes nothing.
+use mathlib.Core.Path.{ap, ◌∙◌}
 use native.Mathlib.Omega.{arith}
 use Rattle.refusal.proofs.Faults.{handed_on}
+use Rattle.pool.specs.Tables.{Fields, item_in, field_room}
+use Rattle.live.specs.Calls.{place_of}
 use Rattle.live.specs.Lent.{live_now}
 use Rattle.live.proofs.Sizes.{room_holds, lesser_pairs}
 use Rattle.live.proofs.Promised.{rightly_withdrawn}
@@ -14,7 +17,7 @@ judge-requires c =
     live_now a.count a.points a.ids a.donor_blood a.patient_blood a.donor_age a.patient_age a.donor_antigens a.patient_antigens
     a.patient_antibodies a.compatibilities a.weights a.suitable
     in
-    let shortest = lesser_pairs lent c.room.result c.min-space.result c.room.ensures c.min-space.ensures in
+    let shortest = lesser_pairs lent c.room.result c.min-space.result (c.room.ensures ∙ ap field_room c.read-lent.ensures) c.min-space.ensures in
     (room_holds lent c.min-space.result shortest).1
 
 pub returns-in_err-judge : goal.returns-in_err-judge
@@ -24,7 +27,7 @@ returns-in_err-judge c =
     live_now a.count a.points a.ids a.donor_blood a.patient_blood a.donor_age a.patient_age a.donor_antigens a.patient_antigens
     a.patient_antibodies a.compatibilities a.weights a.suitable
     in
-    let shortest = lesser_pairs lent c.room.result c.min-space.result c.room.ensures c.min-space.ensures in
+    let shortest = lesser_pairs lent c.room.result c.min-space.result (c.room.ensures ∙ ap field_room c.read-lent.ensures) c.min-space.ensures in
     let found = found-stored lent c.min-space.result c.judge.result shortest c.judge.ensures in
     let e = call_refused a.id lent c.judge.result found _ c.in_err-judge.was in
     rw (handed_on _ _ c.from_residual.ensures) record { equals = e; rightly = rightly_withdrawn _ _ _ e }
@@ -36,9 +39,9 @@ place_of-at-requires c =
     live_now a.count a.points a.ids a.donor_blood a.patient_blood a.donor_age a.patient_age a.donor_antigens a.patient_antigens
     a.patient_antibodies a.compatibilities a.weights a.suitable
     in
-    let shortest = lesser_pairs lent c.room.result c.min-space.result c.room.ensures c.min-space.ensures in
+    let shortest = lesser_pairs lent c.room.result c.min-space.result (c.room.ensures ∙ ap field_room c.read-lent.ensures) c.min-space.ensures in
     let found = found-stored lent c.min-space.result c.judge.result shortest c.judge.ensures in
-    (call_kept a.id lent c.judge.result found c.in_ok-judge.was).keep.fields.ids
+    rw (ap (λ (f : Fields). f.ids) c.read-lent.ensures) (call_kept a.id lent c.judge.result found c.in_ok-judge.was).keep.fields.ids
 
 pub returns-then-at-n : goal.returns-then-at-n
 returns-then-at-n c =
@@ -47,9 +50,9 @@ returns-then-at-n c =
     live_now a.count a.points a.ids a.donor_blood a.patient_blood a.donor_age a.patient_age a.donor_antigens a.patient_antigens
     a.patient_antibodies a.compatibilities a.weights a.suitable
     in
-    let shortest = lesser_pairs lent c.room.result c.min-space.result c.room.ensures c.min-space.ensures in
+    let shortest = lesser_pairs lent c.room.result c.min-space.result (c.room.ensures ∙ ap field_room c.read-lent.ensures) c.min-space.ensures in
     let found = found-stored lent c.min-space.result c.judge.result shortest c.judge.ensures in
-    let e = call_unknown a.id lent c.judge.result found c.in_ok-judge.was c.place_of-at.result c.place_of-at.ensures c.if-at-n.true in
+    let e = call_unknown a.id lent c.judge.result found c.in_ok-judge.was c.place_of-at.result (c.place_of-at.ensures ∙ ap (λ (f : Fields). place_of a.count.now (item_in f.ids) a.id) c.read-lent.ensures) c.if-at-n.true in
     record { equals = e; rightly = rightly_withdrawn _ _ _ e }
 
 pub take_out-requires : goal.take_out-requires
@@ -59,9 +62,9 @@ take_out-requires c =
     live_now a.count a.points a.ids a.donor_blood a.patient_blood a.donor_age a.patient_age a.donor_antigens a.patient_antigens
     a.patient_antibodies a.compatibilities a.weights a.suitable
     in
-    let shortest = lesser_pairs lent c.room.result c.min-space.result c.room.ensures c.min-space.ensures in
+    let shortest = lesser_pairs lent c.room.result c.min-space.result (c.room.ensures ∙ ap field_room c.read-lent.ensures) c.min-space.ensures in
     let found = found-stored lent c.min-space.result c.judge.result shortest c.judge.ensures in
-    call_one a.id lent c.judge.result found c.in_ok-judge.was c.place_of-at.result c.place_of-at.ensures c.if-at-n.false
+    call_one a.id lent c.judge.result found c.in_ok-judge.was c.place_of-at.result (c.place_of-at.ensures ∙ ap (λ (f : Fields). place_of a.count.now (item_in f.ids) a.id) c.read-lent.ensures) c.if-at-n.false
 
 pub overflow_sub-count : goal.overflow_sub-count
 overflow_sub-count c =
@@ -70,9 +73,9 @@ overflow_sub-count c =
     live_now a.count a.points a.ids a.donor_blood a.patient_blood a.donor_age a.patient_age a.donor_antigens a.patient_antigens
     a.patient_antibodies a.compatibilities a.weights a.suitable
     in
-    let shortest = lesser_pairs lent c.room.result c.min-space.result c.room.ensures c.min-space.ensures in
+    let shortest = lesser_pairs lent c.room.result c.min-space.result (c.room.ensures ∙ ap field_room c.read-lent.ensures) c.min-space.ensures in
     let found = found-stored lent c.min-space.result c.judge.result shortest c.judge.ensures in
-    let one = call_one a.id lent c.judge.result found c.in_ok-judge.was c.place_of-at.result c.place_of-at.ensures c.if-at-n.false in
+    let one = call_one a.id lent c.judge.result found c.in_ok-judge.was c.place_of-at.result (c.place_of-at.ensures ∙ ap (λ (f : Fields). place_of a.count.now (item_in f.ids) a.id) c.read-lent.ensures) c.if-at-n.false in
     omega (arith, one.numbers.inside)
 
 pub returns : goal.returns
@@ -82,11 +85,11 @@ returns c =
     live_now a.count a.points a.ids a.donor_blood a.patient_blood a.donor_age a.patient_age a.donor_antigens a.patient_antigens
     a.patient_antibodies a.compatibilities a.weights a.suitable
     in
-    let shortest = lesser_pairs lent c.room.result c.min-space.result c.room.ensures c.min-space.ensures in
+    let shortest = lesser_pairs lent c.room.result c.min-space.result (c.room.ensures ∙ ap field_room c.read-lent.ensures) c.min-space.ensures in
     let found = found-stored lent c.min-space.result c.judge.result shortest c.judge.ensures in
     let w = c.take_out.ensures in
     let e =
-    call_withdrawn a.id lent c.judge.result found c.in_ok-judge.was c.place_of-at.result c.place_of-at.ensures c.if-at-n.false _ _ _ w.fields
+    call_withdrawn a.id lent c.judge.result found c.in_ok-judge.was c.place_of-at.result (c.place_of-at.ensures ∙ ap (λ (f : Fields). place_of a.count.now (item_in f.ids) a.id) c.read-lent.ensures) c.if-at-n.false _ _ _ w.fields
     w.graph w.numbers
     in
     record { equals = e; rightly = rightly_withdrawn _ _ _ e }
