@@ -139,7 +139,7 @@ def brings(source):
 reached, ahead = set(), []
 for crate, call in public:
     source = code.get(crates / crate / 'src' / 'lib.rt', '')
-    contract = re.search(rf'\bfn {call}\(.*?^\{{|\Z', source, re.M | re.S)[0]
+    contract = re.search(rf'\bfn {call}\(.*?^ *\{{$|\Z', source, re.M | re.S)[0]
     check(contract, f'there is no call {call} in {crate}')
     ahead += [path for name, path in brings(source).items() if re.search(rf'(?<![\w-]){re.escape(name)}(?![\w-])', contract)]
 while ahead:

@@ -102,8 +102,8 @@ fn judge(
     checks::shuffle(shuffle, n)
 }
 
-// Writes the pool of this version in the first n entries of the tables into the lent buffer, and gives the sheet's length; a refusal has place 0. Of version 1
-// the points are not looked at.
+// Writes the pool of this version in the first n entries of the tables into the lent buffer, and gives the sheet's length; a refusal has place 0. Of
+// version 1 the points are not looked at.
 pub fn write(
     version: u16,
     n: usize,
