@@ -6,8 +6,8 @@
 ghost use Rattle.std.specs.Prelude.{◌≡◌, ◌≤◌, length};
 ghost use Rattle.refusal.specs.Answer.{finished, outcome};
 ghost use Rattle.refusal.specs.Number.{number_of};
-ghost use Rattle.pool.specs.Tables.{item_in, tables, pair_in, points_of_table};
-ghost use Rattle.fields.specs.Lent.{fields_in};
+ghost use Rattle.pool.specs.Tables.{item_in, pair_in, points_of_table};
+ghost use Rattle.fields.specs.Lent.{tables_in};
 ghost use Rattle.exchange.specs.Input.{no_floor, input_of, request};
 ghost use Rattle.printout.specs.Printed.{plan_text, refusal_text};
 ghost use Rattle.buffers.specs.Preconditions.{FaultlessTables};
@@ -15,7 +15,7 @@ ghost use Rattle.answers.specs.Answering.{plan_by, printed_plan_of, putting};
 ghost use Rattle.answers.specs.Promises.{AnswersSheet};
 ghost use Rattle.answering.specs.Preconditions.{Read};
 
-use fields::Fields;
+use fields::Tables;
 use reader::Head;
 use refusal::Refused;
 
@@ -51,25 +51,27 @@ fn print_planned(
     .unwrap()
 }
 
-// Builds the tables of the pool that its head and its fields say, by the points of its version, plans it, and prints the plan.
-fn print_pool(
-    head: Head,
-    points: &[u16],
-    fields: Fields,
-    shuffle: &[u16],
-    out: &mut [u8; 1458],
-) -> usize
-    requires { Read head.version head.pairs (tables points.now (fields_in fields) shuffle.now) }
-    ensures { let q = points_of_table head.version points.now in
-        let plan = printed_plan_of q head.pairs (pair_in (fields_in fields.entry)) (item_in shuffle.now) in
+// Builds the tables of the pool that its head and its tables say, by the points of its version, plans it, and prints the plan.
+fn print_pool(head: Head, tables: &Tables, out: &mut [u8; 1458]) -> usize
+    requires { Read head.version head.pairs (tables_in tables.now) }
+    ensures { let t = tables_in tables.now in
+        let plan = printed_plan_of (points_of_table head.version t.points) head.pairs (pair_in t.fields) (item_in t.shuffle) in
         outcome (finished result) out.new ≡ putting (plan_text plan) out.old }
 {
     // 40 rows of 40.
     let mut m = [0u8; 1600];
     let mut w = [0u16; 1600];
     let n = head.pairs;
-    weighing::build(head.version, n, points, fields, &mut m, &mut w).unwrap();
-    print_planned(n, &fields.ids[..n], &m, &w, &shuffle[..n], out)
+    weighing::build(
+        head.version,
+        n,
+        &*tables.points,
+        tables.fields(),
+        &mut m,
+        &mut w,
+    )
+    .unwrap();
+    print_planned(n, &tables.ids[..n], &m, &w, &tables.shuffle[..n], out)
 }
 
 // Prints a refusal, and gives the text's length.
@@ -83,45 +85,20 @@ fn print_refused(refused: Refused, out: &mut [u8; 1458]) -> usize
 pub fn answer(sheet: &[u8], out: &mut [u8; 1458]) -> usize
     ensures { AnswersSheet sheet.now out.old (outcome (finished result) out.new) }
 {
-    let mut points = [0u16; 6];
-    let mut ids = [0u32; 40];
-    let mut donor_blood = [0u8; 40];
-    let mut patient_blood = [0u8; 40];
-    let mut donor_age = [0u8; 40];
-    let mut patient_age = [0u8; 40];
-    let mut donor_antigens = [0u64; 40];
-    let mut patient_antigens = [0u64; 40];
-    let mut patient_antibodies = [0u64; 40];
-    let mut shuffle = [0u16; 40];
-    match reader::read(
-        sheet,
-        &mut points,
-        &mut ids,
-        &mut donor_blood,
-        &mut patient_blood,
-        &mut donor_age,
-        &mut patient_age,
-        &mut donor_antigens,
-        &mut patient_antigens,
-        &mut patient_antibodies,
-        &mut shuffle,
-    ) {
+    let mut tables = Tables {
+        points: &mut [0; 6],
+        ids: &mut [0; 40],
+        donor_blood: &mut [0; 40],
+        patient_blood: &mut [0; 40],
+        donor_age: &mut [0; 40],
+        patient_age: &mut [0; 40],
+        donor_antigens: &mut [0; 40],
+        patient_antigens: &mut [0; 40],
+        patient_antibodies: &mut [0; 40],
+        shuffle: &mut [0; 40],
+    };
+    match reader::read(sheet, &mut tables) {
         Err(refused) => print_refused(refused, out),
-        Ok(head) => print_pool(
-            head,
-            &points,
-            Fields {
-                ids: &ids,
-                donor_blood: &donor_blood,
-                patient_blood: &patient_blood,
-                donor_age: &donor_age,
-                patient_age: &patient_age,
-                donor_antigens: &donor_antigens,
-                patient_antigens: &patient_antigens,
-                patient_antibodies: &patient_antibodies,
-            },
-            &shuffle,
-            out,
-        ),
+        Ok(head) => print_pool(head, &tables, out),
     }
 }

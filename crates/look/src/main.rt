@@ -3,6 +3,7 @@
 
 ghost use Rattle.std.specs.Prelude.{◌<◌, ◌≤◌, IfOk};
 
+use fields::Tables;
 use refusal::Refused;
 use std::fmt;
 
@@ -128,16 +129,18 @@ impl Pool {
         let mut shuffle = [0; 200];
         let head = reader::read(
             sheet,
-            &mut points,
-            &mut ids,
-            &mut donor_blood,
-            &mut patient_blood,
-            &mut donor_age,
-            &mut patient_age,
-            &mut donor_antigens,
-            &mut patient_antigens,
-            &mut patient_antibodies,
-            &mut shuffle,
+            &mut Tables {
+                points: &mut points,
+                ids: &mut ids,
+                donor_blood: &mut donor_blood,
+                patient_blood: &mut patient_blood,
+                donor_age: &mut donor_age,
+                patient_age: &mut patient_age,
+                donor_antigens: &mut donor_antigens,
+                patient_antigens: &mut patient_antigens,
+                patient_antibodies: &mut patient_antibodies,
+                shuffle: &mut shuffle,
+            },
         )?;
         Ok(Self {
             version: head.version,

@@ -6,7 +6,6 @@ use Prim.Native.Nat.{ℕ}
 use native.Mathlib.Omega.{arith}
 use Rattle.refusal.specs.Fault.{none, fault}
 use Rattle.refusal.specs.Answer.{finished, refused, Outcome, outcome}
-use Rattle.refusal.specs.declared.Refusal.{Refusal}
 use Rattle.refusal.proofs.Faults.{none_then, fault_then, unless_none, unless_fault, finished_none, refused_fault}
 use Rattle.pool.specs.Sheet.{version_in, pairs_in, pool_of}
 use Rattle.pool.specs.Tables.{Tables, room, filled_tables}

@@ -4,7 +4,7 @@
 
 ghost use Rattle.std.specs.Prelude.{◌≤◌};
 
-use fields::Fields;
+use fields::{Fields, Tables};
 use reader::Head;
 use refusal::{Refusal, Refused};
 use std::{fmt, io};
@@ -161,16 +161,18 @@ impl Pool {
     fn read(&mut self, sheet: &[u8], points: &mut [u16], shuffle: &mut [u16]) -> Result<Head, Refused> {
         reader::read(
             sheet,
-            points,
-            &mut self.ids,
-            &mut self.donor_blood,
-            &mut self.patient_blood,
-            &mut self.donor_age,
-            &mut self.patient_age,
-            &mut self.donor_antigens,
-            &mut self.patient_antigens,
-            &mut self.patient_antibodies,
-            shuffle,
+            &mut Tables {
+                points,
+                ids: &mut self.ids,
+                donor_blood: &mut self.donor_blood,
+                patient_blood: &mut self.patient_blood,
+                donor_age: &mut self.donor_age,
+                patient_age: &mut self.patient_age,
+                donor_antigens: &mut self.donor_antigens,
+                patient_antigens: &mut self.patient_antigens,
+                patient_antibodies: &mut self.patient_antibodies,
+                shuffle,
+            },
         )
     }
 

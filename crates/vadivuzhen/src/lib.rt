@@ -26,7 +26,7 @@ ghost use Rattle.numbers.specs.Numbers.{read_numbers, write_numbers, join_number
 ghost use Rattle.numbers.specs.Promises.{Numbered, NumberedAt0};
 
 use cycle::Cycle;
-use fields::Fields;
+use fields::{Fields, Tables};
 use live::Pair;
 use numbers::{
     BuildAnswer, JoinAnswer, LiveAnswer, PlanAnswer, PrintAnswer, ReadAnswer, WriteAnswer,
@@ -66,16 +66,18 @@ pub extern "C" fn vadivuzhen_read(
 {
     reader::read(
         sheet,
-        points,
-        ids,
-        donor_blood,
-        patient_blood,
-        donor_age,
-        patient_age,
-        donor_antigens,
-        patient_antigens,
-        patient_antibodies,
-        shuffle,
+        &mut Tables {
+            points,
+            ids,
+            donor_blood,
+            patient_blood,
+            donor_age,
+            patient_age,
+            donor_antigens,
+            patient_antigens,
+            patient_antibodies,
+            shuffle,
+        },
     ).into()
 }
 

@@ -16,17 +16,19 @@ roomy : (1600 ≤ length empty.compatibilities) × (1600 ≤ length empty.weight
 roomy = (lit≤ tt, lit≤ tt)
 
 pub unwrap-requires : goal.unwrap-requires
-unwrap-requires c = never_unbuilt _ _ _ c.requires empty roomy c.build.result _ c.build.ensures.rightly
+unwrap-requires c =
+    let b = c.build in
+    never_unbuilt _ _ _ c.requires empty roomy b.result _ (rw c.fields.ensures at b.ensures.rightly)
 
 pub print_planned-requires : goal.print_planned-requires
 print_planned-requires c =
     let b = c.build in (
-      plannable _ _ _ c.requires empty roomy b.result _ b.ensures.rightly (omega arith, omega arith),
-      omega (arith, length-take-le c.args.head.pairs c.args.fields.ids.now c.requires.faultless.hold.fields.ids),
+      plannable _ _ _ c.requires empty roomy b.result _ (rw c.fields.ensures at b.ensures.rightly) (omega arith, omega arith),
+      omega (arith, length-take-le c.args.head.pairs c.args.tables.now.ids.now c.requires.faultless.hold.fields.ids),
     )
 
 pub returns : goal.returns
 returns c =
     let b = c.build in
     c.print_planned.ensures ∙ ap (λ (x : PrintedPlan). putting (plan_text x) c.args.out.now)
-    (plan_is _ _ _ c.requires empty roomy b.result _ b.ensures.rightly)
+    (plan_is _ _ _ c.requires empty roomy b.result _ (rw c.fields.ensures at b.ensures.rightly))

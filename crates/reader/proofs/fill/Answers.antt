@@ -61,9 +61,9 @@ fill_numbers-requires-2 c =
     let held = room_hold _ _ _ c.requires.held c.requires.held_points in
     omega (arith, c.requires.few, c.requires.whole, held.shuffle, c.pair_place.ensures)
 
-pub returns : goal.returns
+pub returns-clause-filled : goal.returns-clause-filled
 unfolding filled_tables filled_fields pool_of pair_at
-returns c =
+returns-clause-filled c =
     let due : c.pair_place.result ≡ pair_due c.args.b.now c.args.n =
     c.pair_place.ensures.0 ∙ ap (λ v. pair_place v c.args.n) c.requires.version in
     let version = c.requires.version in
