@@ -18,6 +18,7 @@ returns-clause-lent c =
     let s = c.read.ensures.same in
     let t = c.read-arg-1 in
     let u = c.read-arg-11-1 in ?
+
 pub returns-clause-rightly : goal.returns-clause-rightly
 returns-clause-rightly c =
     let w = c.read in
