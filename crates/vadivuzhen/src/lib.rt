@@ -78,7 +78,8 @@ pub extern "C" fn vadivuzhen_read(
             patient_antibodies,
             shuffle,
         },
-    ).into()
+    )
+    .into()
 }
 
 // Writes the pool of this version in the first n entries of the tables as a sheet into the lent buffer. Of version 1 the points are not looked at.
@@ -127,7 +128,8 @@ pub extern "C" fn vadivuzhen_write(
         },
         shuffle,
         out,
-    ).into()
+    )
+    .into()
 }
 
 // Joins the second sheet to the first, as one sheet in the lent buffer.
@@ -192,7 +194,8 @@ pub extern "C" fn vadivuzhen_build(
         },
         compatibilities,
         weights,
-    ).into()
+    )
+    .into()
 }
 
 // Starts a live pool with no pairs and these points.
@@ -261,7 +264,8 @@ pub extern "C" fn vadivuzhen_register(
         weights,
         suitable,
         pair,
-    ).into()
+    )
+    .into()
 }
 
 // Withdraws the first pair of a live pool that has this id, with its row, its column, and its donor in the others' numbers.
@@ -310,7 +314,8 @@ pub extern "C" fn vadivuzhen_withdraw(
         weights,
         suitable,
         id,
-    ).into()
+    )
+    .into()
 }
 
 // Plans the pool of n pairs whose tables are m and w, with the floor and the shuffle.
@@ -342,7 +347,8 @@ pub extern "C" fn vadivuzhen_plan(
 {
     planner::plan(
         n, floor, m, w, shuffle, weights, choices, donors, recipients, records,
-    ).into()
+    )
+    .into()
 }
 
 // Prints a plan of n pairs into the lent buffer.
@@ -380,7 +386,8 @@ pub extern "C" fn vadivuzhen_print_plan(
         products,
         rounds,
         out,
-    ).into()
+    )
+    .into()
 }
 
 // Prints `REFUSED`, any number and a place into the lent buffer.
