@@ -158,7 +158,12 @@ impl Pool {
     }
 
     // Reads a sheet into them and into these tables for the points and the shuffle.
-    fn read(&mut self, sheet: &[u8], points: &mut [u16], shuffle: &mut [u16]) -> Result<Head, Refused> {
+    fn read(
+        &mut self,
+        sheet: &[u8],
+        points: &mut [u16],
+        shuffle: &mut [u16],
+    ) -> Result<Head, Refused> {
         reader::read(
             sheet,
             &mut Tables {
@@ -192,14 +197,7 @@ impl Pool {
     // Writes their first pairs, as many as a head says.
     fn write(&self, head: Head, points: &[u16], shuffle: &[u16], out: &mut [u8]) -> Written {
         let fields = self.fields();
-        Written(writer::write(
-            head.version,
-            head.pairs,
-            points,
-            fields,
-            shuffle,
-            out,
-        ))
+        Written(writer::write(head.version, head.pairs, points, fields, shuffle, out))
     }
 
     // One entry of each.
@@ -397,9 +395,7 @@ fn write_greatest(version: u16, out: &mut [u8]) -> Written {
         patient_antigens: &tissue,
         patient_antibodies: &tissue,
     };
-    Written(writer::write(
-        version, 200, &DOCUMENT, fields, &shuffle, out,
-    ))
+    Written(writer::write(version, 200, &DOCUMENT, fields, &shuffle, out))
 }
 
 // Written into a buffer of just so many bytes, and read; then with 201 for its 200.

@@ -1,9 +1,11 @@
 -- An exported call gives the numbers of what the library's call answered, so it keeps what that one promised. Assumes nothing.
-use mathlib.Core.Path.{◌≡◌, refl}
+use mathlib.Core.Path.{◌≡◌, refl, ap, ◌∙◌}
 use mathlib.Core.List.{List}
 use Prim.Native.Nat.{ℕ}
 use Rattle.refusal.specs.Answer.{Answer, Outcome, outcome}
-use Rattle.pool.specs.Tables.{Fields, Tables}
+use Rattle.pool.specs.Tables.{Fields, Tables, fields, tables}
+use Rattle.fields.specs.declared.Tables.{Tables as MutLent}
+use Rattle.fields.specs.Lent.{tables_in}
 use Rattle.pool.specs.Calls.{Head}
 use Rattle.pool.specs.Promises.{ReadsRightly}
 use Rattle.graph.specs.Graph.{Graph}
@@ -44,6 +46,23 @@ pub kept_read : {b : List ℕ} {t left : Tables} {a : Answer Head} {r : ReadAnsw
     → ReadsRightly b t (outcome a left)
     → Ensures read_numbers Numbered (ReadsRightly b t) r left due
 kept_read {b} {t} = kept read_numbers Numbered (ReadsRightly b t)
+
+-- the lent tables are left as the struct that was made of them has them
+pub left_filled : (t : MutLent) {p a b c d e f g h s : List ℕ} {x : Answer Head} {due : Outcome Head Tables}
+    → outcome x (tables_in t) ≡ due
+    → p ≡ t.points.now
+    → a ≡ t.ids.now
+    → b ≡ t.donor_blood.now
+    → c ≡ t.patient_blood.now
+    → d ≡ t.donor_age.now
+    → e ≡ t.patient_age.now
+    → f ≡ t.donor_antigens.now
+    → g ≡ t.patient_antigens.now
+    → h ≡ t.patient_antibodies.now
+    → s ≡ t.shuffle.now
+    → tables p (fields a b c d e f g h) s ≡ due.lent
+left_filled t w p a b c d e f g h s =
+    (λ i. tables (p i) (fields (a i) (b i) (c i) (d i) (e i) (f i) (g i) (h i)) (s i)) ∙ ap (λ (o : Outcome Head Tables). o.lent) w
 
 pub kept_built : {v n : ℕ} {l : List ℕ} {f : Fields} {old new : Graph} {a : Answer (Unit {0})} {r : BuildAnswer} {due : Outcome (Unit {0}) Graph}
     → r ≡ build_numbers a
