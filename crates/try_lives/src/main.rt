@@ -5,8 +5,8 @@
 ghost use Rattle.std.specs.Prelude.{◌*◌, ◌≡◌, ◌≤◌};
 
 use live::Pair;
-use refusal::Refusal;
 use points::Points;
+use refusal::Refusal;
 use std::{fmt, io};
 
 // Entries of a table, each after a blank.

@@ -1,5 +1,5 @@
 -- `joining::differ` meets its contract. The loop's invariant: none of the points passed differs. Assumes nothing.
-use Prim.Native.Nat.{◌-◌, ◌*◌, ◌≤◌}
+use Prim.Native.Nat.{◌*◌, ◌≤◌}
 use mathlib.Core.Path.{◌≡◌}
 use mathlib.Core.Bool.{false}
 use Rattle.laws.specs.Below.{any_below}

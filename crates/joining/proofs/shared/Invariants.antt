@@ -1,5 +1,5 @@
 -- `joining::shared` meets its contract. The loop's invariant: none of the second's pairs passed has an id of the first's. Assumes nothing.
-use Prim.Native.Nat.{ℕ, ◌-◌, ◌≤◌}
+use Prim.Native.Nat.{ℕ}
 use mathlib.Core.Path.{◌≡◌}
 use mathlib.Core.Bool.{Bool, false}
 use mathlib.Core.List.{List}

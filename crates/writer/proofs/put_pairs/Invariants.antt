@@ -1,5 +1,4 @@
 -- `writer::put_pairs` meets its contract. The invariant: the fields of i pairs are written after the head. Assumes nothing.
-use Prim.Native.Nat.{◌-◌, ◌≤◌}
 use Rattle.laws.proofs.Lent.{Pieces}
 use Rattle.pool.specs.Sheet.{first_pair, pair_field}
 use Rattle.pool.specs.Tables.{pair_in}
