@@ -116,7 +116,10 @@ pub fn pairs(
     fields: Fields,
 ) -> Result<(), Refusal>
     requires { TablesHaveRoom space (fields_in fields) }
-    ensures { fault_at 0 result ≡ pairs_fault version n space points.now (pair_in (fields_in fields.entry)) }
+    ensures { let t = fields_in fields.entry in
+        (f g h : List ℕ)
+        → fault_at 0 result ≡ pairs_fault version n space points.now
+        (pair_in (record t { donor_antigens = f; patient_antigens = g; patient_antibodies = h })) }
 {
     ready(version, n, space, points)?;
     for i in 0..n {

@@ -1,4 +1,5 @@
 -- `weighing::judge` meets its contract. Assumes nothing.
+use mathlib.Core.List.{[]}
 use native.Mathlib.Omega.{arith}
 use Rattle.fields.specs.Lent.{fields_in}
 use Rattle.graph.proofs.Rows.{rows_few}
@@ -18,30 +19,30 @@ returns-in_err-pairs c =
     let f = fields_in a.fields in
     rw (handed_on _ _ c.from_residual.ensures)
     (judge_fields a.version a.n c.room.result a.points.now f a.compatibilities a.weights c.room.ensures c.pairs.result
-    c.pairs.ensures _ c.in_err-pairs.was)
+    (c.pairs.ensures _ _ _) _ c.in_err-pairs.was)
 
 pub overflow_mul-entries : goal.overflow_mul-entries
 overflow_mul-entries c =
     let p = c.pairs in
-    omega (arith, rows_few (passed_few _ _ _ _ _ p.result p.ensures c.in_ok-pairs.was))
+    omega (arith, rows_few (passed_few _ _ _ _ _ p.result (p.ensures [] [] []) c.in_ok-pairs.was))
 
 pub returns-then-compatibilities-entries : goal.returns-then-compatibilities-entries
 returns-then-compatibilities-entries c =
     let a = c.args in
     let f = fields_in a.fields in
     judge_compatibilities a.version a.n c.room.result a.points.now f a.compatibilities a.weights c.room.ensures c.pairs.result
-    c.pairs.ensures c.in_ok-pairs.was c.if-compatibilities-entries.true
+    (c.pairs.ensures _ _ _) c.in_ok-pairs.was c.if-compatibilities-entries.true
 
 pub returns-then-weights-entries : goal.returns-then-weights-entries
 returns-then-weights-entries c =
     let a = c.args in
     let f = fields_in a.fields in
     judge_weights a.version a.n c.room.result a.points.now f a.compatibilities a.weights c.room.ensures c.pairs.result
-    c.pairs.ensures c.in_ok-pairs.was c.if-compatibilities-entries.false c.if-weights-entries.true
+    (c.pairs.ensures _ _ _) c.in_ok-pairs.was c.if-compatibilities-entries.false c.if-weights-entries.true
 
 pub returns : goal.returns
 returns c =
     let a = c.args in
     let f = fields_in a.fields in
     judge_sound a.version a.n c.room.result a.points.now f a.compatibilities a.weights c.room.ensures c.pairs.result
-    c.pairs.ensures c.in_ok-pairs.was c.if-compatibilities-entries.false c.if-weights-entries.false
+    (c.pairs.ensures _ _ _) c.in_ok-pairs.was c.if-compatibilities-entries.false c.if-weights-entries.false

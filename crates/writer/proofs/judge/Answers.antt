@@ -19,7 +19,7 @@ shuffle-requires c =
     let given = tables c.args.points.now (fields_in c.args.fields) c.args.shuffle.now in
     let shortest : c.min-shortest.result ≡ room given =
     shortest_room given c.room.result c.min-shortest.result c.room.ensures c.min-shortest.ensures in
-    omega (arith, judged-held c.args.version c.args.n given _ shortest c.pairs.result c.pairs.ensures c.in_ok-pairs.was)
+    omega (arith, judged-held c.args.version c.args.n given _ shortest c.pairs.result (c.pairs.ensures _ _ _) c.in_ok-pairs.was)
 
 pub returns-in_err-pairs : goal.returns-in_err-pairs
 returns-in_err-pairs c =
@@ -27,12 +27,12 @@ returns-in_err-pairs c =
     let shortest : c.min-shortest.result ≡ room given =
     shortest_room given c.room.result c.min-shortest.result c.room.ensures c.min-shortest.ensures in
     rw (handed_on _ _ c.from_residual.ensures)
-    (judged_pairs c.args.version c.args.n given _ shortest c.pairs.result c.pairs.ensures _ c.in_err-pairs.was)
+    (judged_pairs c.args.version c.args.n given _ shortest c.pairs.result (c.pairs.ensures _ _ _) _ c.in_err-pairs.was)
 
 pub returns : goal.returns
 returns c =
     let given = tables c.args.points.now (fields_in c.args.fields) c.args.shuffle.now in
     let shortest : c.min-shortest.result ≡ room given =
     shortest_room given c.room.result c.min-shortest.result c.room.ensures c.min-shortest.ensures in
-    judged_shuffle c.args.version c.args.n given _ shortest c.pairs.result c.pairs.ensures c.in_ok-pairs.was
+    judged_shuffle c.args.version c.args.n given _ shortest c.pairs.result (c.pairs.ensures _ _ _) c.in_ok-pairs.was
     c.shuffle.result (c.shuffle.ensures 0)
