@@ -69,12 +69,12 @@ fn fill(b: &[u8], version: u16, n: usize, t: &mut Tables)
 }
 
 // Reads a sheet into the lent tables.
-pub fn read(sheet: &[u8], t: &mut Tables) -> Result<Head, Refused>
-    ensures same { Same t.old t.new }
-    ensures equals { outcome (answer_of result) (tables_in t.new) ≡ reading sheet.now (tables_in t.old) }
-    ensures rightly { ReadsRightly sheet.now (tables_in t.old) (outcome (answer_of result) (tables_in t.new)) }
+pub fn read(sheet: &[u8], tables: &mut Tables) -> Result<Head, Refused>
+    ensures same { Same tables.old tables.new }
+    ensures equals { outcome (answer_of result) (tables_in tables.new) ≡ reading sheet.now (tables_in tables.old) }
+    ensures rightly { ReadsRightly sheet.now (tables_in tables.old) (outcome (answer_of result) (tables_in tables.new)) }
 {
-    let head = judge(sheet, t.room(), t.points.len())?;
-    fill(sheet, head.version, head.pairs, t);
+    let head = judge(sheet, tables.room(), tables.points.len())?;
+    fill(sheet, head.version, head.pairs, tables);
     Ok(head)
 }

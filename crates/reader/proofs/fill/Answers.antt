@@ -1,4 +1,4 @@
--- `reader::fill` meets its contract: each call fills its table, and the tables are lent one after another. Assumes nothing.
+-- `reader::fill` meets its contract: each call fills its table of the struct, and the struct lends the same tables as before. Assumes nothing.
 use mathlib.Core.Path.{◌≡◌, refl, ap, ◌∙◌}
 use native.Mathlib.Omega.{arith}
 use Rattle.pool.specs.Sheet.{pair_place, pool_of, pair_at, id_at, donor_blood_at, patient_blood_at, donor_age_at, patient_age_at, donor_antigens_at, patient_antigens_at, patient_antibodies_at, pair_due}

@@ -12,7 +12,7 @@ returns c =
     record {
       numbers = k.0;
       lent =
-          left_filled w.new.t w.ensures.equals (search rules) (search rules) (search rules) (search rules) (search rules) (search rules)
+          left_filled w.new.tables w.ensures.equals (search rules) (search rules) (search rules) (search rules) (search rules) (search rules)
           (search rules) (search rules) (search rules) (search rules);
       rightly = k.1.1;
     }
