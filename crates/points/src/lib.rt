@@ -1,7 +1,7 @@
 // The six points that edges are weighed by (document 02, W-205): by name, out of a table, and whether they pass.
 #![tactic(auto)]
 
-ghost use Rattle.std.specs.Prelude.{◌≡◌, ℕ, ◌≤◌, max, length};
+ghost use Rattle.std.specs.Prelude.{◌≡◌, ℕ, ◌≤◌, length};
 ghost use Rattle.refusal.specs.Number.{fault_at};
 ghost use Rattle.pool.specs.Points.{registry_points, points_by};
 ghost use Rattle.pool.specs.Tables.{item_in};
@@ -38,12 +38,6 @@ pub fn own(table: &[u16]) -> Points
     }
 }
 
-fn larger(x: u16, y: u16) -> u16
-    ensures { result ≡ max x y }
-{
-    if x < y { y } else { x }
-}
-
 // 14: the base is 0, or base, largest mismatch step and larger age step together exceed 65,535. They are added in 32 bits, where no sum wraps.
 pub fn judge(points: Points) -> Result<(), Refusal>
     ensures { (o : ℕ) → fault_at o result ≡ points_fault o (named points) }
@@ -51,8 +45,8 @@ pub fn judge(points: Points) -> Result<(), Refusal>
     if points.base == 0 {
         return Err(Refusal::WrongPoints);
     }
-    let mismatch = larger(points.none, larger(points.few, points.some));
-    let age = larger(points.equal, points.young_to_senior);
+    let mismatch = points.none.max(points.few.max(points.some));
+    let age = points.equal.max(points.young_to_senior);
     if points.base as u32 + mismatch as u32 + age as u32 > 65535 {
         return Err(Refusal::WrongPoints);
     }

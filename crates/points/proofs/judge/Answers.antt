@@ -24,19 +24,11 @@ returns-then-points-eq0 c o = rw (eq-eqb _ _ c.if-points-eq0.true)
 pub returns-then-points-mismatch-gt65535 : goal.returns-then-points-mismatch-gt65535
 unfolding fault_at points_fault refuse either
 returns-then-points-mismatch-gt65535 c o =
-    let third = c in
-    let second = third in
-    let first = second in
-    let s = first in
-    let e = summed s.args.points _ _ _ first.larger.ensures second.larger-mismatch.ensures third.larger-age.ensures in
-    rw (ne_eqb _ _ s.if-points-eq0.false, e, lt-ltb 65535 _ c.if-points-mismatch-gt65535.true)
+    let e = summed c.args.points _ _ _ c.max.ensures c.max-mismatch.ensures c.max-age.ensures in
+    rw (ne_eqb _ _ c.if-points-eq0.false, e, lt-ltb 65535 _ c.if-points-mismatch-gt65535.true)
 
 pub returns : goal.returns
 unfolding fault_at points_fault refuse either
 returns c o =
-    let third = c in
-    let second = third in
-    let first = second in
-    let s = first in
-    let e = summed s.args.points _ _ _ first.larger.ensures second.larger-mismatch.ensures third.larger-age.ensures in
-    rw (ne_eqb _ _ s.if-points-eq0.false, e, le-ltb 65535 _ c.if-points-mismatch-gt65535.false)
+    let e = summed c.args.points _ _ _ c.max.ensures c.max-mismatch.ensures c.max-age.ensures in
+    rw (ne_eqb _ _ c.if-points-eq0.false, e, le-ltb 65535 _ c.if-points-mismatch-gt65535.false)
