@@ -614,7 +614,9 @@ CHEATS = [
     ('gates', 'an entry of a secret place', [(ENTRY, '    let place: u32 = table[at].into();\n    Secret {\n        value: table[place as usize].into(),\n    }\n')],
      straight, 'gates: load has another entry than table[at]'),
     ('gates', 'a sum that calls', [('        value: a.value + b.value,\n', '        value: a.value + u32::from(b.value),\n')], straight, 'gates: sum calls u32::from(b.value)'),
-    ('gates', 'a secret that is widened by a method', [('        value: a.value + b.value,\n', '        value: a.value + b.value.into(),\n')], straight, 'gates: sum calls .into('),
+    ('gates', 'a secret that is widened by a method', [(
+        '    Secret {\n        value: a.value + b.value,\n', '    let widened: u32 = b.value.into();\n    Secret {\n        value: a.value + widened,\n')],
+     straight, 'gates: sum calls .into('),
     ('gates', 'a comparison in a sum', [('        value: a.value + b.value,\n', '        value: a.value + b.value + (a.value < b.value) as u32,\n')], straight, 'gates: sum does + + <'),
 
     ('evaluation', 'a weight made of a table', [(
