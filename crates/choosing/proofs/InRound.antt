@@ -3,7 +3,6 @@ use Prim.Native.Nat.{ℕ}
 use mathlib.Core.List.{List}
 use mathlib.Core.Path.{◌≡◌, ap, ◌∙◌}
 use native.Mathlib.Omega.{arith}
-use lib.ListN.{set}
 use Rattle.greedy.specs.Tally as Tallies
 use Rattle.greedy.specs.Tally.{next_round}
 use Rattle.greedy.specs.Rounds as Rounds
@@ -36,7 +35,3 @@ module _ (n : ℕ) (ws cs : List ℕ) (k : ℕ) (t : Tally) (asked : Turn (up_to
 
     number_is : value_of c.value.number ≡ (choice_of (up_to_three n) f ws t).number
     number_is = ap (λ (x : Rounds.Chosen). x.number) chosen_is
-
-    pub stored_is : (after : List ℕ) → after ≡ set cs k (value_of c.value.number)
-        → (after ≡ set cs k (choice_of (up_to_three n) f ws t).number) × (counted c.tally ≡ (choice_of (up_to_three n) f ws t).tally) × (shown c.value.at ≡ places_at (up_to_three n) (choice_of (up_to_three n) f ws t).number)
-    stored_is after e = (e ∙ ap (set cs k) number_is, ap (λ (x : Rounds.Chosen). x.tally) chosen_is, ec.1 ∙ ap (places_at (up_to_three n)) number_is)

@@ -18,9 +18,8 @@ use Rattle.gates.specs.declared.Gated.{Gated}
 use Rattle.gates.specs.declared.Tally.{Tally}
 use Rattle.gates.proofs.Gates.{pick_by, raised}
 use Rattle.cursor.specs.Cursor.{places, shown, places_at}
-use Rattle.cursor.specs.declared.Places.{Places}
 use Rattle.cursor.proofs.Order.{past as none-past}
-use Rattle.choosing.specs.Parts.{choice_made, Part, Whole}
+use Rattle.choosing.specs.Parts.{choice_made, Whole}
 use Rattle.choosing.specs.declared.Best.{Best}
 use Rattle.choosing.specs.declared.Won.{Won}
 use Rattle.choosing.specs.declared.Chosen.{Chosen}
@@ -34,9 +33,6 @@ chosens : {i i' : ℕ} {t t' : Tallies.Tally} → i ≡ i' → t ≡ t' → ◌�
 chosens e f = cc
 
 module _ (n : ℕ) (ws : List ℕ) (t : Tally) (asked : Whole (up_to_three n) ws t) where
-  pub asks_part : (p : Places) → p ≡ places_at (up_to_three n) 0 → Part (up_to_three n) ws 0 p t
-  asks_part p e = record { few = asked.few; some = asked.some; within = omega (arith, asked.whole); there = e; room = asked.room }
-
   module _ (r : Gated Won) (er : Ensured n ws 0 t r) where
     pub room_test : TallyRoom 1 4 r.tally
     room_test = record {

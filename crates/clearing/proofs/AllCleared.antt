@@ -15,7 +15,7 @@ use Rattle.laws.proofs.Whole.{filled_whole, filling_next}
 use Rattle.greedy.specs.Tally as Tallies
 use Rattle.greedy.specs.Tally.{raise}
 use Rattle.greedy.specs.Places.{meets}
-use Rattle.greedy.specs.Rounds.{clear, clearing_tally, clear_before, clearing_tally_before}
+use Rattle.greedy.specs.Rounds.{clear, clearing_tally}
 use Rattle.greedy.proofs.Tallied.{clear-length, clearing_append}
 use Rattle.exchange.specs.Subsets.{up_to_three, order, subset_count}
 use Rattle.gates.specs.Counting.{counted, TallyRoom}
@@ -141,12 +141,3 @@ module _ (n : ℕ) (old : List ℕ) (choice : SecretPlaces) (t : Tally) (asked :
         }
 
 -- ## Where so many rounds are left
-
-pub none_left : (m : ℕ) → m < 1 → (c : List ℕ) (ss : List (List ℕ)) (ws : List ℕ) (t : Tallies.Tally) → (ws ≡ clear_before m c ss ws) × (t ≡ clearing_tally_before m ss t)
-none_left zero l c ss ws t = (refl, refl)
-none_left (suc m) l c ss ws t = absurd (not-suc-le-zero (le_of_suc-le-suc l))
-
-pub some_left : (m : ℕ) → 1 ≤ m → (c : List ℕ) (ss : List (List ℕ)) (ws vs : List ℕ) (t u : Tallies.Tally)
-    → (vs ≡ clear c ss ws) × (u ≡ clearing_tally ss t) → (vs ≡ clear_before m c ss ws) × (u ≡ clearing_tally_before m ss t)
-some_left zero l c ss ws vs t u e = absurd (not-suc-le-zero l)
-some_left (suc m) l c ss ws vs t u e = e

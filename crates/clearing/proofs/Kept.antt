@@ -78,9 +78,6 @@ module _ (n x : ℕ) (p c : Places) (range : OnSubset n p) (small : x < 2 ^ 32) 
     unfolding a
     first_is = ap (λ (k : ℕ). x * k) (kept n p.u c k₁ in_u e₁) ∙ times x a
 
-    pub first_fits : x * k₁ < 2 ^ 32
-    first_fits = omega (arith, first_is, cond_le a x)
-
     module _ (y : ℕ) (ey : y ≡ x * k₁) (k₂ : ℕ) (e₂ : k₂ ≡ 1 - one (among p.v (c.u ∷ c.v ∷ c.w ∷ []))) where
       b : Bool
       b = among p.v (subset_at n c)
@@ -89,9 +86,6 @@ module _ (n x : ℕ) (p c : Places) (range : OnSubset n p) (small : x < 2 ^ 32) 
       unfolding b
       second_is =
           ap (λ (k : ℕ). k * k₂) (ey ∙ first_is) ∙ ap (λ (k : ℕ). cond a 0 x * k) (kept n p.v c k₂ in_v e₂) ∙ times (cond a 0 x) b ∙ then_times x a b
-
-      pub second_fits : y * k₂ < 2 ^ 32
-      second_fits = omega (arith, second_is, cond_le (either a b) x)
 
       pub two_cleared : p.w ≡ n → (r : ℕ) → r ≡ y * k₂ → r ≡ cond (meets (subset_at n p) (subset_at n c)) 0 x
       unfolding a b meets
@@ -108,9 +102,6 @@ module _ (n x : ℕ) (p c : Places) (range : OnSubset n p) (small : x < 2 ^ 32) 
         third_is =
             ap (λ (k : ℕ). k * k₃) (ez ∙ second_is) ∙ ap (λ (k : ℕ). cond (either a b) 0 x * k) (kept n p.w c k₃ (omega (arith, range.wn)) e₃)
             ∙ times (cond (either a b) 0 x) d ∙ then_times x (either a b) d
-
-        pub third_fits : z * k₃ < 2 ^ 32
-        third_fits = omega (arith, third_is, cond_le (either (either a b) d) x)
 
         pub triple_cleared : (r : ℕ) → r ≡ z * k₃ → r ≡ cond (meets (subset_at n p) (subset_at n c)) 0 x
         unfolding a b d meets

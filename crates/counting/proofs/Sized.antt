@@ -2,10 +2,9 @@
 use Prim.Native.Nat.{ℕ, zero, suc, ◌+◌, ◌-◌, ◌*◌, ◌≤◌, ◌<◌}
 use mathlib.Core.Path.{◌≡◌, refl, ap}
 use native.Mathlib.Omega.{arith}
-use native.Mathlib.Nat.{mul-le-mul}
 use Rattle.exchange.specs.Subsets.{ascending, subsets}
 use Rattle.exchange.specs.Promises.{how_many}
-use Rattle.exchange.proofs.Counted.{binomial, ones, count_triples, count_twos, twos_are, triples_are, binomial_mono}
+use Rattle.exchange.proofs.Counted.{binomial, ones, count_triples, count_twos, twos_are, binomial_mono}
 use Rattle.counting.specs.Counting.{of_size}
 
 -- a size is two or three
@@ -23,13 +22,6 @@ none_among size = refl
 
 pub more_among : (size m n : ℕ) → 2 ≤ size → size ≤ 3 → m ≤ n → of_size size m ≤ of_size size n
 more_among size m n h g l = omega (arith, counted size m h g, counted size n h g, binomial_mono size m n l)
-
-pub few_triples : (m : ℕ) → m ≤ 200 → of_size 3 m ≤ 1333333
-few_triples m h =
-    let a : m - 1 ≤ 200 = omega arith in
-    let b : m - 2 ≤ 200 = omega arith in
-    let product : m * (m - 1) * (m - 2) ≤ 200 * 200 * 200 = mul-le-mul (mul-le-mul h a) b in
-    omega (arith, count_triples m, triples_are m, product)
 
 -- ## A place more: it begins a two with each other, and a triple with each two of the others
 

@@ -1,10 +1,9 @@
 -- The weight of a cycle. Assumes nothing.
-use Prim.Native.Nat.{ℕ, ◌+◌, ◌*◌, ◌^◌, ◌≤◌, ◌<◌}
+use Prim.Native.Nat.{ℕ, ◌+◌, ◌*◌}
 use mathlib.Core.List.{List, [], ◌∷◌}
 use mathlib.Core.Path.{◌≡◌, sym, ◌∙◌}
 use native.Mathlib.Nat.{mul-one, mul_assoc}
 use native.Mathlib.Omega.{arith}
-use Rattle.laws.proofs.Products.{bit_times, ones_le}
 use Rattle.exchange.specs.Subsets.{entry, weigh}
 use Rattle.exchange.proofs.Evaluated.{weigh_two, weigh_three}
 use Rattle.gates.specs.Secrets.{value_of}
@@ -12,15 +11,6 @@ use Rattle.evaluation.specs.Entries.{Between, compatibilities, weights, cycle_we
 use Rattle.evaluation.specs.declared.EdgeEntries.{EdgeEntries}
 
 -- ## What `two` and `three` make of their edges' entries
-
-pub both_fit : (x y : ℕ) → x ≤ 1 → y ≤ 1 → x * y < 2 ^ 32
-both_fit x y h k = omega (arith, ones_le x y h k)
-
-pub ones_is : (x y p : ℕ) → x ≤ 1 → y ≤ 1 → p ≡ x * y → p ≤ 1
-ones_is x y p h k e = omega (arith, ones_le x y h k)
-
-pub product_fits : (p s : ℕ) → p ≤ 1 → s ≤ 196605 → p * s < 2 ^ 32
-product_fits p s h k = omega (arith, bit_times p s h)
 
 module _ (ab ba : EdgeEntries) where
   pub two_is : cycle_weight (ab ∷ ba ∷ []) ≡ value_of ab.m * value_of ba.m * (value_of ab.w + value_of ba.w)

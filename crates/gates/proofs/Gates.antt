@@ -7,7 +7,7 @@ use lib.Dec.{eqb}
 use Rattle.laws.specs.Below.{one}
 use Rattle.greedy.specs.Tally as Tallies
 use Rattle.greedy.specs.Tally.{raise}
-use Rattle.gates.specs.Counting.{counted, Raised, TallyRoom}
+use Rattle.gates.specs.Counting.{counted, Raised}
 use Rattle.gates.specs.Secrets.{value_of}
 use Rattle.gates.specs.declared.Secret.{Secret}
 use Rattle.gates.specs.declared.Tally.{Tally}
@@ -46,6 +46,3 @@ raised c p t u h = tallies h.comparisons h.products h.rounds
 -- one step after another
 pub raised_then : {c p d q : ℕ} {t u v : Tally} → Raised c p t u → Raised d q u v → Raised (c + d) (p + q) t v
 raised_then h k = record { comparisons = omega arith; products = omega arith; rounds = k.rounds ∙ h.rounds }
-
-pub room-left : (c p d q : ℕ) (t u : Tally) → TallyRoom (c + d) (p + q) t → Raised c p t u → TallyRoom d q u
-room-left c p d q t u room h = record { comparisons = omega arith; products = omega arith }
