@@ -293,7 +293,9 @@ def plain(sources):
                 for sign in re.findall(r'/\*|"|\'', line.split('//')[0]):
                     yield f'{crate}: has {sign}'
         for f in source.functions.values():
-            for word in re.findall(r'\b(?:match|for|while|loop|break|continue|fn|use|mod|impl|const|type|struct|unsafe)\b|::<', re.sub(LOOP, '{', f.body)):
+            # a gate has no loop at all: it knows the secrets, and could count by one
+            body = f.body if crate == 'gates' else re.sub(LOOP, '{', f.body)
+            for word in re.findall(r'\b(?:match|for|while|loop|break|continue|fn|use|mod|impl|const|type|struct|unsafe)\b|::<', body):
                 yield f'{crate}: {f.name} has {word}'
             for call in re.findall(r'\)\s*\(|\)\s*\.', f.body):
                 yield f'{crate}: {f.name} calls, or takes a field, by {call}'
@@ -334,7 +336,7 @@ def interface(sources):
 def straight(sources):
     """What runs in a gate is the same whatever its secrets are: its own operations, no branch, no loop, no modulus, no entry but that of a public place."""
     for f in sources['gates'].functions.values():
-        for word in re.findall(r'\b(?:if|else|while|return)\b|&&|\|\||%|/', f.body):
+        for word in re.findall(r'\b(?:if|else|for|while|loop|return)\b|&&|\|\||%|/', f.body):
             yield f'gates: {f.name} is not straight-line code ({word})'
         made = ' '.join(re.findall(r'[=!<>]=|[-+*<>^|]', f.body))
         if made != OPERATIONS.get(f.name, ''):
@@ -520,6 +522,7 @@ COMPILER = None
 TWO = '    gates::product(there.value, sum, there.tally)\n}\n\n// The weight of the cycle a → b → c → a'
 EDGE = '    let ab = edge(n, m, w, a, b);\n'
 PICKED = '    let picked = bit.value as i64 * difference + b.value as i64;\n'
+PRODUCT = '    let made = Secret {\n        value: a.value * b.value,\n'
 TABLES = '// ## Lent tables'
 ROUND = '        clearing::clear(n, weights, at, choices.len() - k - 1, tally);\n'
 STORED = '    Gated {\n        value: chosen.value.at,\n        tally: chosen.tally,\n'
@@ -572,6 +575,8 @@ CHEATS = [
     ('choosing', 'a constant', [('// A winner: its weight', 'const MOST: usize = 9;\n\n// A winner: its weight')],
      plain, 'choosing: has more than uses, structs and functions: const MOST: usize = 9;'),
     ('choosing', 'a constant table', [('// A winner: its weight', 'const MOST: [u32; 201] = [' + '0, ' * 201 + '];\n\n// A winner: its weight')], plain, "choosing: has the constant tables ['MOST']"),
+    ('gates', 'a loop in a sum', [('        value: a.value + b.value,\n    }\n', '        value: a.value + b.value,\n    };\n    let n = b.value as usize;\n    for i in 0..n {}\n    made\n'), (
+        '    Secret {\n        value: a.value + b.value,', '    let made = Secret {\n        value: a.value + b.value,')], plain, 'gates: sum has for'),
     ('gates', 'a place bound again', [(ENTRY, '    let at = at * 1;\n' + ENTRY)], plain, 'gates: load binds at again'),
     ('choosing', 'a half that changes', [('    let half = weights.len() / 2;\n', '    let mut half = weights.len() / 2;\n    half -= half - 1;\n')], plain, 'choosing: choose_halves changes half'),
     ('evaluation', 'a tally copied', [('    let sum = gates::sum(ab.w, ba.w);\n', '    let sum = gates::sum(ab.w, ba.w);\n    let kept = there;\n')], plain, 'evaluation: two copies there'),
@@ -609,6 +614,8 @@ CHEATS = [
 
     ('gates', 'a pick by a branch', [(PICKED, '    let mut picked = b.value as i64;\n    if bit.value == 1 {\n        picked = difference + b.value as i64;\n    }\n')],
      straight, 'gates: pick is not straight-line code (if)'),
+    ('gates', 'a product that takes as long as a secret is large', [(PRODUCT, '    let n = a.value as usize;\n    for i in 0..n {}\n' + PRODUCT)],
+     straight, 'gates: product is not straight-line code (for)'),
     ('gates', 'a pick by a modulus', [(PICKED, '    let picked = (bit.value as i64 * difference + b.value as i64) % 4294967296;\n')], straight, 'gates: pick is not straight-line code (%)'),
     ('gates', 'a pick that calls', [('        value: picked as u32,\n', '        value: std::num::wrapping_add_u32(b.value, 0),\n')], straight, 'gates: pick calls product_counted(t), std::num::wrapping_add_u32(b.value, 0)'),
     ('gates', 'an entry of a secret place', [(ENTRY, '    let place: u32 = table[at].into();\n    Secret {\n        value: table[place as usize].into(),\n    }\n')],
