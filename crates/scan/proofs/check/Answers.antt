@@ -136,9 +136,7 @@ returns c =
     nothing_none _ c.pairs.ensures c.in_ok-pairs.was in
     let due : c.pair_place-place.result ≡ pair_due c.args.b.now c.pairs_in-n.result =
     c.pair_place-place.ensures.0 ∙ ap (λ v. pair_place v c.pairs_in-n.result) c.version_in-version.ensures in
-    let no-shuffle : shuffle_field_fault c.args.b.now c.pairs_in-n.result ≡ none =
-    nothing_none _ (c.at-3.ensures ∙ rw due c.shuffle_field.ensures) c.in_ok-at-3.was in
     let end : c.sheet_length-end.result ≡ sheet_length (version_in c.args.b.now) c.pairs_in-n.result =
     c.sheet_length-end.ensures.0 ∙ ap (λ v. sheet_length v c.pairs_in-n.result) c.version_in-version.ensures in
-    nothing_over _ _ many no-head no-points no_pairs no-shuffle
+    nothing_over _ _ many no-head no-points no_pairs (nothing_none _ (c.at-3.ensures ∙ rw due c.shuffle_field.ensures) c.in_ok-at-3.was)
     (omega (arith, end, c.if-end-b.false))
