@@ -12,9 +12,7 @@ use Rattle.joining.proofs.join.Goals as goal
 
 pub put_joined-requires : goal.put_joined-requires
 put_joined-requires c =
-    let passed : join_fault c.args.first.now c.args.second.now (length c.args.out.now) ≡ none =
-    nothing_none _ c.judge.ensures c.in_ok-judge.was in
-    let p = join_passed _ _ _ passed in
+    let p = join_passed _ _ _ (nothing_none _ c.judge.ensures c.in_ok-judge.was) in
     (p.0, rw (length_joined _ _) at p.1)
 
 pub returns-in_err-judge : goal.returns-in_err-judge
