@@ -10,41 +10,61 @@ ghost use Rattle.donation.specs.Compatibility.{compatibility};
 ghost use Rattle.donation.specs.Weight.{weight};
 ghost use Rattle.graph.specs.Graph.{filled_graph, with_row};
 ghost use Rattle.graph.specs.Lent.{graph_now, lent_graph};
+ghost use Rattle.graph.specs.Sources.{lent_for_m, lent_for_w};
 ghost use Rattle.graph.specs.Preconditions.{Row, ReadableForM, ReadableForW, Buildable};
 
 use fields::Fields;
 use points::Points;
 
 // Row i of M: donor i, and each patient.
-fn compatibility_row(i: usize, n: usize, fields: Fields, compatibilities: &mut [u8])
+fn compatibility_row(
+    i: usize,
+    n: usize,
+    donor_blood: &[u8],
+    patient_blood: &[u8],
+    donor_antigens: &[u64],
+    patient_antibodies: &[u64],
+    compatibilities: &mut [u8],
+)
     requires row { Row i n compatibilities.old }
-    requires readable_for_m { ReadableForM n (fields_in fields) }
-    ensures { compatibilities.new ≡ with_row n (compatibility (pair_in (fields_in fields.entry))) i compatibilities.old }
+    requires readable_for_m { ReadableForM n donor_blood.now patient_blood.now donor_antigens.now patient_antibodies.now }
+    ensures { let f = lent_for_m donor_blood patient_blood donor_antigens patient_antibodies in
+        compatibilities.new ≡ with_row n (compatibility (pair_in f)) i compatibilities.old }
 {
-    let blood = fields.donor_blood[i];
-    let antigens = fields.donor_antigens[i];
+    let blood = donor_blood[i];
+    let antigens = donor_antigens[i];
     let start = i * n;
     for j in 0..n {
         compatibilities[start + j] = donation::compatibility(
             i,
             j,
             blood,
-            fields.patient_blood[j],
+            patient_blood[j],
             antigens,
-            fields.patient_antibodies[j],
+            patient_antibodies[j],
         );
     }
 }
 
 // Row i of W: the same donor and patients, by these points.
-fn weight_row(points: Points, i: usize, n: usize, fields: Fields, weights: &mut [u16])
+fn weight_row(
+    points: Points,
+    i: usize,
+    n: usize,
+    donor_age: &[u8],
+    patient_age: &[u8],
+    donor_antigens: &[u64],
+    patient_antigens: &[u64],
+    weights: &mut [u16],
+)
     requires row { Row i n weights.old }
-    requires readable_for_w { ReadableForW n (fields_in fields) }
+    requires readable_for_w { ReadableForW n donor_age.now patient_age.now donor_antigens.now patient_antigens.now }
     requires sound_points { SoundPoints (named points) }
-    ensures { weights.new ≡ with_row n (weight (named points) (pair_in (fields_in fields.entry))) i weights.old }
+    ensures { let f = lent_for_w donor_age patient_age donor_antigens patient_antigens in
+        weights.new ≡ with_row n (weight (named points) (pair_in f)) i weights.old }
 {
-    let age = fields.donor_age[i];
-    let antigens = fields.donor_antigens[i];
+    let age = donor_age[i];
+    let antigens = donor_antigens[i];
     let start = i * n;
     for j in 0..n {
         weights[start + j] = donation::weight(
@@ -52,9 +72,9 @@ fn weight_row(points: Points, i: usize, n: usize, fields: Fields, weights: &mut 
             i,
             j,
             age,
-            fields.patient_age[j],
+            patient_age[j],
             antigens,
-            fields.patient_antigens[j],
+            patient_antigens[j],
         );
     }
 }
@@ -72,7 +92,24 @@ pub fn fill(
         g.exit ≡ filled_graph (named points) n (pair_in (fields_in fields.entry)) g.entry }
 {
     for i in 0..n {
-        compatibility_row(i, n, fields, compatibilities);
-        weight_row(points, i, n, fields, weights);
+        compatibility_row(
+            i,
+            n,
+            fields.donor_blood,
+            fields.patient_blood,
+            fields.donor_antigens,
+            fields.patient_antibodies,
+            compatibilities,
+        );
+        weight_row(
+            points,
+            i,
+            n,
+            fields.donor_age,
+            fields.patient_age,
+            fields.donor_antigens,
+            fields.patient_antigens,
+            weights,
+        );
     }
 }

@@ -3,11 +3,11 @@
 use Prim.Native.Nat.{◌*◌}
 use Rattle.pool.specs.Tables.{pair_in}
 use Rattle.donation.specs.Compatibility.{compatibility}
-use Rattle.fields.specs.Lent.{fields_in}
+use Rattle.graph.specs.Sources.{fields_of_m}
 use Rattle.graph.proofs.Rows.{Storing}
 use Rattle.graph.proofs.compatibility_row.Given as goal
 
 abbrev pub invariant-loop-j : goal.invariant-loop-j
 invariant-loop-j l =
-    Storing (l.i * l.n) l.j (compatibility (pair_in (fields_in l.fields)) l.i)
+    Storing (l.i * l.n) l.j (compatibility (pair_in (fields_of_m l.donor_blood l.patient_blood l.donor_antigens l.patient_antibodies)) l.i)
     l.initial.compatibilities l.compatibilities
