@@ -2,50 +2,49 @@
 use Prim.Native.Nat.{ℕ, ◌+◌, ◌*◌, ◌^◌, ◌≤◌, ◌<◌}
 use mathlib.Core.Path.{◌≡◌, refl, ap, ap₂, sym, ◌∙◌}
 use mathlib.Core.List.{List}
-use native.Mathlib.Nat.{pow-le-pow_right}
+use native.Mathlib.Nat.{pow-le-pow_right, pow-suc}
+use native.Mathlib.Numerals.{add-one}
 use native.Mathlib.Omega.{arith}
+use lib.Arith.{digits_lt}
 use lib.Dec.{lit<}
-use lib.ListN.{length, get_or}
-use Rattle.std.specs.List.{between}
+use lib.ListN.{get_or}
 use Rattle.std.proofs.lemmas.List.Edits.{length-between, get_or-between}
 use Rattle.laws.specs.Digits.{big_endian}
 use Rattle.laws.proofs.Digits.{big_endian_lt, big_endian_more}
 use Rattle.framing.proofs.number.Goals as goal
 
--- a byte more, of at most eight
-module _ (b : List ℕ) (at k i : ℕ) (h : at + k ≤ length b) (l : i < length (between at (at + k) b)) where
-  here : get_or (between at (at + k) b) i 0 ≡ get_or b (at + i) 0
-  here = get_or-between b at (at + k) i 0 (omega (arith, length-between b at (at + k)))
+-- x is the number in the i bytes passed
+module _ (b : List ℕ) (at i x : ℕ) (e : x ≡ big_endian i b at) where
+  -- of at most eight bytes, one more fits
+  fits : i < 8 → ((j : ℕ) → get_or b j 0 < 256) → (y : ℕ) → y < 256 → x * 256 + y < 256 ^ 8
+  fits l s y m =
+      let most : 256 ^ (i + 1) ≤ 256 ^ 8 = pow-le-pow_right (lit< tt) {i = i + 1} {j = 8} (omega arith) in
+      let wider : x * 256 + y < 256 ^ (i + 1) = rw (add-one, pow-suc, e) (digits_lt (big_endian_lt b at i s) m) in
+      omega arith
 
-  fits : k ≤ 8 → ((j : ℕ) → get_or b j 0 < 256) → big_endian i b at * 256 + get_or b (at + i) 0 < 256 ^ 8
-  fits e s =
-      let m : 256 ^ (i + 1) ≤ 256 ^ 8 = pow-le-pow_right (lit< tt) {i = i + 1} {j = 8} (omega (arith, length-between b at (at + k))) in
-      omega (arith, big_endian_lt b at (i + 1) s, big_endian_more i b at)
+  one_more : (y : ℕ) → y ≡ get_or b (at + i) 0 → x * 256 + y ≡ big_endian (i + 1) b at
+  one_more y d = ap₂ (λ (v w : ℕ). v * 256 + w) e d ∙ sym (big_endian_more i b at)
+
+  all_of : (k : ℕ) → i ≡ k → x ≡ big_endian k b at
+  all_of k l = e ∙ ap (λ (j : ℕ). big_endian j b at) l
 
 pub loop-byte-init : goal.loop-byte-init
 unfolding big_endian
 loop-byte-init c = refl
 
 pub loop-byte-preserved : goal.loop-byte-preserved
-loop-byte-preserved c =
-    ap₂ (λ (x y : ℕ). x * 256 + y) c.loop-byte.invariant (c.from.ensures ∙ here _ _ _ _ c.requires.1 c.loop-byte-test.true)
-    ∙ sym (big_endian_more _ _ _)
+loop-byte-preserved c = one_more _ _ _ _ c.loop-byte.invariant _ (grind (arith, c.from.ensures, get_or-between {X = ℕ}, length-between {X = ℕ}))
 
 pub overflow_mul-x : goal.overflow_mul-x
-overflow_mul-x c = omega (arith, c.loop-byte.invariant, fits _ _ _ _ c.requires.1 c.loop-byte-test.true c.requires.0 (λ j. (c.type_inv.b j).fits))
+overflow_mul-x c =
+    omega (arith, fits _ _ _ _ c.loop-byte.invariant (omega (arith, length-between {X = ℕ})) (λ j. (c.type_inv.b j).fits) 0 (lit< tt))
 
 pub overflow_add-x : goal.overflow_add-x
 overflow_add-x c =
     omega (
       arith,
-      c.loop-byte.invariant,
-      c.from.ensures,
-      here _ _ _ _ c.requires.1 c.loop-byte-test.true,
-      fits _ _ _ _ c.requires.1 c.loop-byte-test.true c.requires.0 (λ j. (c.type_inv.b j).fits),
+      fits _ _ _ _ c.loop-byte.invariant (omega (arith, length-between {X = ℕ})) (λ j. (c.type_inv.b j).fits) c.from.result (omega arith),
     )
 
 pub returns : goal.returns
-returns c =
-    let s = c.args in
-    let e : c.loop-byte.byte-index ≡ s.k = omega (arith, length-between s.b.now s.at (s.at + s.k)) in
-    c.loop-byte.invariant ∙ ap (λ i. big_endian i s.b.now s.at) e
+returns c = all_of _ _ _ _ c.loop-byte.invariant _ (omega (arith, length-between {X = ℕ}))
