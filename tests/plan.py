@@ -2,6 +2,7 @@
 damaged sheets of both versions beside the planner in Rust (trial/).
 
 usage: plan.py [SEED [COUNT]]      the seed is printed, so that a failure can be run again"""
+import fcntl
 import os
 import pathlib
 import random
@@ -18,6 +19,7 @@ sys.path.insert(0, str(examples))
 import make  # noqa: E402
 
 PLAN = built('plan')
+LOOK = built('look')
 BUILT = top / 'trial' / 'target'
 RUST = BUILT / 'release' / 'examples' / 'plan'
 
@@ -153,6 +155,20 @@ def try_lost():
     check(run.stderr == b'plan: standard input could not be read; nothing was planned\n', f'a folder for a sheet: {run.stderr}')
 
 
+def try_silent():
+    """`look` prints on where a piece of its text is lost, here since nobody reads the pipe, which has room for 30 bytes."""
+    reads, writes = os.pipe()
+    os.set_blocking(writes, False)
+    room = fcntl.fcntl(writes, fcntl.F_SETPIPE_SZ, 4096)
+    os.write(writes, bytes(room - 30))
+    run = subprocess.run([LOOK], input=(examples / 'eight.sheet').read_bytes(), stdout=writes, stderr=subprocess.PIPE)
+    os.close(writes)
+    with open(reads, 'rb') as pipe:
+        got = pipe.read()[room - 30:]
+    check(run.returncode == 0 and not run.stderr, f'look with output that is lost: {run}')
+    check(len(got) == 30 and got.startswith(b'8 pairs\npair 2071: donor O'), f'look with output that is lost: {got}')
+
+
 def try_random(draw, count):
     """Sheets of at most 40 pairs and longer ones, whole and damaged."""
     answers = {}
@@ -189,6 +205,7 @@ def main():
     try_triple()
     try_pieces()
     try_lost()
+    try_silent()
     try_random(random.Random(seed), count)
     close()
 

@@ -5,6 +5,7 @@ ghost use Rattle.std.specs.Prelude.{◌<◌, ◌≤◌, IfOk};
 
 use fields::Tables;
 use refusal::Refused;
+use silent::Silent;
 use std::fmt;
 
 #[derive(Clone, Copy)]
@@ -54,11 +55,12 @@ impl From<u8> for Age {
     }
 }
 
+// After a blank: it follows a blood group.
 impl fmt::Display for Age {
     fn fmt<W: fmt::Write>(&self, f: &mut fmt::Formatter<W>) -> fmt::Result {
         f.write_str(match self {
-            Self::Young => "young",
-            Self::Senior => "senior",
+            Self::Young => " young",
+            Self::Senior => " senior",
         })
     }
 }
@@ -78,7 +80,7 @@ impl fmt::Display for Person {
             age,
             antigens,
         } = self;
-        write!(f, "{blood} {age} antigens {antigens:x}")
+        write!(f, "{blood}{age} antigens {antigens:x}")
     }
 }
 
@@ -204,10 +206,10 @@ fn look(rt: &impl Print, sheet: &[u8]) -> std::io::Result<()> {
     }
 }
 
-fn main(rt: HostRuntime) {
+fn main() {
     // The longest sheet has 7,425 bytes; one more shows that bytes are left over.
     let mut input = [0; 7426];
     let size = io::read_full(0, &mut input);
     // Output that is lost is lost silently.
-    let _ = look(&rt, &input[..size]);
+    let _ = look(&Silent, &input[..size]);
 }

@@ -1,2 +1,2 @@
--- `Given`: the numbers that each function gives. `Own`: the promises of the numbers.
+-- `Own`: the promises of the numbers.
 pub mod Own

@@ -4,7 +4,6 @@
 
 ghost use Rattle.std.specs.Prelude.{IsOk};
 
-
 use std::fmt;
 use std::fmt::{Display, Write};
 

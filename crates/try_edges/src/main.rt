@@ -7,6 +7,7 @@ ghost use Rattle.std.specs.Prelude.{◌≤◌};
 
 use fields::Fields;
 use refusal::Refusal;
+use silent::Silent;
 use std::{fmt, io};
 
 // Registries' points: one in which more mismatches and a senior patient weigh more; one whose heaviest edge is as heavy as may be; document 01's.
@@ -445,7 +446,7 @@ fn run(rt: &impl Print) -> io::Result<()> {
     try_most(rt)
 }
 
-fn main(rt: HostRuntime) {
+fn main() {
     // Where output is lost, it is lost silently.
-    let _ = run(&rt);
+    let _ = run(&Silent);
 }

@@ -5,6 +5,7 @@
 
 ghost use Rattle.std.specs.Prelude.{◌+◌, ◌≤◌};
 
+use silent::Silent;
 use std::io;
 
 // Two sheets: the version, N and the first id of each; then a point of the second that is another, by its number, 6 for none, and what it is. Version 1
@@ -383,7 +384,7 @@ fn run(rt: &impl Print) -> io::Result<()> {
     try_rows(rt)
 }
 
-fn main(rt: HostRuntime) {
+fn main() {
     // Where output is lost, it is lost silently.
-    let _ = run(&rt);
+    let _ = run(&Silent);
 }

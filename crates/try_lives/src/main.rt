@@ -7,6 +7,7 @@ ghost use Rattle.std.specs.Prelude.{◌*◌, ◌≡◌, ◌≤◌};
 use live::Pair;
 use points::Points;
 use refusal::Refusal;
+use silent::Silent;
 use std::{fmt, io};
 
 // Entries of a table, each after a blank.
@@ -648,7 +649,7 @@ fn run(rt: &impl Print) -> io::Result<()> {
     try_many(rt)
 }
 
-fn main(rt: HostRuntime) {
+fn main() {
     // Where output is lost, it is lost silently.
-    let _ = run(&rt);
+    let _ = run(&Silent);
 }

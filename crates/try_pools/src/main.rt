@@ -7,6 +7,7 @@ ghost use Rattle.std.specs.Prelude.{◌≡◌, ◌≤◌, ◌<◌, length};
 use cycle::Cycle;
 use planner::Planned;
 use refusal::Refusal;
+use silent::Silent;
 use std::{array, fmt, io};
 
 // Entries of a table, each after a blank.
@@ -302,8 +303,20 @@ fn try_high(rt: &impl Print) -> io::Result<()> {
         ..allowed
     };
     high.attempt(rt, "13 and 9", 1)?;
-    let many = Pool { n: 201, ..high };
-    let answer = many.plan(&mut [], &mut [], &mut [], &mut [], &mut []);
+    let many = Pool {
+        n: 201,
+        m: &[0],
+        w: &[0],
+        shuffle: &[0],
+        ..high
+    };
+    let answer = many.plan(
+        &mut [99],
+        &mut [99],
+        &mut [99],
+        &mut [99],
+        &mut [UNTOUCHED; 101],
+    );
     println!(rt; "4 and 13: {answer}")
 }
 
@@ -372,7 +385,8 @@ fn try_rivals(rt: &impl Print) -> io::Result<()> {
         floor: 0,
         m: &[0, 1, 1, 0, 1, 0, 0, 1, 1, 0, 0, 0, 0, 1, 0, 0],
         w: &[0, 5, 5, 0, 5, 0, 0, 5, 5, 0, 0, 0, 0, 5, 0, 0],
-        shuffle: &[0, 1, 2, 3],
+        // longer than need be
+        shuffle: &[0, 1, 2, 3, 4, 5, 6, 7, 8, 9],
     };
     four.attempt(rt, "10 against 20", 10)?;
     // 0 to 1 to 2 to 0 at 4; 3 and 4, 3 and 8, 4 and 9 both ways at 4; 0 and 5, 1 and 6, 2 and 7 both ways at 6
@@ -491,7 +505,7 @@ fn run(rt: &impl Print) -> io::Result<()> {
     try_200(rt)
 }
 
-fn main(rt: HostRuntime) {
+fn main() {
     // Where output is lost, it is lost silently.
-    let _ = run(&rt);
+    let _ = run(&Silent);
 }

@@ -5,6 +5,7 @@
 ghost use Rattle.std.specs.Prelude.{◌≤◌};
 
 use refusal::Refusal;
+use silent::Silent;
 use std::io;
 
 // Prints the answer, the text and eight bytes more, or as many as there are.
@@ -203,7 +204,7 @@ fn run(rt: &impl Print) -> io::Result<()> {
     )
 }
 
-fn main(rt: HostRuntime) {
+fn main() {
     // Where output is lost, it is lost silently.
-    let _ = run(&rt);
+    let _ = run(&Silent);
 }

@@ -7,6 +7,7 @@ ghost use Rattle.std.specs.Prelude.{◌≤◌};
 use fields::{Fields, Tables};
 use reader::Head;
 use refusal::{Refusal, Refused};
+use silent::Silent;
 use std::{fmt, io};
 
 // Document 01's points.
@@ -504,7 +505,7 @@ fn run(rt: &impl Print) -> io::Result<()> {
     try_written(rt)
 }
 
-fn main(rt: HostRuntime) {
+fn main() {
     // Where output is lost, it is lost silently.
-    let _ = run(&rt);
+    let _ = run(&Silent);
 }

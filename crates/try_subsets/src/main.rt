@@ -6,6 +6,7 @@ ghost use Rattle.std.specs.Prelude.{◌≤◌, ◌<◌};
 ghost use Rattle.exchange.specs.Subsets.{up_to_three, subset_count};
 
 use cursor::Places;
+use silent::Silent;
 use std::{fmt, io};
 
 // A cursor of n places: the places that it stands at, each after a blank, or none.
@@ -88,7 +89,7 @@ fn run(rt: &impl Print) -> io::Result<()> {
     Ok(())
 }
 
-fn main(rt: HostRuntime) {
+fn main() {
     // Where output is lost, it is lost silently.
-    let _ = run(&rt);
+    let _ = run(&Silent);
 }
