@@ -1,6 +1,6 @@
-"""Wrong versions of the rounds' loop are refused for what they mean. Each change is made in a copy of the tree, and the crate is
-checked: it must be taken by the compiler, the function that was changed alone must stay unproved, and what is said of its loop's turn must have both the
-fact that is due and the one that the wrong program has in its place.
+"""Wrong versions of the rounds' loop, and of the records' copy, are refused for what they mean. Each change is made in a copy of the tree, and the crate
+is checked: it must be taken by the compiler, the function that was changed alone must stay unproved, and what is said of its loop's turn, or of what it
+returns, must have both the fact that is due and the one that the wrong program has in its place.
 As controls, the copy is proved with nothing changed, and with a change of each function that leaves its meaning as it is."""
 import concurrent.futures
 import pathlib
@@ -21,26 +21,37 @@ clear-requires c =
 '''
 CLEARED = ' _ _\n    (simp (c.choose-at.auto.choices, c.loop-k.auto.choices) at c.clear.ensures)\n'
 NAMED = ' _ _\n    c.clear.ensures\n'
+COPY = '    out[..cycles].copy_from_slice(&records[..cycles]);\n'
 
-# crate, function, what is changed; the changes of the code; the fact that is due after a turn of the loop and the one in its place, as the checker says
-# them, or nothing where the function still means the same; and changes of the answers, where these name what is gone from the code
+# crate, function, what is changed; the changes of the code; the goal that is refused, the fact that is due there, as after a turn of the loop, and the one
+# in its place, as the checker says them, or nothing where the function still means the same; and changes of the answers, where these name what is gone from
+# the code
 CHANGES = [
     ('rounds', 'all_rounds', 'the rounds that are left are counted before the choice',
      [('        let at = choosing', '        let left = choices.len() - k - 1;\n        let at = choosing'), ('at, choices.len() - k - 1, tally', 'at, left, tally')],
      None),
     ('rounds', 'all_rounds', 'the weights are cleared after the last round too', [('choices.len() - k - 1', 'choices.len() - k')],
-     ('c.clear.new.weights (Rattle.greedy.specs.Rounds.clear_before', 'clear_before (Prim.Native.Nat.◌-◌ (lib.ListN.length c.args.choices.now) c.loop-k.k)')),
+     ('loop-k-preserved', 'c.clear.new.weights (Rattle.greedy.specs.Rounds.clear_before',
+      'clear_before (Prim.Native.Nat.◌-◌ (lib.ListN.length c.args.choices.now) c.loop-k.k)')),
     ('rounds', 'all_rounds', 'the rounds that are done are taken for those that are left', [('choices.len() - k - 1', 'k')],
-     ('`(Prim.Native.Nat.◌-◌ (Prim.Native.Nat.◌-◌ (lib.ListN.length c.args.choices.now) c.loop-k.k) 1)`\n  (expected)', '`c.loop-k.k` (found)'), (CLEARED, NAMED)),
+     ('loop-k-preserved', '`(Prim.Native.Nat.◌-◌ (Prim.Native.Nat.◌-◌ (lib.ListN.length c.args.choices.now) c.loop-k.k) 1)`\n  (expected)',
+      '`c.loop-k.k` (found)'), (CLEARED, NAMED)),
     ('rounds', 'all_rounds', 'nothing is cleared: all is chosen by the weights of round one', [(CLEAR, '')],
-     ('Rattle.greedy.specs.Rounds.clear_before', '`c.args.weights.now` (found)'),
+     ('loop-k-preserved', 'Rattle.greedy.specs.Rounds.clear_before', '`c.args.weights.now` (found)'),
      (ASKS, ''), (CLEARED, ' c.args.weights.now c.choose-at.new.tally (mathlib.Core.Path.refl, mathlib.Core.Path.refl)\n')),
     ('rounds', 'all_rounds', 'each choice is written in the place of the first',
      [('    for k in', '    let first: usize = 0;\n    for k in'), ('choices, k, tally', 'choices, first, tally')],
-     ('`c.loop-k.k` (expected)', '`0` (found)')),
+     ('loop-k-preserved', '`c.loop-k.k` (expected)', '`0` (found)')),
     ('rounds', 'all_rounds', 'the floor is not asked: all above 0 is chosen',
      [('    for k in', '    let none: u32 = 0;\n    for k in'), ('(n, floor, weights', '(n, none, weights')],
-     ('`c.args.floor` (expected)', '`0` (found)')),
+     ('loop-k-preserved', '`c.args.floor` (expected)', '`0` (found)')),
+    ('records', 'write', 'the part that is copied has a name', [(COPY, '    let part = &records[..cycles];\n    out[..cycles].copy_from_slice(part);\n')], None),
+    ('records', 'write', 'the first record is written each time',
+     [(COPY, '    if cycles == 0 {\n        return;\n    }\n' + COPY.replace('..cycles', '..1'))],
+     ('returns', 'filled (take c.args.cycles c.args.records)', 'lib.ListN.drop 1 c.args.out.now')),
+    ('records', 'write', 'the last record is written each time',
+     [(COPY, '    if cycles == 0 {\n        return;\n    }\n' + COPY.replace('..cycles', 'cycles - 1..cycles'))],
+     ('returns', 'filled (take c.args.cycles c.args.records)', 'put_mid (c.args.cycles - 1)')),
 ]
 
 
@@ -67,18 +78,22 @@ def tried(crate, changes):
         source = copy / f'crates/{crate}/src/lib.rt'
         code = source.read_text()
         answers = {change[1]: copy / f'crates/{crate}/proofs/{change[1]}/Answers.antt' for change in changes}
-        answered = {function: file.read_text() for function, file in answers.items()}
+        # of a function that is proved without, there are none
+        answered = {function: file.read_text() for function, file in answers.items() if file.exists()}
         proved, said = checked(copy, crate)
         outcomes = [(proved, f'{crate}: as it stands: {"" if proved else "not "}proved', said)]
         for _, function, what, edits, facts, *mended in changes:
             changed(source, code, edits)
-            changed(answers[function], answered[function], mended)
+            if function in answered:
+                changed(answers[function], answered[function], mended)
             proved, said = checked(copy, crate)
             unproved = re.findall(r'^fn (\S+): (?:not proved|no proof)', said, re.M)
-            # what is said of the loop's goal, up to the next error
-            turn = re.search(rf'^\./proofs/{function}/Answers\.antt:\d+:\d+: error: `loop-k-preserved`: .*?(?=^\S)', said, re.M | re.S)
-            refused = not proved and 'error[' not in said and unproved == [f'{crate}::{function}'] and turn and facts and all(fact in turn[0] for fact in facts)
-            line = 'proved' if proved else turn[0].splitlines()[0] if turn else 'not proved'
+            # what is said of the goal, up to the next error: of its answer, or of what is to be shown where there is none
+            answer = rf'proofs/{function}/Answers\.antt'
+            goal, *due = facts or ['']
+            told = re.search(rf'^(?:\./{answer}:\d+:\d+: error: `{goal}`: |note: `{goal}` of {answer} must prove: ).*?(?=^\S)', said, re.M | re.S)
+            refused = not proved and 'error[' not in said and unproved == [f'{crate}::{function}'] and told and due and all(fact in told[0] for fact in due)
+            line = 'proved' if proved else told[0].splitlines()[0] if told else 'not proved'
             outcomes.append((proved if facts is None else bool(refused), f'{crate}::{function}: {what}: {line}', said))
     return outcomes
 
