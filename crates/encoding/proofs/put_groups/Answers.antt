@@ -9,9 +9,9 @@ use Rattle.encoding.proofs.put_groups.Goals as goal
 pub returns : goal.returns
 unfolding group_bytes bytes
 returns c =
-    rw (← c.from.ensures, ← c.from-2.ensures, ← c.from-3.ensures, ← c.from-4.ensures)
-    (stored_then c.args.at 3 _ _ _ _ _ refl (omega (arith, c.requires))
+    stored_then c.args.at 3 _ _ _ _ _ refl (omega (arith, c.requires))
     (stored_then c.args.at 2 _ _ _ _ _ refl (omega (arith, c.requires))
-    (stored_then c.args.at 1 _ _ _ _ _ refl (omega (arith, c.requires)) c.put.ensures c.put-2.ensures)
-    c.put-3.ensures)
-    c.put-4.ensures)
+    (stored_then c.args.at 1 _ _ _ _ _ refl (omega (arith, c.requires))
+    (rw c.from.ensures at c.put.ensures) (rw c.from-2.ensures at c.put-2.ensures))
+    (rw c.from-3.ensures at c.put-3.ensures))
+    (rw c.from-4.ensures at c.put-4.ensures)
