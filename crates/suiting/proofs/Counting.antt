@@ -1,10 +1,9 @@
 -- Turns of the loops that count, compare and take out. Assumes nothing.
 use mathlib.Core.Path.{◌≡◌, refl, sym, ap, ap₂, ◌∙◌}
-use mathlib.Core.Bool.{Bool, true, false, not}
+use mathlib.Core.Bool.{not}
 use mathlib.Core.List.{List, ◌++◌}
 use Prim.Native.Nat.{ℕ, zero, suc, ◌+◌, ◌-◌, ◌*◌, ◌≤◌, ◌<◌}
 use native.Mathlib.Omega.{arith}
-use mir.Val.{bool_byte}
 use lib.Dec.{eqb}
 use lib.ListN.{length, set, take, drop, replicate, length-replicate, get_or-replicate}
 use lib.Seq.{length-take-le}
@@ -25,12 +24,6 @@ use Rattle.suiting.specs.Preconditions.{Countable, CountedAbove, Lowerable}
 -- what stands past the entries that are filled
 filling_past : (j k : ℕ) (f : ℕ → ℕ) (old t : List ℕ) → Filling j f old t → j ≤ k → item_in t k ≡ item_in old k
 filling_past j k f old t w l = ap (λ (s : List ℕ). item_in s k) w.holds ∙ filled_past (table j f) old k (rw (length-table) l)
-
--- a test as a number
-pub as_number : (t : Bool) → bool_byte t ≡ one t
-unfolding one
-as_number true = refl
-as_number false = refl
 
 -- n zeros, and what stood past them
 pub cleared : (n : ℕ) (old zeros : List ℕ) → n ≤ length old → zeros ≡ replicate (length (take n old)) 0 → zeros ++ drop n old ≡ filled (table n (λ _. 0)) old

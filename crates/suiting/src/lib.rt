@@ -17,6 +17,7 @@ ghost use Rattle.suiting.specs.Preconditions.{Countable, CountedAbove, Lowerable
 use refusal::Refusal;
 
 // 1 where an entry of M is a one; an entry 2 is none.
+#[tactic(auto, unfolding(laws::specs::Below::one))]
 fn one_of(entry: u8) -> u16
     ensures { result ≡ one (eqb entry 1) }
 {
