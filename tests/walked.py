@@ -46,6 +46,7 @@ CHANGES = [
      [('    for k in', '    let none: u32 = 0;\n    for k in'), ('(n, floor, weights', '(n, none, weights')],
      ('loop-k-preserved', '`c.args.floor` (expected)', '`0` (found)')),
     ('records', 'write', 'the part that is copied has a name', [(COPY, '    let part = &records[..cycles];\n    out[..cycles].copy_from_slice(part);\n')], None),
+    ('records', 'write', 'no record is told apart from some', [(COPY, '    if cycles == 0 {\n        return;\n    }\n' + COPY)], None),
     ('records', 'write', 'the first record is written each time',
      [(COPY, '    if cycles == 0 {\n        return;\n    }\n' + COPY.replace('..cycles', '..1'))],
      ('returns', 'filled (take c.args.cycles c.args.records)', 'lib.ListN.drop 1 c.args.out.now')),

@@ -183,7 +183,7 @@ impl Pool {
     fn print(&self, rt: &impl Print) -> std::io::Result<()>
         requires { self.now.n ≤ 200 }
     {
-        println!(rt; "{} pairs", self.n)?;
+        print!(rt; "{} pairs\n", self.n)?;
         // Version 1 has no points.
         if layout::has_points(self.version) {
             println!(rt; "points{}", Row(&self.points))?;

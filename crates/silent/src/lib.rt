@@ -12,7 +12,9 @@ use std::fmt::{Display, Write};
 struct Pieces;
 
 impl fmt::Write for Pieces {
-    fn write_str(&mut self, piece: &str) -> fmt::Result {
+    fn write_str(&mut self, piece: &str) -> fmt::Result
+        ensures { IsOk result }
+    {
         io::write_all(1, piece.as_bytes());
         Ok(())
     }
