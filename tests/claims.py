@@ -2,7 +2,7 @@
 every edit of the tree is cited, and has what it changes once in its file; any other single name is defined in the tree, as a definition, theorem, function, type, field or case. A name that is
 cited with a module, a crate or a record, in one of the page's orders, is defined in it: "`module` `name`, `name`", "`name` and `name` of `module`",
 "`Record` (`field`)", `Record.field`; one in a column of definitions, in specs/. A theorem that follows a statement, "`Statement`: `module` `theorem`", has
-it in its type. The type of an argument, as `m: &[u8]`, is its type in the calls of that line.
+it in its type. The type of an argument, as `m: &[u8]`, is its type in the calls of that line, and in the structs that arguments are handed on in.
 
 Each module of specs/ stands in one of the tables of calls, promises and steps, with its lines. What the contracts of the public calls reach is in the
 first two, and the first has nothing else; the sums are right, there and in README.md. The rules of tests/secrets.py are cited, each once. The links of
@@ -107,9 +107,10 @@ for statement, path, theorem in re.findall(r'`([A-Z]\w+)`: `(\w+/proofs/\w+)` `(
     check(said and re.search(rf'\b{statement}\b', said[1]), f'`{theorem}` of `{path}` does not say `{statement}`')
 for line in re.findall(r'.*`\w+: [^`]+`.*', text):
     for crate, call in re.findall(r'`(\w+)` `(\w+)`', line):
-        head = re.search(rf'\bfn {call}\((.*?)\n\)', code.get(crates / crate / 'src' / 'lib.rt', ''), re.S)
+        source = re.sub(r"<'a>|'a ", '', code.get(crates / crate / 'src' / 'lib.rt', ''))
+        head = re.search(rf'\bfn {call}\((.*?)\n\)|^pub struct {call} \{{(.*?)\n\}}', source, re.M | re.S)
         for argument in re.findall(r'`(\w+: [^`]+)`', line):
-            check(head and f'{argument},' in head[1], f'`{crate}` `{call}` has no argument {argument}')
+            check(head and f'{argument},' in (head[1] or head[2]), f'`{crate}` `{call}` has no argument {argument}')
 in_specs = set().union(*(found for file, found in defined.items() if file.parent.name == 'specs'))
 column = ''
 for line in text.splitlines():

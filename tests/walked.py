@@ -87,6 +87,7 @@ def tried(crate, changes):
             changed(source, code, edits)
             if function in answered:
                 changed(answers[function], answered[function], mended)
+            assert function in answered or not mended, f'{function} has no answers to change'
             proved, said = checked(copy, crate)
             unproved = re.findall(r'^fn (\S+): (?:not proved|no proof)', said, re.M)
             # what is said of the goal, up to the next error: of its answer, or of what is to be shown where there is none

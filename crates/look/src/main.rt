@@ -55,7 +55,7 @@ impl From<u8> for Age {
     }
 }
 
-// After a blank: it follows a blood group.
+// After a blank, in one piece with it: it follows a blood group.
 impl fmt::Display for Age {
     fn fmt<W: fmt::Write>(&self, f: &mut fmt::Formatter<W>) -> fmt::Result {
         f.write_str(match self {
@@ -183,6 +183,7 @@ impl Pool {
     fn print(&self, rt: &impl Print) -> std::io::Result<()>
         requires { self.now.n ≤ 200 }
     {
+        // one piece after the number, as what is lost is lost by the piece
         print!(rt; "{} pairs\n", self.n)?;
         // Version 1 has no points.
         if layout::has_points(self.version) {
